@@ -388,7 +388,7 @@ def time_is_up(program, folder):
         status, said, error = call(program, *words, log)
         if status != 0:
             break
-    must((status, error) == (3, '') and said.startswith('unknown: the time was up\nmore --seconds may help\n'),
+    must((status, error) == (3, '') and said.startswith('unknown: the time was up\n') and '\nmore --seconds may help\n' in said,
          'status %d, says %r, on standard error %r' % (status, said[:200], error))
     status, said, error = call(program, *words, '--format', 'json', log)
     answer = json.loads(said)

@@ -88,9 +88,11 @@ def counted(sessions):
 ORDER = 'check first: did the client record its operations in their order?'
 HINTS = {'A1': 'check first: does the log have each write of all clients, under its own key?', 'A4': ORDER, 'A5': ORDER}
 # What is said of a part that has an order without that of sessions.
-SERIAL_APART = 'without the order of sessions these have a serial order; of the rest of the log this says nothing'
+SERIAL_APART = 'these break the order of sessions alone: without it they have a serial order; of the rest of the log this says nothing'
 # What is said where a log has an order without its moments, and none with them.
 TIME_ALONE = ['only real time was broken: the whole log has a serial order, but none in the order of its moments', 'check first: do the clients share a clock?']
+# What stands before what holds without moments, and before a last part, which breaks snapshot isolation.
+WITHOUT, WHY_NOT = 'without real time: ', 'why snapshot isolation was not kept:'
 
 
 class Part:
@@ -144,29 +146,29 @@ class Answer:
         must(self.counts['part'] == (len(self.parts[0].lines) if self.parts else 0), 'the count of the part %d' % self.counts['part'])
 
     def below(self, middle):
-        """Takes the part that breaks the weakest level, the lines of weaker levels, and that of what holds without moments, from the end of these."""
-        last = list(WEAKER)[-1]
-        broken = 'the whole log: %s not kept, as the next part shows' % last
-        if broken in middle[:-1]:
-            place = middle.index(broken) + 1
-            self.shown = Part(*middle[place:place + 2], middle[place + 2:])
-            del middle[place:]
-        for level in reversed(WEAKER):
-            found = re.fullmatch('the whole log: %s (kept|not kept|unknown)(, as .+)?' % level, middle[-1]) if middle else None
-            if found:
-                middle.pop()
-                self.weaker[level] = found[1]
-                shows = ', as %s' % ('shown above' if self.shown is None else 'the next part shows') if (level, found[1]) == (last, 'not kept') else None
-                must(found[2] == shows, 'what shows it: %r' % found[0])
-        must(not self.weaker or 'snapshot isolation' in self.weaker, 'levels: %r' % self.weaker)
-        if middle[-2:] == TIME_ALONE:
+        """Takes what holds without moments, the lines of weaker levels, and the part that breaks the weakest one, from the ends of these."""
+        if middle[:2] == TIME_ALONE:
             self.without = 'serializable'
             must(self.verdict == 'not serializable', 'told of %r: %r' % (self.verdict, TIME_ALONE))
-            del middle[-2:]
-        elif middle and middle[-1].startswith('the whole log without real time: '):
-            self.without = middle.pop()[len('the whole log without real time: '):]
+            del middle[:2]
+        elif middle and middle[0].startswith(WITHOUT):
+            self.without = middle.pop(0)[len(WITHOUT):]
             must(self.without in STATUS and self.without != 'refused', 'without moments %r' % self.without)
             must((self.verdict, self.without) != ('not serializable', 'serializable'), 'not said that real time alone was broken')
+        if WHY_NOT in middle:
+            place = middle.index(WHY_NOT)
+            self.shown = Part(*middle[place + 1:place + 3], middle[place + 3:])
+            del middle[place:]
+        weakest = list(WEAKER)[-1]
+        for level in WEAKER:
+            found = re.fullmatch('%s: (kept|not kept|unknown)(, as .+)?' % level, middle[0]) if middle else None
+            if found:
+                middle.pop(0)
+                self.weaker[level] = found[1]
+                shows = ', as %s' % ('shown below' if self.shown is None else 'the last part shows') if (level, found[1]) == (weakest, 'not kept') else None
+                must(found[2] == shows, 'what shows it: %r' % found[0])
+        must(not self.weaker or weakest in self.weaker, 'levels: %r' % self.weaker)
+        must(self.shown is None or self.weaker[weakest] == 'not kept', 'a part shows that %s' % self.weaker)
 
     def refuted(self, middle, faults):
         self.below(middle)

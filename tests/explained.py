@@ -31,8 +31,7 @@ STEP = re.compile(r'\[%s\] %s:' % (NUMBER, VERSIONS))
 OVER = r' over (?:an update of )?(?:[1-9][0-9]*|the initial value)'
 BEHIND = r'(?:, which [1-9][0-9]*\.[1-9][0-9]* wrote \(line [1-9][0-9]*\)%s)' % OVER
 OF = r'(?: of [1-9][0-9]*\.[1-9][0-9]*|, the initial value)'
-SINCE = re.compile(r'    if [1-9][0-9]* came first, %s, which reads [0-9]+ \(line [1-9][0-9]*\)%s?, '
-                   'would come before %s, which would overwrite it, but %s comes before %s:' % (NODE, BEHIND, NODE, NODE, NODE))
+SINCE = re.compile(r'    %s, which comes after %s, reads [0-9]+ \(line [1-9][0-9]*\)%s?, so [1-9][0-9]* is the later version:' % (NODE, NODE, BEHIND))
 FORCED, TABLE = 'these orders of versions are forced:', 'the reads and writes that matter:'
 # A cycle of so many edges is told in a sentence too.
 SHORT, FEW, CONCLUSION = 'in short: ', 6, '; no serial order has all of this'
@@ -170,7 +169,9 @@ class Log:
             before = self.said_before(it, read)
             return before + [self.said_of_read(it, read, 'then reads' if before else 'reads')]
         key, *both = UPDATE.fullmatch(first).groups()
-        lines = []
+        is_one = both[0].split('.')[0] == both[1].split('.')[0]
+        unseen = "%s did not see %s's" % (both[1], both[0]) if is_one else "neither saw the other's"
+        lines = [SHORT + '%s and %s read one version of %s and both overwrote it; %s' % (*both, key, unseen)]
         for it in map(self.named.get, both):
             last = it.writes(key)[-1]
             lines += [self.said_of_read(it, it.reads(key)[0]), '%s overwrites it with %d (line %d)' % (it.name, last.wid, last.line)]
@@ -358,8 +359,8 @@ class Log:
         the key."""
         lines = ['[%s] %s:' % (number, self.said_of_order(key, first, second))]
         for read in [op for op in self.named[u].ops if (op.kind, op.key) == ('r', key)][:u != second]:
-            said = (self.named[second].writes(key)[-1].wid, u, read.wid, read.line, self.update(self.named[u], read, key, second), v, v, u)
-            lines.append('    if %d came first, %s, which reads %d (line %d)%s, would come before %s, which would overwrite it, but %s comes before %s:' % said)
+            said = (u, v, read.wid, read.line, self.update(self.named[u], read, key, second), self.named[second].writes(key)[-1].wid)
+            lines.append('    %s, which comes after %s, reads %d (line %d)%s, so %d is the later version:' % said)
         return lines
 
     def side(self, key, first, second):
@@ -618,8 +619,11 @@ def steps_first(lines):
 
 
 def without_short(log, checked, explained):
-    """The lines behind those of `check`, without the one that tells the cycle in a sentence, which has to stand before the cycle."""
+    """The lines behind those of `check`, without the one that tells the cycle in a sentence, which has to stand before the cycle; that of A7
+    stays."""
     lines = explained[len(checked):].split('\n')[:-1]
+    if UPDATE.fullmatch(checked.split('\n')[0]):
+        return lines
     rest = [line for line in lines if not line.startswith(SHORT)]
     cycles = [n for n, line in enumerate(rest) if CYCLE.fullmatch(line)]
     at = cycles[0] if cycles else 0
@@ -830,11 +834,10 @@ def spoilt(r, text, checked, explained):
     if both[1:]:
         yield 'a step without its second line', without(n + 1)
         yield 'what is refuted is turned round', stepped(*log.said_of_step(number, key, first, second, v, u))
-        yield 'the walk is not said to end there', stepped(both[0], both[1].rsplit(', but ', 1)[0] + ':')
+        yield 'what follows is not said', stepped(both[0], both[1].rsplit(', so ', 1)[0] + ':')
     else:
         op = r.choice(log.named[u].ops)
-        yield 'a read is told where none is', stepped(both[0], '    if %d came first, %s, which reads %d (line %d), would come before %s, which would overwrite it, but %s comes before %s:'
-                                                    % (op.wid, u, op.wid, op.line, v, v, u))
+        yield 'a read is told where none is', stepped(both[0], '    %s, which comes after %s, reads %d (line %d), so %d is the later version:' % (u, v, op.wid, op.line, op.wid))
     n = r.randrange(walk, behind)
     for moved in (bare[n], '  ' + bare[n], '   ' + bare[n], '     ' + bare[n], '      ' + bare[n]):
         yield 'a walk is not indented so', lines[:n] + [moved] + lines[n + 1:]
@@ -843,7 +846,7 @@ def spoilt(r, text, checked, explained):
         yield 'a cycle behind steps is indented', lines[:n] + ['    ' + lines[n]] + lines[n + 1:]
     n = steps[int(number) - 1]
     for place in range(len(both)):
-        for at in [found.start() for found in re.finditer(r'[0-9]+(?=, which|, would|[)]|$| \(line)', both[place])]:
+        for at in [found.start() for found in re.finditer(r'[0-9]+(?=, which|, reads| is |[)]|$| \(line)', both[place])]:
             spoilt_line = both[place][:at] + '9' + both[place][at:]
             yield 'another number in a step', stepped(*(both[:place] + [spoilt_line] + both[place + 1:]))
     yield 'all numbers one higher', renamed(lines, 1)
@@ -1008,11 +1011,12 @@ BY_HAND = [
     by_hand('session 1, begin, w x 1, commit, session 2, begin, r x 0, r x 0, r x 1, commit', 'A6 split read at 2.1 op 3',
             '2.1 reads x 0 (line 7), the initial value', '2.1 then reads x 1 (line 9), which 1.1 wrote (line 3)'),
     by_hand('session 1, begin, r x 0, w x 1, w x 2, commit, begin, commit, begin, r x 0, r x 0, w x 3, w x 4, commit',
-            'A7 lost update of x from 0.0 by 1.1 and 1.3', '1.1 reads x 0 (line 3), the initial value', '1.1 overwrites it with 2 (line 5)',
+            'A7 lost update of x from 0.0 by 1.1 and 1.3', "in short: 1.1 and 1.3 read one version of x and both overwrote it; 1.3 did not see 1.1's",
+            '1.1 reads x 0 (line 3), the initial value', '1.1 overwrites it with 2 (line 5)',
             '1.3 reads x 0 (line 10), the initial value', '1.3 overwrites it with 4 (line 13)'),
     by_hand('log 2, session 1, begin, w a.b 1, w a.b 5, unknown, session 2, begin, r a.b 5, w a.b 6, commit, '
             'session 3, begin, w y 7, r a.b 5, w a.b 8, commit',
-            'A7 lost update of a.b from 1.1 by 2.1 and 3.1',
+            'A7 lost update of a.b from 1.1 by 2.1 and 3.1', "in short: 2.1 and 3.1 read one version of a.b and both overwrote it; neither saw the other's",
             '2.1 reads a.b 5 (line 9), which 1.1 wrote (line 5), whose outcome is unknown (line 6)',
             '2.1 overwrites it with 6 (line 10)',
             '3.1 reads a.b 5 (line 15), which 1.1 wrote (line 5), whose outcome is unknown (line 6)',
@@ -1078,7 +1082,7 @@ BY_HAND = [
             '1.1 before 2.1: 1.1 wrote x 1 (line 3), which by [1] comes before 2, which 2.1 wrote (line 11)',
             'known as: cycle of missed writes and sessions (G2-item-process)', FORCED,
             '[1] x: 1, which 1.1 wrote (line 3), comes before 2, which 2.1 wrote (line 11):',
-            '    if 2 came first, 3.1, which reads 2 (line 16), would come before 1.1, which would overwrite it, but 1.1 comes before 3.1:',
+            '    3.1, which comes after 1.1, reads 2 (line 16), so 2 is the later version:',
             '    1.1 before 1.2: session 1', '    1.2 before 3.1: 1.2 reads z 0 (line 7), the initial value, and 3.1 wrote z 3 (line 17)'),
 ]
 

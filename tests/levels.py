@@ -26,8 +26,8 @@ IMPLIED = [('strict-serializable', 'serializable'), ('strict-serializable', 'str
 # real time that the level could break.
 KEPT = {True: 'kept', False: 'not kept'}
 ANSWERS = {'yes': (0, KEPT[True]), 'no': (1, KEPT[False]), 'silent': (3, 'unknown: the log states no moments')}
-WEAKER = re.compile(r'^the whole log: ((?:strict )?snapshot isolation) (kept|not kept|unknown)(?:, as .+)?$', re.M)
-WITHOUT = re.compile(r'^(?:the whole log without real time: (.+)|only real time was broken: the whole log has a serial order, but none in the order of its moments)$', re.M)
+WEAKER = re.compile(r'^((?:strict )?snapshot isolation): (kept|not kept|unknown)(?:, as .+)?$', re.M)
+WITHOUT = re.compile(r'^(?:without real time: (.+)|only real time was broken: the whole log has a serial order, but none in the order of its moments)$', re.M)
 CASES, SEED, SHOWN = 600, 1, 20
 LANES = min(4, os.cpu_count())
 TABLE = os.path.join(generate.EXAMPLES, 'README.md')

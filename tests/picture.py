@@ -15,7 +15,7 @@ HERE = os.path.dirname(os.path.abspath(__file__))
 TOP = os.path.dirname(HERE)
 sys.path.insert(0, HERE)
 import explained, generate
-from certificates import Part
+from certificates import HEADING, WHY_NOT, Part
 
 sys.path.insert(0, os.path.join(TOP, 'tools'))
 import picture
@@ -241,8 +241,9 @@ def explained_by_audit(program, path):
     first, *lines = ran.stdout.decode().split('\n')
     if ran.returncode != 1:
         return None
-    end = next(place for place, line in enumerate(lines) if re.match('the whole log|only real time|sessions [0-9]+$', line))
-    part = Part(*lines[:2], lines[2:end])
+    start = next(place for place, line in enumerate(lines) if HEADING.fullmatch(line))
+    end = next(place for place, line in enumerate(lines) if line == WHY_NOT or re.match('sessions [0-9]+$', line))
+    part = Part(*lines[start:start + 2], lines[start + 2:end])
     return ''.join(line + '\n' for line in ['not serializable: ' + part.title, *part.why])
 
 

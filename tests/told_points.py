@@ -17,8 +17,9 @@ CASES, SEED, SHOWN = 600, 1, 20
 LANES = min(4, os.cpu_count())
 LEVELS = ('strict-snapshot', 'snapshot')
 FORCED = 'these orders of snapshots and commits are forced:'
+LOST = "%s and %s read one version of %s and both overwrote it; neither saw the other's"
 # A circle of so many edges is told in a sentence too.
-SHORT, FEW, CONCLUSION = 'in short: ', 6, '; no serial order has all of this'
+SHORT, FEW, CONCLUSION = 'in short: ', 6, '; no order of snapshots and commits has all of this'
 BY_SEARCH = 'no order of their snapshots and commits is left: a search shows it'
 NAME, KEY, POINT = r'(\d+\.\d+)', r'([A-Za-z0-9_.:/-]+)', r"(\d+\.\d+)'s (snapshot|commit)"
 EDGE = re.compile('%s before %s: (.+)' % (POINT, POINT))
@@ -29,7 +30,7 @@ WAY_STEP = re.compile("\\[(\\d+)\\] %s's commit before %s's snapshot:" % (NAME, 
 FORCED_STEP = re.compile("\\[(\\d+)\\] %s's commit before %s's snapshot: %s, and %s cannot commit first:" % (NAME, NAME, BOTH, NAME))
 NEITHER = re.compile('%s and %s %s, so one of them commits before the other takes its snapshot' % (NAME, NAME, BOTH))
 NOT_FIRST = re.compile('%s cannot commit first:' % NAME)
-WOULD = re.compile("    %s's snapshot would come before %s's commit, since %s of (\\d+\\.\\d+), and %s would overwrite it with (\\d+) \\(line (\\d+)\\); but" % (NAME, NAME, READS, NAME))
+WOULD = re.compile("    %s's snapshot comes after %s's commit, but %s of (\\d+\\.\\d+), which %s would have overwritten with (\\d+) \\(line (\\d+)\\):" % (NAME, NAME, READS, NAME))
 # Forms of reasons.
 WROTE = re.compile('%s, which %s wrote \\(line (\\d+)\\)' % (READS, NAME))
 LATER = re.compile('%s, which %s writes itself only later \\(line (\\d+)\\)' % (READS, NAME))
@@ -248,6 +249,9 @@ class Telling:
                 self.not_first(node, against)
             both = [self.sentences('%s came first, ' % node, side, False) for node, side in zip((one, other), self.sides)]
             right = ['%sif %s. If %s' % (SHORT, *it) for it in itertools.product(*both)] or [None]
+            missed = [OVERWRITES.fullmatch(reason) for _, _, reason in self.told]
+            if len(missed) == 2 and all(missed) and len({it.group(2, 3) for it in missed}) == 1 and all(len(side) == 1 for side in self.sides):
+                right = [SHORT + LOST % (one, other, missed[0][2])]
             self.met.add('neither')
         else:
             self.told = []
@@ -277,7 +281,7 @@ def told(program, text, level):
     keys = {key for _, key, _ in list(log.reads) + list(log.writes)}
     must(all('_' + key not in line for line in why for key in keys), 'a lock is told: %r' % why)
     again = call(program, 'explain', '--level', level, text=text)[1]
-    must(again.split('\n')[1:3 + len(why)] == lines[1:3 + len(why)] or not log.nodes, '`explain --level` says something else: %r' % again)
+    must('\n'.join(['', *lines[1:3 + len(why)], '']) in again or not log.nodes, '`explain --level` says something else: %r' % again)
     try:
         if why[0] == BY_SEARCH:
             must(why[1] == 'why they have no serial order either:' and not any('(G2-' in line for line in why), 'told: %r' % why)

@@ -10,9 +10,9 @@ PARTS = re.compile(r'''
     | (?P<own>(?:and\ overwrote\ with\ [0-9]+|writes\ itself\ only\ later)\ \(line\ (?P<own_at>[0-9]+)\))
     | (?P<head>(?:^\[[0-9]+\]|\bsuppose)\ )%(key)s:\ (?P<head_id>[0-9]+),\ which\ (?P<head_writer>%(name)s)\ wrote\ \(line\ (?P<head_at>[0-9]+)\)
     | (?P<before>comes\ before\ )(?P<before_id>[0-9]+),\ which\ (?P<before_writer>%(name)s)\ wrote\ \(line\ (?P<before_at>[0-9]+)\)
-    | (?P<version>(?:^\ *if|\bover|an\ update\ of)\ )(?P<version_id>[0-9]+)\b
+    | (?P<version>(?:,\ so|\bover|an\ update\ of)\ )(?P<version_id>[0-9]+)\b
     | (?P<of_key>(?:which\ no\ transaction\ wrote|A7\ lost\ update)(?:\ (?:to|of)\ %(key)s)?)(?:\ from\ [0-9.]+)?
-    | (?P<sight>\ saw|\bdid\ not\ see)\ (?P<seen>%(name)s)'s\ (?P<seen_key>%(key)s)
+    | (?P<sight>\ saw|\bdid\ not\ see)\ (?P<seen>%(name)s)'s(?:\ (?P<seen_key>%(key)s))?
     | (?P<later>\ wrote\ %(key)s\ after\ )(?P<after>%(name)s)
     | (?P<session>:\ session\ [0-9]+$)
     | (?P<its>\ in\ its\ session\b)
@@ -108,7 +108,7 @@ class Retold:
         if found['of_key']:
             return 'A7 lost update' if found['of_key'].startswith('A7') else 'which no transaction wrote'
         if found['sight']:
-            return '%s what %s wrote to %s' % (found['sight'], self.name(found['seen']), found['seen_key'])
+            return '%s what %s wrote' % (found['sight'], self.name(found['seen'])) + (' to ' + found['seen_key'] if found['seen_key'] else '')
         if found['later']:
             return found['later'] + self.name(found['after'])
         if found['session']:

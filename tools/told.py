@@ -19,8 +19,7 @@ STEP = re.compile(r'\[%s\] %s:' % (NUMBER, VERSIONS))
 OVER = r' over (?:an update of )?(?:[0-9]+|the initial value)'
 BEHIND = r'(?:, which [1-9][0-9]*\.[1-9][0-9]* wrote \(line [1-9][0-9]*\)%s)' % OVER
 OF = r'(?: of [1-9][0-9]*\.[1-9][0-9]*|, the initial value)'
-SINCE = re.compile(r'    if [0-9]+ came first, %s, which reads [0-9]+ \(line %s\)%s?, would come before %s, which would overwrite it, but %s comes before %s:'
-                   % (NODE, NUMBER, BEHIND, NODE, NODE, NODE))
+SINCE = re.compile(r'    %s, which comes after %s, reads [0-9]+ \(line %s\)%s?, so [0-9]+ is the later version:' % (NODE, NODE, NUMBER, BEHIND))
 CYCLE = re.compile('cycle from %s:' % NODE)
 TABLE = re.compile('the reads and writes that matter:')
 ROW = re.compile(r'    %s(?:  [rw] [A-Za-z0-9_.:/-]+ [0-9]+ \(line [1-9][0-9]*\))*' % NODE)
@@ -122,7 +121,7 @@ class Pair:
 @dataclass
 class Explanation:
     """The verdict, and what stands behind it. `code` is A1 to A9 or TREE, and None where the log is not refuted; `behind` is the number of the
-    first line of an anomaly behind that. `short` is a cycle in a sentence. A tree is told by its leaves: each cycle with the orders that are
+    first line of an anomaly behind that. `short` is a cycle, or a lost update, in a sentence. A tree is told by its leaves: each cycle with the orders that are
     decided above it; `count` says how many there are where not all are told. `pairs` are four reads that rule out every order, where the text
     has them before a cycle or a tree. `is_serial_apart` says that a part has an order without that of sessions."""
     lines: List[str]
@@ -273,7 +272,8 @@ def read(text):
             it.count, it.leaves = several and several[1] and int(several[1]), reader.leaves()
         it.steps = reader.steps() if reader.next(FORCED) else []
     else:
-        reader.at = len(reader.lines)
+        it.short = reader.short() if it.code == 'A7' else None
+        it.behind, reader.at = reader.at + 1, len(reader.lines)
     if reader.at < len(reader.lines):
         raise Unread('line %d of what explain says has none of the forms: %s' % (reader.at + 1, reader.lines[reader.at]))
     if it.code in ('A8', 'A9') and not (it.cycle and it.cycle.edges) or it.code == TREE and not it.leaves:

@@ -99,7 +99,7 @@ listed txns = codes "transactions " ++ txns_text txns ++ 10 ∷ []
 -- that it has a serial order without that of sessions
 abbrev pub sessions_line : Bool → List ℕ
 sessions_line told = if told
-    then codes "without the order of sessions these have a serial order; of the rest of the log this says nothing\n"
+    then codes "these break the order of sessions alone: without it they have a serial order; of the rest of the log this says nothing\n"
     else []
 
 -- why it has no order, and what to check first
@@ -144,8 +144,8 @@ middle_text faults (answer.Undecided reason advice) = lines_of advice.items
 middle_text faults _ = []
 
 -- what holds of the log without moments
-unfoldable pub without_line : Word → List ℕ
-without_line word = codes "the whole log without real time: " ++ word_text word ++ 10 ∷ []
+abbrev pub without_line : Word → List ℕ
+without_line word = codes "without real time: " ++ word_text word ++ 10 ∷ []
 
 -- of a log that has an order without them: where it has none with them, they alone were broken
 unfoldable pub time_text : Word → List ℕ
@@ -167,32 +167,37 @@ without_row with (Some without) = without_text with without
 
 -- the name of a level, and whether it was kept
 unfoldable pub kept_line : Isolation → Word → List ℕ
-kept_line level word = codes "the whole log: " ++ level_title level ++ codes " " ++ kept_text word
+kept_line level word = level_title level ++ codes ": " ++ kept_text word
 
 -- a line of these
 unfoldable pub level_row : Isolation → Option Word → List ℕ
 level_row level None = []
 level_row level (Some word) = kept_line level word ++ 10 ∷ []
 
--- that a part shows it, and the part
-unfoldable pub next_text : ToldPart → List ℕ
-next_text p = codes ", as the next part shows\n" ++ part_text p
+-- which part shows that snapshot isolation was not kept: one of the answer's, or one behind them
+abbrev pub shown_by : Word → Option ToldPart → List ℕ
+shown_by word.NotSerializable None = codes ", as shown below\n"
+shown_by word.NotSerializable (Some p) = codes ", as the last part shows\n"
+shown_by _ _ = 10 ∷ []
 
--- which part shows that a level was not kept: one that stands above, or this one
-unfoldable pub shown_text : Word → Option ToldPart → List ℕ
-shown_text word.NotSerializable None = codes ", as shown above\n"
-shown_text word.NotSerializable (Some p) = next_text p
-shown_text _ _ = 10 ∷ []
-
--- of snapshot isolation a line, and the part that shows that it was not kept
-unfoldable pub snapshot_rows : Option Word → Option ToldPart → List ℕ
-snapshot_rows None shown = []
-snapshot_rows (Some word) shown = kept_line Snapshot word ++ shown_text word shown
+-- a line of snapshot isolation
+unfoldable pub snapshot_row : Option Word → Option ToldPart → List ℕ
+snapshot_row None shown = []
+snapshot_row (Some word) shown = kept_line Snapshot word ++ shown_by word shown
 
 -- what holds without moments and at weaker levels
 unfoldable pub weaker_text : Told → List ℕ
 weaker_text told = without_row (word_of told.answer) told.without_moments
-    ++ level_row StrictSnapshot told.strict_snapshot ++ snapshot_rows told.snapshot told.shown
+    ++ level_row StrictSnapshot told.strict_snapshot ++ snapshot_row told.snapshot told.shown
+
+-- a part that shows that snapshot isolation was not kept
+abbrev pub broken_text : ToldPart → List ℕ
+broken_text p = codes "why snapshot isolation was not kept:\n" ++ part_text p
+
+-- the same, where the answer has none
+abbrev pub last_part : Option ToldPart → List ℕ
+last_part None = []
+last_part (Some p) = broken_text p
 
 -- so many transactions has the first part that is told
 abbrev pub first_size : List ToldPart → ℕ
@@ -215,8 +220,8 @@ counts_text t part =
     ++ count_line (codes "part") part
 
 abbrev pub behind_first : ℕ → Told → List ℕ
-behind_first faults told = middle_text faults told.answer ++ weaker_text told
-    ++ counts_text told.totals (part_size told.answer)
+behind_first faults told = weaker_text told ++ middle_text faults told.answer
+    ++ last_part told.shown ++ counts_text told.totals (part_size told.answer)
 
 -- the report where so many parts were asked for; the first line alone where it is to be quiet
 abbrev pub report_text : ℕ → Bool → Told → List ℕ

@@ -8,7 +8,8 @@ ghost use Rattle.audit_command.specs.Report.{without_line, time_text, sessions_l
 ghost use Rattle.audit_command.specs.Report.{parts_text, first_size, report_text, too_few, heading_of};
 ghost use Rattle.audit_command.specs.Report.{listed, codes_where, behind_first, level_text, reason_line};
 ghost use Rattle.audit_command.specs.Report.{level_row, weaker_text, short_title, found_text};
-ghost use Rattle.audit_command.specs.Report.{kept_line, snapshot_rows, shown_text, next_text};
+ghost use Rattle.audit_command.specs.Report.{kept_line, shown_by, snapshot_row, broken_text, last_part};
+ghost use Rattle.audit_command.specs.Words as spec;
 
 use crate::codes::{
     code_number, finding_title, hint_text, kept_text, verdict_text, word_of, word_text,
@@ -174,7 +175,7 @@ fn put_sessions(out: &mut Vec<u8>, is_serial_apart: bool) -> Result<(), AllocErr
     if is_serial_apart {
         put(
             out,
-            b"without the order of sessions these have a serial order; of the rest of the log this says nothing\n",
+            b"these break the order of sessions alone: without it they have a serial order; of the rest of the log this says nothing\n",
         )
     } else {
         Ok(())
@@ -283,13 +284,19 @@ fn put_middle(out: &mut Vec<u8>, faults: usize, answer: &Answer) -> Result<(), A
     }
 }
 
+/// Appends a verdict.
+fn put_word(out: &mut Vec<u8>, word: Word) -> Result<(), AllocError>
+    ensures put { OnOk result (out.new.items ≡ out.old.items ++ spec.word_text word) }
+{
+    put(out, word_text(word).as_bytes())
+}
+
 /// Appends what holds of the log without moments.
-#[tactic(auto, unfolding(crate::specs::Report::without_line))]
 fn put_without_line(out: &mut Vec<u8>, word: Word) -> Result<(), AllocError>
     ensures put { OnOk result (out.new.items ≡ out.old.items ++ without_line word) }
 {
-    put(out, b"the whole log without real time: ")?;
-    put(out, word_text(word).as_bytes())?;
+    put(out, b"without real time: ")?;
+    put_word(out, word)?;
     put(out, b"\n")
 }
 
@@ -337,9 +344,8 @@ fn put_without_row(out: &mut Vec<u8>, with: Word, without: Option<Word>) -> Resu
 fn put_kept(out: &mut Vec<u8>, level: Isolation, word: Word) -> Result<(), AllocError>
     ensures put { OnOk result (out.new.items ≡ out.old.items ++ kept_line level word) }
 {
-    put(out, b"the whole log: ")?;
     put(out, level.title().as_bytes())?;
-    put(out, b" ")?;
+    put(out, b": ")?;
     put(out, kept_text(word).as_bytes())
 }
 
@@ -357,46 +363,53 @@ fn put_level_row(out: &mut Vec<u8>, level: Isolation, word: Option<Word>) -> Res
     }
 }
 
-/// Ends a line by saying that a part shows it, and appends the part.
-#[tactic(auto, unfolding(crate::specs::Report::next_text))]
-fn put_next(out: &mut Vec<u8>, part: &ToldPart) -> Result<(), AllocError>
-    ensures put { OnOk result (out.new.items ≡ out.old.items ++ next_text part.now) }
-{
-    put(out, b", as the next part shows\n")?;
-    put_part(out, part)
-}
-
-/// Ends the line of a level, and appends the part that shows that it was not kept, unless one above
-/// does.
-#[tactic(auto, unfolding(crate::specs::Report::shown_text))]
-fn put_shown(out: &mut Vec<u8>, word: Word, shown: &Option<ToldPart>) -> Result<(), AllocError>
-    ensures put { OnOk result (out.new.items ≡ out.old.items ++ shown_text word shown.now) }
+/// Ends the line of snapshot isolation by saying which part shows that it was not kept, where it was
+/// not.
+fn put_shown_by(out: &mut Vec<u8>, word: Word, shown: &Option<ToldPart>) -> Result<(), AllocError>
+    ensures put { OnOk result (out.new.items ≡ out.old.items ++ shown_by word shown.now) }
 {
     match word {
         Word::Serializable | Word::Unknown => put(out, b"\n"),
         Word::NotSerializable => match shown {
-            None => put(out, b", as shown above\n"),
-            Some(part) => put_next(out, part),
+            None => put(out, b", as shown below\n"),
+            Some(_) => put(out, b", as the last part shows\n"),
         },
     }
 }
 
-/// Appends whether snapshot isolation was kept, where that is told, and the part that shows that it
-/// was not.
-#[tactic(auto, unfolding(crate::specs::Report::snapshot_rows))]
-fn put_snapshot_rows(
+/// Appends whether snapshot isolation was kept, where that is told.
+#[tactic(auto, unfolding(crate::specs::Report::snapshot_row))]
+fn put_snapshot_row(
     out: &mut Vec<u8>,
     word: Option<Word>,
     shown: &Option<ToldPart>,
 ) -> Result<(), AllocError>
-    ensures put { OnOk result (out.new.items ≡ out.old.items ++ snapshot_rows word shown.now) }
+    ensures put { OnOk result (out.new.items ≡ out.old.items ++ snapshot_row word shown.now) }
 {
     match word {
         None => Ok(()),
         Some(word) => {
             put_kept(out, Isolation::Snapshot, word)?;
-            put_shown(out, word, shown)
+            put_shown_by(out, word, shown)
         }
+    }
+}
+
+/// Appends a part that shows that snapshot isolation was not kept.
+fn put_broken(out: &mut Vec<u8>, part: &ToldPart) -> Result<(), AllocError>
+    ensures put { OnOk result (out.new.items ≡ out.old.items ++ broken_text part.now) }
+{
+    put(out, b"why snapshot isolation was not kept:\n")?;
+    put_part(out, part)
+}
+
+/// The same, where there is one.
+fn put_last(out: &mut Vec<u8>, shown: &Option<ToldPart>) -> Result<(), AllocError>
+    ensures put { OnOk result (out.new.items ≡ out.old.items ++ last_part shown.now) }
+{
+    match shown {
+        None => Ok(()),
+        Some(part) => put_broken(out, part),
     }
 }
 
@@ -407,7 +420,7 @@ fn put_weaker(out: &mut Vec<u8>, told: &Told) -> Result<(), AllocError>
 {
     put_without_row(out, word_of(&told.answer), told.without_moments)?;
     put_level_row(out, Isolation::StrictSnapshot, told.strict_snapshot)?;
-    put_snapshot_rows(out, told.snapshot, &told.shown)
+    put_snapshot_row(out, told.snapshot, &told.shown)
 }
 
 /// How many transactions the first part has.
@@ -451,8 +464,9 @@ fn put_counts(out: &mut Vec<u8>, totals: &Totals, part: usize) -> Result<(), All
 fn put_behind_first(out: &mut Vec<u8>, faults: usize, told: &Told) -> Result<(), AllocError>
     ensures put { OnOk result (out.new.items ≡ out.old.items ++ behind_first faults told.now) }
 {
-    put_middle(out, faults, &told.answer)?;
     put_weaker(out, told)?;
+    put_middle(out, faults, &told.answer)?;
+    put_last(out, &told.shown)?;
     put_counts(out, &told.totals, part_size(&told.answer))?;
     Ok(())
 }

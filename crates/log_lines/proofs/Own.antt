@@ -1,5 +1,5 @@
 -- The rows of a log's own table, and the lines of its text.
-use Rattle.std.proofs.Common.{◌≡◌, ℕ, zero, suc, ◌+◌, List, [], ◌∷◌, ◌++◌, length, map, slice_get, Some, refl, sym, ap, ◌∙◌, subst, arith, length-append}
+use Rattle.std.proofs.Common.{◌≡◌, ℕ, zero, suc, ◌+◌, List, [], ◌∷◌, length, map, slice_get, Some, refl, sym, ap, ◌∙◌, subst, arith, length-append, take, drop}
 use Rattle.std.specs.Prelude.{slice_index_or}
 use Rattle.std.specs.List.{flat_map, AllByRecursion, range_with_len}
 use Rattle.std.proofs.lemmas.Option.{slice_get_within}
@@ -11,11 +11,7 @@ use Rattle.session_log.specs.declared.session.Op.{Op}
 use Rattle.log_definitions.specs.WellFormed.{log_lines}
 use Rattle.log_lines.specs.Rows.{TxnRow, own_row, own_rows, own_places, Fits, line_at}
 use Rattle.log_lines.specs.Places.{BeginsAt, IsLineOf, StandsAt}
-use Rattle.log_lines.proofs.Texts.{begin_line, operation_line, ending_line}
-
-pub range_more : (a n j : ℕ) → a + n ≡ j → range_with_len a (n + 1) ≡ range_with_len a n ++ j ∷ []
-range_more a zero j e = let same : a ≡ j = omega (arith, e) in ap (λ k. k ∷ []) same
-range_more a (suc n) j e = let on : suc n + 1 ≡ suc (n + 1) = omega arith in ap (range_with_len a) on ∙ ap (λ l. a ∷ l) (range_more (a + 1) n j (omega (arith, e)))
+use Rattle.log_lines.proofs.Texts.{cut, begin_line, operation_line, ending_line}
 
 -- ---- the table has the shape of the sessions
 counts : (place line : ℕ) (ts : List Transaction) → map (λ row. length row.ops) (own_rows place line ts) ≡ map (λ t. length t.ops) ts
@@ -30,68 +26,32 @@ own_fits n (s ∷ ss) =
     let rest = map (λ rows. map (λ row. length row.ops) rows) (own_places (n + length (session_lines s)) ss) in
     ap (λ ks. ks ∷ rest) (counts 1 (n + 1) s.txns) ∙ ap (λ ls. map (λ t. length t.ops) s.txns ∷ ls) (own_fits (n + length (session_lines s)) ss)
 
--- ---- the session at a place
-record SessionOf (n : ℕ) (ss : List ClientSession) (of : ClientSession) (rows : List TxnRow) : Type 0 where
-  pub before : List ClientSession
-  pub after : List ClientSession
-  pub whole : ss ≡ before ++ of ∷ after
-  pub own : rows ≡ own_rows 1 (n + length (log_lines before) + 1) of.txns
-
-session_of : (n : ℕ) (ss : List ClientSession) (a : ℕ) (of : ClientSession) (rows : List TxnRow) → slice_get ss a ≡ Some of → slice_get (own_places n ss) a ≡ Some rows → SessionOf n ss of rows
-session_of n [] a of rows e g = cc
-session_of n (s ∷ ss) zero of rows e g =
+-- ---- the session at a place, and the transaction
+own_session : (n : ℕ) (ss : List ClientSession) (a : ℕ) (of : ClientSession) (rows : List TxnRow) → slice_get ss a ≡ Some of → slice_get (own_places n ss) a ≡ Some rows → rows ≡ own_rows 1 (n + length (log_lines (take a ss)) + 1) of.txns
+own_session n [] a of rows e g = cc
+own_session n (s ∷ ss) zero of rows e g =
     let same : s ≡ of = cc in
     let here : rows ≡ own_rows 1 (n + 1) s.txns = cc in
     let at : n + 1 ≡ n + 0 + 1 = omega arith in
-    record {
-      before = [];
-      after = ss;
-      whole = ap (λ x. x ∷ ss) same;
-      own = here ∙ ap (λ x. own_rows 1 (n + 1) x.txns) same ∙ ap (λ k. own_rows 1 k of.txns) at;
-    }
-session_of n (s ∷ ss) (suc a) of rows e g =
-    let r = session_of (n + length (session_lines s)) ss a of rows e g in
-    let at : n + length (session_lines s) + length (log_lines r.before) + 1 ≡ n + length (log_lines (s ∷ r.before)) + 1 = omega (arith, length-append (session_lines s) (log_lines r.before)) in
-    record {
-      before = s ∷ r.before;
-      after = r.after;
-      whole = ap (λ l. s ∷ l) r.whole;
-      own = r.own ∙ ap (λ k. own_rows 1 k of.txns) at;
-    }
+    here ∙ ap (λ x. own_rows 1 (n + 1) x.txns) same ∙ ap (λ k. own_rows 1 k of.txns) at
+own_session n (s ∷ ss) (suc a) of rows e g =
+    let at : n + length (session_lines s) + length (log_lines (take a ss)) + 1 ≡ n + length (log_lines (s ∷ take a ss)) + 1 = omega (arith, length-append (session_lines s) (log_lines (take a ss))) in
+    own_session (n + length (session_lines s)) ss a of rows e g ∙ ap (λ k. own_rows 1 k of.txns) at
 
--- ---- the transaction at a place
-record TxnOf (place line : ℕ) (ts : List Transaction) (i : ℕ) (t : Transaction) (row : TxnRow) : Type 0 where
-  pub earlier : List Transaction
-  pub later : List Transaction
-  pub whole : ts ≡ earlier ++ t ∷ later
-  pub count : length earlier ≡ i
-  pub own : row ≡ own_row (place + i) (line + length (flat_map txn_lines earlier)) t
-
-txn_of : (place line : ℕ) (ts : List Transaction) (i : ℕ) (t : Transaction) (row : TxnRow) → slice_get ts i ≡ Some t → slice_get (own_rows place line ts) i ≡ Some row → TxnOf place line ts i t row
-txn_of place line [] i t row e g = cc
-txn_of place line (x ∷ ts) zero t row e g =
+own_txn : (place line : ℕ) (ts : List Transaction) (i : ℕ) (t : Transaction) (row : TxnRow) → slice_get ts i ≡ Some t → slice_get (own_rows place line ts) i ≡ Some row → row ≡ own_row (place + i) (line + length (flat_map txn_lines (take i ts))) t
+own_txn place line [] i t row e g = cc
+own_txn place line (x ∷ ts) zero t row e g =
     let same : x ≡ t = cc in
     let here : row ≡ own_row place line x = cc in
     let at : place ≡ place + 0 = omega arith in
     let begins : line ≡ line + 0 = omega arith in
-    record {
-      earlier = [];
-      later = ts;
-      whole = ap (λ y. y ∷ ts) same;
-      count = refl;
-      own = here ∙ ap (λ y. own_row place line y) same ∙ ap (λ k. own_row k line t) at ∙ ap (λ k. own_row (place + 0) k t) begins;
-    }
-txn_of place line (x ∷ ts) (suc i) t row e g =
-    let r = txn_of (place + 1) (line + length (txn_lines x)) ts i t row e g in
+    here ∙ ap (λ y. own_row place line y) same ∙ ap (λ k. own_row k line t) at ∙ ap (λ k. own_row (place + 0) k t) begins
+own_txn place line (x ∷ ts) (suc i) t row e g =
+    let mid = flat_map txn_lines (take i ts) in
     let at : place + 1 + i ≡ place + suc i = omega arith in
-    let begins : line + length (txn_lines x) + length (flat_map txn_lines r.earlier) ≡ line + length (flat_map txn_lines (x ∷ r.earlier)) = omega (arith, length-append (txn_lines x) (flat_map txn_lines r.earlier)) in
-    record {
-      earlier = x ∷ r.earlier;
-      later = r.later;
-      whole = ap (λ l. x ∷ l) r.whole;
-      count = ap suc r.count;
-      own = r.own ∙ ap (λ k. own_row k (line + length (txn_lines x) + length (flat_map txn_lines r.earlier)) t) at ∙ ap (λ k. own_row (place + suc i) k t) begins;
-    }
+    let begins : line + length (txn_lines x) + length mid ≡ line + length (flat_map txn_lines (x ∷ take i ts)) = omega (arith, length-append (txn_lines x) mid) in
+    own_txn (place + 1) (line + length (txn_lines x)) ts i t row e g
+    ∙ ap (λ k. own_row k (line + length (txn_lines x) + length mid) t) at ∙ ap (λ k. own_row (place + suc i) k t) begins
 
 -- ---- the row of a transaction
 pub record IsOwnRow (n : ℕ) (ss : List ClientSession) (session place : ℕ) (t : Transaction) (row : TxnRow) : Type 0 where
@@ -102,27 +62,28 @@ pub record IsOwnRow (n : ℕ) (ss : List ClientSession) (session place : ℕ) (t
 
 pub own_row_of : (n : ℕ) (ss : List ClientSession) (session place : ℕ) (t : Transaction) (row : TxnRow) → StandsAt ss (own_places n ss) session place t row → IsOwnRow n ss session place t row
 own_row_of n ss session place t row h =
-    let s = session_of n ss h.at h.of h.rows h.sessions h.tables in
-    let line = n + length (log_lines s.before) + 1 in
-    let x = txn_of 1 line h.of.txns h.index t row h.txn (ap (λ l. slice_get l h.index) (sym s.own) ∙ h.has) in
-    let begin : row.begin ≡ line + length (flat_map txn_lines x.earlier) = ap (λ r. r.begin) x.own in
-    let at : row.place ≡ 1 + h.index = ap (λ r. r.place) x.own in
+    let rows = own_session n ss h.at h.of h.rows h.sessions h.tables in
+    let line = n + length (log_lines (take h.at ss)) + 1 in
+    let own = own_txn 1 line h.of.txns h.index t row h.txn (ap (λ l. slice_get l h.index) (sym rows) ∙ h.has) in
+    let txns = cut h.of.txns h.index t h.txn in
+    let begin : row.begin ≡ line + length (flat_map txn_lines (take h.index h.of.txns)) = ap (λ r. r.begin) own in
+    let at : row.place ≡ 1 + h.index = ap (λ r. r.place) own in
     record {
       begins = record {
-        before = s.before;
+        before = take h.at ss;
         of = h.of;
-        after = s.after;
-        earlier = x.earlier;
-        later = x.later;
-        sessions = s.whole;
+        after = drop (suc h.at) ss;
+        earlier = take h.index h.of.txns;
+        later = drop (suc h.index) h.of.txns;
+        sessions = (cut ss h.at h.of h.sessions).0;
         number = h.number;
-        txns = x.whole;
-        stands = omega (arith, h.stands, x.count);
+        txns = txns.0;
+        stands = omega (arith, h.stands, txns.1);
         begins = begin;
       };
       stands = omega (arith, at, h.stands);
-      ops = ap (λ r. r.ops) x.own ∙ ap (λ k. range_with_len (k + 1) (length t.ops)) (sym begin);
-      end = ap (λ r. r.end) x.own ∙ ap (λ k. k + 1 + length t.ops) (sym begin);
+      ops = ap (λ r. r.ops) own ∙ ap (λ k. range_with_len (k + 1) (length t.ops)) (sym begin);
+      end = ap (λ r. r.end) own ∙ ap (λ k. k + 1 + length t.ops) (sym begin);
     }
 
 -- ---- its lines

@@ -1,5 +1,5 @@
 -- The lines of a transaction are lines of the text.
-use Rattle.std.proofs.Common.{◌≡◌, ℕ, zero, suc, ◌+◌, Bool, true, false, eqb, List, [], ◌∷◌, ◌++◌, length, map, slice_get, Some, refl, sym, ap, ◌∙◌, subst, arith, append_assoc, length-append}
+use Rattle.std.proofs.Common.{◌≡◌, ℕ, zero, suc, ◌+◌, Bool, true, false, eqb, List, [], ◌∷◌, ◌++◌, length, map, slice_get, Some, refl, sym, ap, ◌∙◌, subst, arith, append_assoc, length-append, take, drop}
 use Rattle.std.specs.Prelude.{codes}
 use Rattle.std.specs.List.{flat_map, AllByRecursion}
 use Rattle.std.proofs.lemmas.Bool.{and_from, not_from_false}
@@ -137,23 +137,23 @@ pub begin_line : (text : List ℕ) (ss : List ClientSession) → AllByRecursion 
 begin_line text ss legal whole session place line t b =
     line_of_txn text ss legal whole session place line t b [] (Begin t.begun) (map op_line t.ops ++ end_line t.outcome t.ended ∷ []) line refl (omega arith)
 
-split_ops : (ops : List Op) (i : ℕ) (op : Op) → slice_get ops i ≡ Some op → (fs : List Op) × ((gs : List Op) × ((ops ≡ fs ++ op ∷ gs) × (length fs ≡ i)))
-split_ops [] i op e = cc
-split_ops (o ∷ ops) zero op e = let same : o ≡ op = cc in ([], (ops, (ap (λ x. x ∷ ops) same, refl)))
-split_ops (o ∷ ops) (suc i) op e = let r = split_ops ops i op e in (o ∷ r.0, (r.1.0, (ap (λ x. o ∷ x) r.1.1.0, omega (arith, r.1.1.1))))
+pub cut : {X : Type 0} (xs : List X) (i : ℕ) (x : X) → slice_get xs i ≡ Some x → (xs ≡ take i xs ++ x ∷ drop (suc i) xs) × (length (take i xs) ≡ i)
+cut [] i x e = cc
+cut (y ∷ xs) zero x e = let same : y ≡ x = cc in (ap (λ z. z ∷ xs) same, refl)
+cut (y ∷ xs) (suc i) x e = let r = cut xs i x e in (ap (λ l. y ∷ l) r.0, omega (arith, r.1))
 
 pub operation_line : (text : List ℕ) (ss : List ClientSession) → AllByRecursion IsLegal ss → text ≡ log_text (version_of text) ss → (session place line : ℕ) (t : Transaction) → BeginsAt (first_line (version_of text)) ss session place t line
     → (i : ℕ) (op : Op) → slice_get t.ops i ≡ Some op → IsLineOf text (line + 1 + i) (op_line op)
 operation_line text ss legal whole session place line t b i op e =
-    let r = split_ops t.ops i op e in
-    let fs = r.0 in
-    let gs = r.1.0 in
+    let r = cut t.ops i op e in
+    let fs = take i t.ops in
+    let gs = drop (suc i) t.ops in
     let end = end_line t.outcome t.ended ∷ [] in
     line_of_txn text ss legal whole session place line t b (Begin t.begun ∷ map op_line fs) (op_line op) (map op_line gs ++ end) (line + 1 + i)
-    (ap (λ ops. Begin t.begun ∷ (map op_line ops ++ end)) r.1.1.0
+    (ap (λ ops. Begin t.begun ∷ (map op_line ops ++ end)) r.0
     ∙ ap (λ ls. Begin t.begun ∷ (ls ++ end)) (map-append op_line fs (op ∷ gs))
     ∙ ap (λ ls. Begin t.begun ∷ ls) (append_assoc (map op_line fs) (op_line op ∷ map op_line gs) end))
-    (omega (arith, r.1.1.1, length-map fs op_line))
+    (omega (arith, r.1, length-map fs op_line))
 
 pub ending_line : (text : List ℕ) (ss : List ClientSession) → AllByRecursion IsLegal ss → text ≡ log_text (version_of text) ss → (session place line : ℕ) (t : Transaction) → BeginsAt (first_line (version_of text)) ss session place t line
     → IsLineOf text (line + 1 + length t.ops) (end_line t.outcome t.ended)

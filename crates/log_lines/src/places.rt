@@ -35,11 +35,7 @@ fn lines_from(alloc: Global, first: usize, count: usize) -> Result<Vec<usize>, A
     requires room { first + count < 2 ^ 64 }
     ensures lines { IfOk result (λ lines. lines.items ≡ range_with_len first count) }
 {
-    let mut lines = Vec::with_capacity(alloc, count)?;
-    for line in first..first + count {
-        lines.push(line)?;
-    }
-    Ok(lines)
+    (first..first + count).collect(alloc)
 }
 
 /// Where a transaction stands that begins at this line.

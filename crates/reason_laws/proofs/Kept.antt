@@ -1,5 +1,5 @@
 -- Each reason is kept by each serial order.
-use Rattle.std.proofs.Common.{◌≡◌, ◌≢◌, ℕ, ◌<◌, ◌≤◌, true, eqb, List, [], ◌∷◌, ◌++◌, Option, None, Some, refl, sym, ap, ◌∙◌, subst, inl, inr, arith, lt-ltb, eqb-true, append_assoc}
+use Rattle.std.proofs.Common.{◌≡◌, ◌≢◌, ℕ, ◌<◌, ◌≤◌, true, List, [], ◌∷◌, ◌++◌, Option, None, Some, refl, sym, ap, ◌∙◌, subst, inl, inr, arith, lt-ltb, append_assoc}
 use Rattle.session_log.specs.Moments.{is_earlier}
 use Rattle.session_log.specs.Text.{ClientSession}
 use Rattle.serializability.specs.declared.event.Event.{Event}
@@ -20,8 +20,7 @@ use Rattle.log_definitions.specs.Numbers.{number_in, IsWellFormedList, log_of}
 use Rattle.log_definitions.proofs.Numbered.{numbered}
 use Rattle.log_definitions.proofs.Renaming.{serial_numbered}
 use Rattle.reason_laws.specs.Reasons.{AreOfSession, IsReadBy, IsOverwrittenBy, Link, AreLinked, left_by, IsOfInitialBefore, EndsBefore, ReadsAt}
-use Rattle.reason_laws.proofs.Texts.{some_parts}
-use Rattle.reason_laws.proofs.Numbers.{within, before_at, reads_after, writes_after, none_before, final_at, writes_some, reads_key, key_within}
+use Rattle.reason_laws.proofs.Numbers.{wrote, source_of_read, within, before_at, reads_after, writes_after, none_before, final_at, writes_some, reads_key, key_within}
 
 -- ---- what is known of a log, and of a serial order of it
 pub record Serial (log : Log) (order : List ℕ) : Type 0 where
@@ -58,38 +57,26 @@ pub source_before : (log : Log) (order : List ℕ) → Serial log order → (r x
 source_before log order s r x u lo hi key e =
     s.arcs u r (source_within log s.clean r x u lo hi e) hi (arc_from_read log r u lo (reads_from_source log r x u key e))
 
-record OwnWrite (x w : ℕ) (ops : List Event) : Type 0 where
-  pub before : List Event
-  pub behind : List Event
-  pub stands : ops ≡ before ++ Write x w ∷ behind
-
-own_write : (x w : ℕ) (ops : List Event) → last_write x ops ≡ Some w → OwnWrite x w ops
-own_write x w [] e = cc
-own_write x w (Read k v ∷ ops) e =
-    let r = own_write x w ops e in
-    record { before = Read k v ∷ r.before; behind = r.behind; stands = ap (λ l. Read k v ∷ l) r.stands }
-own_write x w (Write k v ∷ ops) e = elim (some_parts (eqb k x) v w (last_write x ops) e) [
-  | inl h ↦
-      let r = own_write x w ops h in
-      record { before = Write k v ∷ r.before; behind = r.behind; stands = ap (λ l. Write k v ∷ l) r.stands }
-  | inr h ↦ record { before = []; behind = ops; stands = ap (λ n. Write n v ∷ ops) (eqb-true k x h.1) ∙ ap (λ n. Write x n ∷ ops) h.2 }
-]
-
 -- ---- a read
-read_before : (log : Log) (order : List ℕ) → Serial log order → (a b x w : ℕ) (after before : List Event) → a ≢ b → WritesAfter log a after x w → ReadsAfter log b before x w → Before order a b
-read_before log order s a b x w after before apart writes reads = elim (some_cases (last_write x before)) [
+-- who reads a write of another reads the key from that one
+pub source_where : (log : Log) → IsNumbered log → IsClean log → (a b x w : ℕ) (after before : List Event) → a ≢ b → WritesAfter log a after x w → ReadsAfter log b before x w → source log b x ≡ Some a
+source_where log numbered clean a b x w after before apart writes reads = elim (some_cases (last_write x before)) [
   | inl e ↦
-      let f = s.clean.external b x w before reads e in
-      let same = one_writer log s.numbered a f.0 x w after writes f.2 in
-      let from = source_from log s.clean b x f.0 w before reads e f.2 in
-      subst (λ u. Before order u b) (sym same) (source_before log order s b x f.0 reads.0 reads.1 (s.clean.keys b x w before reads) from)
+      let f = clean.external b x w before reads e in
+      source_from log clean b x f.0 w before reads e f.2 ∙ ap Some (sym (one_writer log numbered a f.0 x w after writes f.2))
   | inr own ↦
-      let same = s.clean.internal b x w own.0 before reads own.1 in
-      let o = own_write x w before (own.1 ∙ ap Some (sym same)) in
-      let stands : log.ops b ≡ o.before ++ Write x w ∷ (o.behind ++ Read x w ∷ reads.2.0) =
-      reads.2.1 ∙ ap (λ l. l ++ Read x w ∷ reads.2.0) o.stands ∙ append_assoc o.before (Write x w ∷ o.behind) (Read x w ∷ reads.2.0) in
-      absurd (apart (s.numbered.distinct a b x x w after o.before writes (reads.0, reads.1, (o.behind ++ Read x w ∷ reads.2.0, stands))).0)
+      let same = clean.internal b x w own.0 before reads own.1 in
+      -- what stands before the read, as if it were all that b did
+      let o = final_writes (record log { ops = λ v. before }) b x w reads.0 reads.1 (own.1 ∙ ap Some (sym same)) in
+      let behind : List Event = o.1.2.0 in
+      let stands : log.ops b ≡ o.0 ++ Write x w ∷ (behind ++ Read x w ∷ reads.2.0) =
+      reads.2.1 ∙ ap (λ l. l ++ Read x w ∷ reads.2.0) o.1.2.1 ∙ append_assoc o.0 (Write x w ∷ behind) (Read x w ∷ reads.2.0) in
+      absurd (apart (numbered.distinct a b x x w after o.0 writes (reads.0, reads.1, (behind ++ Read x w ∷ reads.2.0, stands))).0)
 ]
+
+read_before : (log : Log) (order : List ℕ) → Serial log order → (a b x w : ℕ) (after before : List Event) → a ≢ b → WritesAfter log a after x w → ReadsAfter log b before x w → Before order a b
+read_before log order s a b x w after before apart writes reads =
+    source_before log order s b x a reads.0 reads.1 (s.clean.keys b x w before reads) (source_where log s.numbered s.clean a b x w after before apart writes reads)
 
 -- ---- a write that is not seen
 -- r reads the key from u, and k, which writes it, stands behind u
@@ -100,15 +87,6 @@ reader_before log order s r k x u y rlo rhi klo khi key ne from writes behind =
       | inl h ↦ absurd (let back = h.0 in omega (arith, back, behind))
       | inr h ↦ h.0
     ]
-
-overwritten_before : (log : Log) (order : List ℕ) → Serial log order → (a b x w y : ℕ) (before after : List Event) → a ≢ b → ReadsAfter log a before x w → last_write x before ≡ None → ReadsAfter log b after x w → last_write x after ≡ None → last_write x (log.ops b) ≡ Some y → Before order a b
-overwritten_before log order s a b x w y before after apart ra ea rb eb writes =
-    let f = s.clean.external a x w before ra ea in
-    let key = s.clean.keys a x w before ra in
-    let from_a = source_from log s.clean a x f.0 w before ra ea f.2 in
-    let from_b = source_from log s.clean b x f.0 w after rb eb f.2 in
-    reader_before log order s a b x f.0 y ra.0 ra.1 rb.0 rb.1 key (λ e. apart (sym e)) from_a writes
-    (source_before log order s b x f.0 rb.0 rb.1 key from_b)
 
 -- ---- chains of the initial value
 -- b writes the key and reads it from nobody
@@ -135,16 +113,12 @@ record Ahead (log : Log) (order : List ℕ) (x b w : ℕ) : Type 0 where
   pub final : IsFinal log node x w
   pub before : Before order node b
 
-one_on : (ss : List ClientSession) (order : List ℕ) → Serial (log_of ss) order → (key : List ℕ) (b wid : ℕ) (l : Link) (ls : List Link) → Begins (log_of ss) (number_in (keys_in ss) key) b → AreLinked ss key wid (l ∷ ls) → Ahead (log_of ss) order (number_in (keys_in ss) key) b wid → Before order l.node b
-one_on ss order s key b wid l ls g linked a =
-    behind_begins (log_of ss) order s (number_in (keys_in ss) key) b l.node a.node wid (before_at ss l.node l.read) g
-    (reads_after ss l.node l.read key wid linked.0 linked.1.0.read) (none_before ss l.node l.read key wid linked.1.0) a.final a.before
-
 ahead_on : (ss : List ClientSession) (order : List ℕ) → Serial (log_of ss) order → (key : List ℕ) (b wid : ℕ) (l : Link) (ls : List Link) → Begins (log_of ss) (number_in (keys_in ss) key) b → AreLinked ss key wid (l ∷ ls) → Ahead (log_of ss) order (number_in (keys_in ss) key) b wid → Ahead (log_of ss) order (number_in (keys_in ss) key) b l.wid
 ahead_on ss order s key b wid l ls g linked a = record {
   node = l.node;
   final = inr (linked.0.0, within ss l.node linked.0, final_at ss l.node l.write key l.wid linked.1.1.0);
-  before = one_on ss order s key b wid l ls g linked a;
+  before = behind_begins (log_of ss) order s (number_in (keys_in ss) key) b l.node a.node wid (before_at ss l.node l.read) g
+      (reads_after ss l.node l.read key wid linked.0 linked.1.0.read) (none_before ss l.node l.read key wid linked.1.0) a.final a.before;
 }
 
 all_ahead : (ss : List ClientSession) (order : List ℕ) → Serial (log_of ss) order → (key : List ℕ) (b wid : ℕ) (links : List Link) → Begins (log_of ss) (number_in (keys_in ss) key) b → AreLinked ss key wid links → Ahead (log_of ss) order (number_in (keys_in ss) key) b wid → Ahead (log_of ss) order (number_in (keys_in ss) key) b (left_by wid links)
@@ -163,13 +137,17 @@ read_kept ss order h s a i b j r =
 
 pub overwritten_kept : (ss : List ClientSession) (order : List ℕ) → IsWellFormedList ss → IsSerialOrder ss order → (a i b j : ℕ) → IsOverwrittenBy ss a i b j → Before order a b
 overwritten_kept ss order h s a i b j r =
+    let facts = serial ss order h s in
+    let x = number_in (keys_in ss) r.key in
+    let key = key_within ss b j r.key r.next r.writes in
+    let w = wrote ss facts.clean a i r.key r.wid r.first r.reads in
+    let also = source_of_read ss facts.clean b r.also r.key r.wid w.node r.second r.reads_too w.final in
     let y = writes_some ss b j r.key r.next r.second r.writes in
-    overwritten_before (log_of ss) order (serial ss order h s) a b (number_in (keys_in ss) r.key) r.wid y.0 (before_at ss a i) (before_at ss b r.also) r.apart
-    (reads_after ss a i r.key r.wid r.first r.reads.read) (none_before ss a i r.key r.wid r.reads)
-    (reads_after ss b r.also r.key r.wid r.second r.reads_too.read) (none_before ss b r.also r.key r.wid r.reads_too) y.1
+    reader_before (log_of ss) order facts a b x w.node y.0 r.first.0 (within ss a r.first) r.second.0 (within ss b r.second) key (λ e. r.apart (sym e)) w.is y.1
+    (source_before (log_of ss) order facts b x w.node r.second.0 (within ss b r.second) key also)
 
 -- who reads the key from a node reads it externally
-unread_source : (ss : List ClientSession) → IsClean (log_of ss) → (b : ℕ) (key : List ℕ) → 0 < b → b ≤ (log_of ss).nodes → ((i w : ℕ) → ReadsAt ss b i key w → ⊥) → source (log_of ss) b (number_in (keys_in ss) key) ≡ None
+pub unread_source : (ss : List ClientSession) → IsClean (log_of ss) → (b : ℕ) (key : List ℕ) → 0 < b → b ≤ (log_of ss).nodes → ((i w : ℕ) → ReadsAt ss b i key w → ⊥) → source (log_of ss) b (number_in (keys_in ss) key) ≡ None
 unread_source ss clean b key lo hi unread = elim (some_cases (source (log_of ss) b (number_in (keys_in ss) key))) [
   | inl e ↦ e
   | inr u ↦

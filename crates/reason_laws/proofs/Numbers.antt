@@ -6,7 +6,9 @@ use Rattle.session_log.specs.Text.{ClientSession, key_of}
 use Rattle.session_log.specs.declared.session.Op.{Op}
 use Rattle.session_log.specs.declared.session.Op.TheVariants.{Read, Write}
 use Rattle.serializability.specs.declared.event.Event.{Event}
-use Rattle.serializability.specs.Reads.{last_write, ReadsAfter, WritesAfter}
+use Rattle.serializability.specs.Reads.{last_write, IsFinal, ReadsAfter, WritesAfter, IsClean}
+use Rattle.serializability.specs.Polygraph.{source}
+use Rattle.serializability.proofs.Sources.{source_from}
 use Rattle.anomaly_laws.proofs.Writes.{writes_at, some_last_write}
 use Rattle.log_definitions.specs.WellFormed.{keys_in}
 use Rattle.log_definitions.specs.Serial.{session_of, ops_of, begun_of, ended_of}
@@ -69,6 +71,21 @@ pub none_before : (ss : List ClientSession) (v i : ℕ) (key : List ℕ) (wid : 
 none_before ss v i key wid r =
     none_written (keys_in ss) key (take i (ops_of ss v))
     (each_taken (λ o. Listed (keys_in ss) (key_of o)) i (ops_of ss v) (ops_listed ss v)) r.external
+
+-- what is read, as the log has it
+pub source_of_read : (ss : List ClientSession) → IsClean (log_of ss) → (v i : ℕ) (key : List ℕ) (wid u : ℕ) → IsNode ss v → ReadsAt ss v i key wid → IsFinal (log_of ss) u (number_in (keys_in ss) key) wid → source (log_of ss) v (number_in (keys_in ss) key) ≡ Some u
+source_of_read ss clean v i key wid u node r final =
+    source_from (log_of ss) clean v (number_in (keys_in ss) key) u wid (before_at ss v i) (reads_after ss v i key wid node r.read) (none_before ss v i key wid r) final
+
+pub record Wrote (ss : List ClientSession) (v : ℕ) (key : List ℕ) (wid : ℕ) : Type 0 where
+  pub node : ℕ
+  pub final : IsFinal (log_of ss) node (number_in (keys_in ss) key) wid
+  pub is : source (log_of ss) v (number_in (keys_in ss) key) ≡ Some node
+
+pub wrote : (ss : List ClientSession) → IsClean (log_of ss) → (v i : ℕ) (key : List ℕ) (wid : ℕ) → IsNode ss v → ReadsAt ss v i key wid → Wrote ss v key wid
+wrote ss clean v i key wid node r =
+    let f = clean.external v (number_in (keys_in ss) key) wid (before_at ss v i) (reads_after ss v i key wid node r.read) (none_before ss v i key wid r) in
+    record { node = f.0; final = f.2; is = source_of_read ss clean v i key wid f.0 node r f.2 }
 
 next_drop : (i : ℕ) (ops : List Op) → drop (i + 1) ops ≡ drop (suc i) ops
 next_drop i ops = let e : i + 1 ≡ suc i = omega arith in ap (λ n. drop n ops) e

@@ -1,11 +1,11 @@
 pub mod Positions
 pub mod Ops
-pub mod Writers
+pub mod Firsts
+pub mod Named
 pub mod Least
 pub mod Overwrites
 pub mod Walked
 pub mod Beginnings
-pub mod Begun
 pub mod Pairs
 pub mod Looks
 pub mod Squares

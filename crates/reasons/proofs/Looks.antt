@@ -1,9 +1,9 @@
 -- How often a search for crossed reads looks at what is read, read by read.
-use Rattle.std.proofs.Common.{◌≡◌, ℕ, min, ◌+◌, ◌-◌, ◌*◌, ◌<◌, List, [], ◌∷◌, length, get_or, refl, sym, ap, ◌∙◌, subst, arith}
+use Rattle.std.proofs.Common.{◌≡◌, ℕ, min, ◌+◌, ◌-◌, ◌*◌, ◌<◌, List, length, get_or, sym, ap, ◌∙◌, subst, arith}
 use Rattle.std.specs.Prelude.{map}
 use Rattle.std.specs.List.{sum_by, AllByRecursion, range_with_len}
 use Rattle.std.proofs.lemmas.List.{length-map}
-use Rattle.std.proofs.lemmas.List.Sums.{sum_by-cons, sum_by_push}
+use Rattle.std.proofs.lemmas.List.Sums.{sum_by_push}
 use Rattle.serializability.specs.Log.{Log}
 use Rattle.serializability.proofs.Places.{each_of_map}
 use Rattle.serializability.proofs.SoFar.{range_last}
@@ -15,18 +15,13 @@ use Rattle.reasons.specs.Crossed.{looks_at, looks}
 use Rattle.reasons.proofs.Pairs.{Read, reads_of}
 
 -- at one read, where so many keys are read
-abbrev pub looks_by : Log → ℕ → ReadFrom → ℕ
-looks_by log count read = count * (length (writers_in log read.key) + 1)
+abbrev pub looks_by : Log → ℕ → ℕ × ℕ → ℕ
+looks_by log count read = count * (length (writers_in log read.0) + 1)
 
-sum_mapped : {X Y : Type 0} (f : X → Y) (g : Y → ℕ) (xs : List X) → sum_by (λ x. g (f x)) xs ≡ sum_by g (map f xs)
-sum_mapped f g [] = refl
-sum_mapped f g (x ∷ xs) = sum_by-cons (λ x. g (f x)) x xs ∙ ap (λ n. g (f x) + n) (sum_mapped f g xs) ∙ sym (sum_by-cons g (f x) (map f xs))
-
-pub looks_all : (log : Log) (r : ℕ) (reads : List ReadFrom) → map pair_of reads ≡ sources_of log r → sum_by (looks_by log (length reads)) reads ≡ looks_at log r
+pub looks_all : (log : Log) (r : ℕ) (reads : List ReadFrom) → map pair_of reads ≡ sources_of log r → sum_by (looks_by log (length reads)) (map pair_of reads) ≡ looks_at log r
 looks_all log r reads e =
     let count : length reads ≡ length (sources_of log r) = sym (length-map reads pair_of) ∙ ap length e in
-    let weigh : ℕ → ℕ × ℕ → ℕ = λ n p. n * (length (writers_in log p.0) + 1) in
-    sum_mapped pair_of (weigh (length reads)) reads ∙ ap (sum_by (weigh (length reads))) e ∙ ap (λ n. sum_by (weigh n) (sources_of log r)) count
+    ap (sum_by (looks_by log (length reads))) e ∙ ap (λ n. sum_by (looks_by log n) (sources_of log r)) count
 
 -- its key is one of the log's
 pub key_read : (log : Log) (r : ℕ) (reads : List ReadFrom) → map pair_of reads ≡ sources_of log r → (i : ℕ) (read : ReadFrom) → i < length reads → read ≡ get_or reads i read → read.key < log.keys

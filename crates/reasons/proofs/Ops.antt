@@ -1,8 +1,7 @@
 -- Operations of the sessions, and events of the log.
-use Rattle.std.proofs.Common.{◌≡◌, ◌≢◌, ℕ, zero, suc, ◌<◌, true, eqb, List, [], ◌∷◌, Some, refl, sym, ap, ◌∙◌, subst, arith, length, get_or, eqb-true, eq-eqb}
+use Rattle.std.proofs.Common.{◌≡◌, ℕ, zero, suc, ◌<◌, List, [], ◌∷◌, Some, refl, sym, ap, ◌∙◌, subst, arith, length, get_or}
 use Rattle.std.specs.Prelude.{slice_get}
-use Rattle.std.proofs.lemmas.Bool.{false≢true, and_parts, and_from}
-use Rattle.std.proofs.lemmas.Option.{slice_get-get_or, slice_get_within}
+use Rattle.std.proofs.lemmas.Option.{slice_get-get_or}
 use Rattle.session_log.specs.Text.{ClientSession, key_of}
 use Rattle.session_log.specs.declared.session.Op.{Op}
 use Rattle.session_log.specs.declared.session.Op.TheVariants.{Read, Write}
@@ -15,12 +14,8 @@ use Rattle.log_definitions.proofs.Keys.{number_below, same_number}
 use Rattle.serializability.specs.Log.{Log}
 use Rattle.serializability.specs.Events.{event_key}
 use Rattle.log_definitions.proofs.Nodes.{log_keys}
-use Rattle.reason_laws.specs.Reasons.{IsNode, IsOpAt, IsReadBy}
+use Rattle.reason_laws.specs.Reasons.{IsOpAt}
 use Rattle.reason_laws.proofs.Numbers.{ops_is, listed_at}
-use Rattle.reasons.specs.Events.{names}
-use Rattle.reasons.specs.Given.{IsLeastRead, NoneRead}
-use Rattle.reasons.proofs.Positions.{FirstAt, any_from, some_at}
-use Rattle.reasons.specs.Events.{names_any}
 
 -- ---- one operation, and its event
 pub record OpIn (keys : List (List ℕ)) (ops : List Op) (i : ℕ) (e : Event) : Type 0 where
@@ -94,82 +89,9 @@ key_below ss v i e h =
     let all = log_keys ss in
     omega (arith, below, n, all)
 
--- ---- a read that names a write
-record Names (e f : Event) : Type 0 where
-  pub key : ℕ
-  pub wid : ℕ
-  pub read : e ≡ event.Read key wid
-  pub write : f ≡ event.Write key wid
-
-named : (e f : Event) → names e f ≡ true → Names e f
-named (event.Read x w) (event.Read k v) t = absurd (false≢true t)
-named (event.Read x w) (event.Write k v) t =
-    let p = and_parts (eqb k x) (eqb v w) t in
-    record { key = x; wid = w; read = refl; write = ap (λ n. event.Write n v) (eqb-true k x p.0) ∙ ap (event.Write x) (eqb-true v w p.1) }
-named (event.Write x w) f t = absurd (false≢true t)
-
-pub names_self : (x w : ℕ) → names (event.Read x w) (event.Write x w) ≡ true
-names_self x w = and_from (eqb x x) (eqb w w) (eq-eqb x x refl) (eq-eqb w w refl)
-
-read_by_names : (ss : List ClientSession) (a b i j : ℕ) (e f : Event) → IsNode ss a → IsNode ss b → a ≢ b → slice_get ((log_of ss).ops b) j ≡ Some e → slice_get ((log_of ss).ops a) i ≡ Some f → names e f ≡ true → IsReadBy ss a i b j
-read_by_names ss a b i j e f first second apart at at' t =
-    let n = named e f t in
-    let read = read_at ss b j n.key n.wid (at ∙ ap Some n.read) in
-    let write = write_at ss a i n.key n.wid (at' ∙ ap Some n.write) in
-    let same : write.key ≡ read.key = same_key ss a i (Write write.key n.wid) read.key write.stands (write.number ∙ sym read.number) in
-    record {
-      first = first;
-      second = second;
-      apart = apart;
-      key = read.key;
-      wid = n.wid;
-      writes = subst (λ k. IsOpAt ss a i (Write k n.wid)) same write.stands;
-      reads = read.stands;
-    }
-
--- ---- the first read that names a write
-event_read : (ss : List ClientSession) (a b i j : ℕ) (r : IsReadBy ss a i b j) → slice_get ((log_of ss).ops b) j ≡ Some (event.Read (number_in (keys_in ss) r.key) r.wid)
-event_read ss a b i j r = event_at ss b j (Read r.key r.wid) r.reads
-
-event_write : (ss : List ClientSession) (a b i j : ℕ) (r : IsReadBy ss a i b j) → slice_get ((log_of ss).ops a) i ≡ Some (event.Write (number_in (keys_in ss) r.key) r.wid)
-event_write ss a b i j r = event_at ss a i (Write r.key r.wid) r.writes
-
-any_named : (ss : List ClientSession) (a b i j : ℕ) (r : IsReadBy ss a i b j) → names_any (log_of ss) a (event.Read (number_in (keys_in ss) r.key) r.wid) ≡ true
-any_named ss a b i j r =
-    any_from (names (event.Read (number_in (keys_in ss) r.key) r.wid)) ((log_of ss).ops a) i (event.Write (number_in (keys_in ss) r.key) r.wid)
-    (event_write ss a b i j r) (names_self (number_in (keys_in ss) r.key) r.wid)
-
-pub none_read : (ss : List ClientSession) (a b : ℕ) → ((k : ℕ) (e : Event) → slice_get ((log_of ss).ops b) k ≡ Some e → names_any (log_of ss) a e ≡ true → ⊥) → NoneRead ss a b
-none_read ss a b h i j r = h j (event.Read (number_in (keys_in ss) r.key) r.wid) (event_read ss a b i j r) (any_named ss a b i j r)
-
--- the read that was found names some write
-pub none_first : (log : Log) (a b read : ℕ) (e : Event) → FirstAt (names_any log a) (log.ops b) read → slice_get (log.ops b) read ≡ Some e → ((k : ℕ) (f : Event) → slice_get (log.ops a) k ≡ Some f → names e f ≡ true → ⊥) → ⊥
-none_first log a b read e r at h =
-    let found : Some r.item ≡ Some e = sym r.stands ∙ at in
-    let same : r.item ≡ e = cc in
-    let s = some_at (names e) (log.ops a) (ap (names_any log a) (sym same) ∙ r.passes) in
-    h s.place s.item s.stands s.passes
-
-pub first_read : (ss : List ClientSession) (a b written read : ℕ) (e : Event) → IsNode ss a → IsNode ss b → a ≢ b → slice_get ((log_of ss).ops b) read ≡ Some e → FirstAt (names e) ((log_of ss).ops a) written → IsReadBy ss a written b read
-first_read ss a b written read e first second apart at w =
-    read_by_names ss a b written read e w.item first second apart at w.stands w.passes
-
-pub least_read : (ss : List ClientSession) (a b written read : ℕ) (e : Event) → FirstAt (names_any (log_of ss) a) ((log_of ss).ops b) read → slice_get ((log_of ss).ops b) read ≡ Some e → FirstAt (names e) ((log_of ss).ops a) written → IsLeastRead ss a written b read
-least_read ss a b written read e r at w = record {
-  second = λ i j o. r.first j (event.Read (number_in (keys_in ss) o.key) o.wid) (event_read ss a b i j o) (any_named ss a b i j o);
-  first = λ i o.
-      (let found : Some (event.Read (number_in (keys_in ss) o.key) o.wid) ≡ Some e = sym (event_read ss a b i read o) ∙ at in
-      let same : event.Read (number_in (keys_in ss) o.key) o.wid ≡ e = cc in
-      w.first i (event.Write (number_in (keys_in ss) o.key) o.wid) (event_write ss a b i read o)
-      (ap (λ d. names d (event.Write (number_in (keys_in ss) o.key) o.wid)) (sym same) ∙ names_self (number_in (keys_in ss) o.key) o.wid));
-}
-
 -- ---- the item of a loop over the events of a node
 pub item_at : (log : Log) (v i : ℕ) (es : List Event) (d : Event) → es ≡ log.ops v → i < length es → slice_get (log.ops v) i ≡ Some (get_or es i d)
 item_at log v i es d own lt = ap (λ l. slice_get l i) (sym own) ∙ slice_get-get_or es i d lt
-
-pub found_at : (log : Log) (v i : ℕ) (es : List Event) (d : Event) → es ≡ log.ops v → (e : Event) → slice_get (log.ops v) i ≡ Some e → slice_get (log.ops v) i ≡ Some (get_or es i d)
-found_at log v i es d own e at = item_at log v i es d own (slice_get_within es i e (ap (λ l. slice_get l i) own ∙ at))
 
 pub key_below_at : (ss : List ClientSession) (v i : ℕ) (es : List Event) (d : Event) → es ≡ (log_of ss).ops v → i < length es → event_key (get_or es i d) < (log_of ss).keys
 key_below_at ss v i es d own lt = key_below ss v i (get_or es i d) (item_at (log_of ss) v i es d own lt)

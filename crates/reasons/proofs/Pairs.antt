@@ -10,7 +10,8 @@ use Rattle.serializability.specs.Log.{Log}
 use Rattle.serializability.specs.Reads.{IsClean}
 use Rattle.serializability.specs.Polygraph.{source, all_keys}
 use Rattle.serializability.proofs.Sources.{source_is}
-use Rattle.serializability.proofs.Places.{each_from_range}
+use Rattle.list_lemmas.proofs.Each.{member, each_member}
+use Rattle.serializability.proofs.Places.{each_from_range, each_from_map}
 use Rattle.reach_laws.proofs.Walks.{each_contained}
 use Rattle.session_history.specs.Tables.{sources_of, pair_at, pairs}
 use Rattle.session_history.specs.declared.reads.ReadFrom.{ReadFrom}
@@ -59,14 +60,6 @@ reads_of log r = each_read (λ x. x < log.keys) (source log r) (all_keys log) (e
 
 -- ---- the pairs of a node
 
-each_mapped : {X Y : Type 0} (f : X → Y) (P : Y → Type 0) (xs : List X) → AllByRecursion (λ x. P (f x)) xs → AllByRecursion P (map f xs)
-each_mapped f P [] h = tt
-each_mapped f P (x ∷ xs) h = (h.0, each_mapped f P xs h.1)
-
-each_both : (log : Log) (r x u : ℕ) → 0 < r → r ≤ log.nodes → source log r x ≡ Some u → (ps : List (ℕ × ℕ)) → AllByRecursion (Read log r) ps → AllByRecursion {X = ℕ × ℕ} (λ p. ReadsBoth log r x u p.0 p.1) ps
-each_both log r x u low high from [] h = tt
-each_both log r x u low high from (p ∷ ps) h = (record { low = low; high = high; first = from; second = h.0.1 }, each_both log r x u low high from ps h.1)
-
 by_reads : (r u : ℕ) (reads : List ReadFrom) → map (λ read. pair r u read.key read.source) reads ≡ pairs_by r u (map pair_of reads)
 by_reads r u [] = refl
 by_reads r u (read ∷ reads) = ap (λ l. pair r u read.key read.source ∷ l) (by_reads r u reads)
@@ -83,7 +76,7 @@ node_further log clean x r u old low high from h =
       sound = λ p c.
           elim (Contains-append_cases old own p c) [
             | inl c ↦ h.sound p c
-            | inr c ↦ each_contained In own p (each_mapped (λ (q : ℕ × ℕ). pair r u q.0 q.1) In (sources_of log r) (each_both log r x u low high from (sources_of log r) (reads_of log r))) c
+            | inr c ↦ each_contained In own p (each_from_map In (λ (q : ℕ × ℕ). pair r u q.0 q.1) (sources_of log r) (each_member (λ (q : ℕ × ℕ). In (pair r u q.0 q.1)) (sources_of log r) read)) c
           ];
       all = λ s v y w b lt.
           elim (cases_eq s r) [
@@ -92,6 +85,9 @@ node_further log clean x r u old low high from h =
           ];
     }
   where
+    read : (q : ℕ × ℕ) → Contains (sources_of log r) q → ReadsBoth log r x u q.0 q.1
+    read q c = record { low = low; high = high; first = from; second = (member (Read log r) (sources_of log r) q (reads_of log r) c).1 }
+
     at : (s v y w : ℕ) → ReadsBoth log s x v y w → s ≡ r → Contains (pairs_by r u (sources_of log r)) (pair s v y w)
     at s v y w b same =
         let first : source log r x ≡ Some v = subst (λ n. source log n x ≡ Some v) same b.first in

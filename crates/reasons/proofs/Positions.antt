@@ -1,12 +1,13 @@
 -- The first item of a list that passes.
-use Rattle.std.proofs.Common.{◌≡◌, ℕ, zero, suc, ◌<◌, ◌≤◌, Bool, true, not, List, [], ◌∷◌, length, None, Some, refl, sym, ap, ◌∙◌, inl, inr, arith, get_or, lt-ltb, take}
+use Rattle.std.proofs.Common.{◌≡◌, ℕ, zero, suc, ◌<◌, ◌≤◌, Bool, true, not, List, [], ◌∷◌, length, None, Some, sym, ap, ◌∙◌, inl, inr, arith, ◌+◌, subst, get_or, lt-ltb, take}
 use Rattle.std.specs.Prelude.{slice_get, nat_lt, position}
-use Rattle.std.specs.List.{position_or_len, list_any, AllByRecursion}
-use Rattle.std.proofs.lemmas.Bool.{false≢true, cond-true, or_cases, cases_lt, not-false}
-use Rattle.std.proofs.lemmas.List.Folds.{list_any_at}
+use Rattle.std.specs.List.{position_or_len, AllByRecursion}
+use Rattle.std.proofs.lemmas.Bool.{false≢true, cond-true, cases_lt, cases_eq, not-false}
 use Rattle.std.proofs.lemmas.List.Sums.{prefix_len_passes, prefix_len_stops}
 use Rattle.std.proofs.lemmas.Option.{slice_get_within, slice_get_cases, get_or_from_slice_get}
 use Rattle.session_log.proofs.Lines.{position_some}
+use Rattle.serializability.specs.declared.event.Event.{Event}
+use Rattle.reasons.specs.Events.{NoneBefore}
 
 no_later : {X : Type 0} (p : X → Bool) (xs : List X) (k : ℕ) (y : X) → slice_get xs k ≡ Some y → p y ≡ true → position_or_len p xs ≤ k
 no_later p xs k y e t = elim (cases_lt k (position_or_len p xs)) [
@@ -46,25 +47,29 @@ none_passes p xs e k y at t =
     let bad : None ≡ Some n = e ∙ s in
     cc
 
--- ---- some item that passes
-pub any_from : {X : Type 0} (p : X → Bool) (xs : List X) (k : ℕ) (y : X) → slice_get xs k ≡ Some y → p y ≡ true → list_any p xs ≡ true
-any_from p xs k y e t = list_any_at p xs k y (slice_get_within xs k y e) (ap p (get_or_from_slice_get xs k y y e) ∙ t)
+-- ---- a loop that looks for the first operation of a kind
+pub none_yet : (P : Event → Type 0) (ops : List Event) → NoneBefore P ops 0
+none_yet P ops = record { none = λ k e below. absurd (omega (arith, below)) }
 
-pub record SomeAt {X : Type 0} (p : X → Bool) (xs : List X) : Type 0 where
-  pub place : ℕ
-  pub item : X
-  pub stands : slice_get xs place ≡ Some item
-  pub passes : p item ≡ true
+pub none_further : (P : Event → Type 0) (ops : List Event) (n : ℕ) (e : Event) → slice_get ops n ≡ Some e → NoneBefore P ops n → (P e → ⊥) → NoneBefore P ops (n + 1)
+none_further P ops n e here h not_here = record {
+  none = λ k y below at is. elim (cases_eq k n) [
+    | inl same ↦
+        let found : Some e ≡ Some y = sym here ∙ ap (slice_get ops) (sym same) ∙ at in
+        let item : e ≡ y = cc in
+        not_here (subst P (sym item) is)
+    | inr ne ↦ h.none k y (omega (arith, ne, below)) at is
+  ];
+}
 
-some_further : {X : Type 0} (p : X → Bool) (x : X) (xs : List X) → SomeAt p xs → SomeAt p (x ∷ xs)
-some_further p x xs h = record { place = suc h.place; item = h.item; stands = h.stands; passes = h.passes }
-
-pub some_at : {X : Type 0} (p : X → Bool) (xs : List X) → list_any p xs ≡ true → SomeAt p xs
-some_at p [] h = absurd (false≢true h)
-some_at p (x ∷ xs) h = elim (or_cases (p x) (list_any p xs) h) [
-  | inl t ↦ record { place = 0; item = x; stands = refl; passes = t }
-  | inr r ↦ some_further p x xs (some_at p xs r)
+pub not_before : (P : Event → Type 0) (ops : List Event) (n j : ℕ) (e : Event) → NoneBefore P ops n → slice_get ops j ≡ Some e → P e → n ≤ j
+not_before P ops n j e h at is = elim (cases_lt j n) [
+  | inl lt ↦ absurd (h.none j e lt at is)
+  | inr le ↦ le
 ]
+
+pub none_at_all : (P : Event → Type 0) (ops : List Event) (n : ℕ) → length ops ≤ n → NoneBefore P ops n → NoneBefore P ops (length ops)
+none_at_all P ops n all h = record { none = λ k e below. h.none k e (omega (arith, below, all)) }
 
 -- ---- fewer of the first ones
 pub take_fewer : {X : Type 0} (P : X → Type 0) (i k : ℕ) (xs : List X) → i ≤ k → AllByRecursion P (take k xs) → AllByRecursion P (take i xs)

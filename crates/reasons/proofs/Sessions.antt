@@ -1,12 +1,11 @@
 -- Lines of nodes of which each run of one session is told by its ends.
-use Rattle.std.proofs.Common.{◌≡◌, ◌⊎◌, ℕ, zero, suc, ◌+◌, ◌-◌, ◌<◌, ◌≤◌, true, false, List, [], ◌∷◌, ◌++◌, length, get_or, take, drop, append_assoc, refl, sym, ap, ◌∙◌, subst, inl, inr, arith, eqb, eqb-true, eq-eqb, length-append}
+use Rattle.std.proofs.Common.{◌≡◌, ◌⊎◌, ℕ, zero, suc, ◌+◌, ◌<◌, true, false, List, [], ◌∷◌, ◌++◌, length, get_or, refl, sym, ap, ◌∙◌, subst, inl, inr, arith, eqb, eqb-true, eq-eqb}
 use Rattle.std.specs.Prelude.{nat_lt}
 use Rattle.std.proofs.lemmas.Bool.{false≢true, and_parts, cond_both, ltb-true, lt-ltb}
-use Rattle.std.proofs.lemmas.List.{drop_more, drop_all, take_all}
 use Rattle.session_log.specs.Text.{ClientSession}
 use Rattle.log_definitions.specs.Serial.{session_of}
 use Rattle.reason_laws.specs.Reasons.{IsNode, AreOfSession}
-use Rattle.reasons.specs.Runs.{is_behind, goes_on, runs_from, without_runs}
+use Rattle.reasons.specs.Runs.{is_behind, goes_on, is_between, told_behind, without_runs}
 
 -- ---- of one session
 pub of_session : (ss : List ClientSession) (a b : ℕ) → IsNode ss a → IsNode ss b → is_behind ss a b ≡ true → AreOfSession ss a b
@@ -67,121 +66,48 @@ Beside u v [] = ⊥
 Beside u v (a ∷ []) = ⊥
 Beside u v (a ∷ b ∷ rest) = ((a ≡ u) × (b ≡ v)) ⊎ Beside u v (b ∷ rest)
 
--- ---- a line that begins with these two
+-- ---- the line that is told
 module _ (ss : List ClientSession) where
-  begins : (a b : ℕ) (rest : List ℕ) → (tail : List ℕ) × (runs_from ss a b rest ≡ a ∷ tail)
-  unfolding runs_from
-  begins a b [] = (b ∷ [], refl)
-  begins a b (c ∷ rest) =
-      cond_both (goes_on ss a b c) (runs_from ss a c rest) (a ∷ runs_from ss b c rest) (λ l. (tail : List ℕ) × (l ≡ a ∷ tail))
-      (λ t. begins a c rest) (λ f. (runs_from ss b c rest, refl))
-
-  pub run_goes_on : (a b c : ℕ) (rest : List ℕ) → goes_on ss a b c ≡ true → runs_from ss a b (c ∷ rest) ≡ runs_from ss a c rest
-  unfolding runs_from
-  run_goes_on a b c rest t = rw t
-
-  pub run_ends : (a b c : ℕ) (rest : List ℕ) → goes_on ss a b c ≡ false → runs_from ss a b (c ∷ rest) ≡ a ∷ runs_from ss b c rest
-  unfolding runs_from
-  run_ends a b c rest f = rw f
-
-  pub run_last : (a b : ℕ) → runs_from ss a b [] ≡ a ∷ b ∷ []
-  unfolding runs_from
-  run_last a b = refl
-
-  -- one node more
-  module _ (made behind : List ℕ) (a b c i : ℕ) (lt : i < length behind) (here : c ≡ get_or behind i c) where
-    behind_it : drop i behind ≡ c ∷ drop (i + 1) behind
-    behind_it = drop_more behind i c lt ∙ ap (λ n. n ∷ drop (i + 1) behind) (sym here)
-
-    pub runs_on : (whole : List ℕ) → made ++ runs_from ss a b (drop i behind) ≡ whole → goes_on ss a b c ≡ true → made ++ runs_from ss a c (drop (i + 1) behind) ≡ whole
-    runs_on whole h t = ap (λ l. made ++ l) (sym (ap (runs_from ss a b) behind_it ∙ run_goes_on a b c (drop (i + 1) behind) t)) ∙ h
-
-    pub run_told : (new whole : List ℕ) → new ≡ made ++ a ∷ [] → made ++ runs_from ss a b (drop i behind) ≡ whole → goes_on ss a b c ≡ false → new ++ runs_from ss b c (drop (i + 1) behind) ≡ whole
-    run_told new whole e h f =
-        ap (λ l. l ++ runs_from ss b c (drop (i + 1) behind)) e
-        ∙ append_assoc made (a ∷ []) (runs_from ss b c (drop (i + 1) behind))
-        ∙ ap (λ l. made ++ l) (sym (ap (runs_from ss a b) behind_it ∙ run_ends a b c (drop (i + 1) behind) f))
-        ∙ h
-
-  pub runs_done : (line made : List ℕ) (a b first second i : ℕ) → 2 ≤ length line → first ≡ get_or line 0 first → second ≡ get_or line 1 second → length (take (length line - 2) (drop 2 line)) ≤ i
-      → made ++ runs_from ss a b (drop i (take (length line - 2) (drop 2 line))) ≡ runs_from ss first second (take (length line - 2) (drop 2 line)) → (made ++ a ∷ []) ++ b ∷ [] ≡ without_runs ss line
-  runs_done [] made a b first second i long one two past h = absurd (omega (arith, long))
-  runs_done (x ∷ []) made a b first second i long one two past h = absurd (omega (arith, long))
-  runs_done (x ∷ y ∷ rest) made a b first second i long one two past h =
-      let count : length (x ∷ y ∷ rest) - 2 ≡ length rest = omega arith in
-      let behind : take (length (x ∷ y ∷ rest) - 2) rest ≡ rest = ap (λ n. take n rest) count ∙ take_all (length rest) rest (omega arith) in
-      append_assoc made (a ∷ []) (b ∷ [])
-      ∙ ap (λ l. made ++ l) (sym (ap (runs_from ss a b) (drop_all i (take (length (x ∷ y ∷ rest) - 2) rest) past) ∙ run_last a b))
-      ∙ h
-      ∙ ap (runs_from ss first second) behind
-      ∙ (λ k. runs_from ss (one k) (two k) rest)
-
   module _ (P : ℕ → ℕ → Type 0) (join : (a b c : ℕ) → P a b → P b c → goes_on ss a b c ≡ true → P a c) where
-    step_more : (a b : ℕ) (line : List ℕ) → P a b → (r : (tail : List ℕ) × (line ≡ b ∷ tail)) → AllSteps P line → AllSteps P (a ∷ line)
-    unfolding AllSteps
-    step_more a b line p r h = subst (λ l. AllSteps P (a ∷ l)) (sym r.1) (p, subst (AllSteps P) r.1 h)
-
-    steps_from : (a b : ℕ) (rest : List ℕ) → P a b → AllSteps P (b ∷ rest) → AllSteps P (runs_from ss a b rest)
-    unfolding runs_from AllSteps
-    steps_from a b [] p h = (p, tt)
-    steps_from a b (c ∷ rest) p h =
-        cond_both (goes_on ss a b c) (runs_from ss a c rest) (a ∷ runs_from ss b c rest) (AllSteps P)
-        (λ t. steps_from a c rest (join a b c p h.0 t) h.1)
-        (λ f. step_more a b (runs_from ss b c rest) p (begins b c rest) (steps_from b c rest h.0 h.1))
+    steps_behind : (a : ℕ) (rest : List ℕ) → AllSteps P (a ∷ rest) → AllSteps P (a ∷ told_behind ss a rest)
+    unfolding told_behind AllSteps
+    steps_behind a [] h = h
+    steps_behind a (b ∷ []) h = h
+    steps_behind a (b ∷ c ∷ rest) h =
+        cond_both (goes_on ss a b c) (told_behind ss a (c ∷ rest)) (b ∷ told_behind ss b (c ∷ rest)) (λ l. AllSteps P (a ∷ l))
+        (λ t. steps_behind a (c ∷ rest) (join a b c h.0 h.1.0 t, h.1.1))
+        (λ f. (h.0, steps_behind b (c ∷ rest) h.1))
 
     steps_left : (line : List ℕ) → AllSteps P line → AllSteps P (without_runs ss line)
-    unfolding AllSteps
-    steps_left [] h = tt
-    steps_left (a ∷ []) h = tt
-    steps_left (a ∷ b ∷ rest) h = steps_from a b rest h.0 h.1
+    steps_left [] h = h
+    steps_left (a ∷ rest) h = steps_behind a rest h
 
     pub runs_each : (line : List ℕ) → ((i : ℕ) → i + 1 < length line → P (get_or line i 0) (get_or line (i + 1) 0)) → (i : ℕ) → i + 1 < length (without_runs ss line) → P (get_or (without_runs ss line) i 0) (get_or (without_runs ss line) (i + 1) 0)
     runs_each line h = each_step P (without_runs ss line) (steps_left line (all_steps P line h))
 
   pub runs_some : (line : List ℕ) → 0 < length line → 0 < length (without_runs ss line)
   runs_some [] lt = lt
-  runs_some (a ∷ []) lt = lt
-  runs_some (a ∷ b ∷ rest) lt = let r = begins a b rest in omega (arith, ap length r.1)
+  runs_some (a ∷ rest) lt = omega arith
 
   -- ---- its ends
   abbrev pub LeadsTo : ℕ → ℕ → List ℕ → Type 0
   LeadsTo u v line = (inner : List ℕ) × (line ≡ u ∷ (inner ++ v ∷ []))
 
-  nothing_more : (front : List ℕ) (v : ℕ) → [] ≡ front ++ v ∷ [] → ⊥
-  nothing_more front v e = omega (arith, ap length e, length-append front (v ∷ []))
-
-  one_left : (b v : ℕ) (front : List ℕ) → b ∷ [] ≡ front ++ v ∷ [] → b ≡ v
-  one_left b v [] e = cc
-  one_left b v (x ∷ front) e = absurd (nothing_more front v (cc))
-
-  some_left : (b c v : ℕ) (rest front : List ℕ) → b ∷ c ∷ rest ≡ front ++ v ∷ [] → (behind : List ℕ) × (c ∷ rest ≡ behind ++ v ∷ [])
-  some_left b c v rest [] e = absurd (omega (arith, ap length e))
-  some_left b c v rest (x ∷ front) e = (front, cc)
-
-  ends_from : (a b v : ℕ) (rest front : List ℕ) → b ∷ rest ≡ front ++ v ∷ [] → LeadsTo a v (runs_from ss a b rest)
-  unfolding runs_from
-  ends_from a b v [] front e = ([], ap (λ n. a ∷ n ∷ []) (one_left b v front e))
-  ends_from a b v (c ∷ rest) front e =
-      let later = some_left b c v rest front e in
-      let behind : List ℕ = later.0 in
-      let h : c ∷ rest ≡ behind ++ v ∷ [] = later.1 in
-      cond_both (goes_on ss a b c) (runs_from ss a c rest) (a ∷ runs_from ss b c rest) (LeadsTo a v)
-      (λ t. ends_from a c v rest behind h)
-      (λ f. (let r = ends_from b c v rest behind h in (b ∷ r.0, ap (λ l. a ∷ l) r.1)))
+  ends_behind : (a v : ℕ) (inner : List ℕ) → (front : List ℕ) × (told_behind ss a (inner ++ v ∷ []) ≡ front ++ v ∷ [])
+  unfolding told_behind
+  ends_behind a v [] = ([], refl)
+  ends_behind a v (b ∷ inner) =
+      cond_both (is_between ss a b (inner ++ v ∷ [])) (told_behind ss a (inner ++ v ∷ [])) (b ∷ told_behind ss b (inner ++ v ∷ [])) (λ l. (front : List ℕ) × (l ≡ front ++ v ∷ []))
+      (λ t. ends_behind a v inner)
+      (λ f. (let r = ends_behind b v inner in (b ∷ r.0, ap (λ l. b ∷ l) r.1)))
 
   pub runs_ends : (u v : ℕ) (inner : List ℕ) → LeadsTo u v (without_runs ss (u ∷ (inner ++ v ∷ [])))
-  runs_ends u v [] = ends_from u v v [] [] refl
-  runs_ends u v (b ∷ inner) = ends_from u b v (inner ++ v ∷ []) (b ∷ inner) refl
+  runs_ends u v inner = let r = ends_behind u v inner in (r.0, ap (λ l. u ∷ l) r.1)
 
   -- ---- what stands side by side and is no run
   module _ (u v : ℕ) (apart : is_behind ss u v ≡ false) where
     no_run : (a b : ℕ) → (a ≡ u) × (b ≡ v) → is_behind ss a b ≡ true → ⊥
     no_run a b e t = false≢true (sym apart ∙ (λ i. is_behind ss (sym e.0 i) (sym e.1 i)) ∙ t)
-
-    beside_more : (a b : ℕ) (line : List ℕ) → (r : (tail : List ℕ) × (line ≡ b ∷ tail)) → ((a ≡ u) × (b ≡ v)) ⊎ Beside u v line → Beside u v (a ∷ line)
-    unfolding Beside
-    beside_more a b line r (inl e) = subst (λ l. Beside u v (a ∷ l)) (sym r.1) (inl e)
-    beside_more a b line r (inr h) = subst (λ l. Beside u v (a ∷ l)) (sym r.1) (inr (subst (Beside u v) r.1 h))
 
     beside_joined : (a b c : ℕ) (rest : List ℕ) → goes_on ss a b c ≡ true → Beside u v (a ∷ b ∷ c ∷ rest) → Beside u v (a ∷ c ∷ rest)
     unfolding Beside
@@ -189,19 +115,18 @@ module _ (ss : List ClientSession) where
     beside_joined a b c rest t (inr (inl e)) = absurd (no_run b c e (and_parts (is_behind ss a b) (is_behind ss b c) t).1)
     beside_joined a b c rest t (inr (inr h)) = inr h
 
-    beside_from : (a b : ℕ) (rest : List ℕ) → Beside u v (a ∷ b ∷ rest) → Beside u v (runs_from ss a b rest)
-    unfolding runs_from Beside
-    beside_from a b [] h = h
-    beside_from a b (c ∷ rest) h =
-        cond_both (goes_on ss a b c) (runs_from ss a c rest) (a ∷ runs_from ss b c rest) (Beside u v)
-        (λ t. beside_from a c rest (beside_joined a b c rest t h))
-        (λ f. beside_more a b (runs_from ss b c rest) (begins b c rest) (elim h [ inl e ↦ inl e | inr more ↦ inr (beside_from b c rest more) ]))
+    beside_behind : (a : ℕ) (rest : List ℕ) → Beside u v (a ∷ rest) → Beside u v (a ∷ told_behind ss a rest)
+    unfolding told_behind Beside
+    beside_behind a [] h = h
+    beside_behind a (b ∷ []) h = h
+    beside_behind a (b ∷ c ∷ rest) h =
+        cond_both (goes_on ss a b c) (told_behind ss a (c ∷ rest)) (b ∷ told_behind ss b (c ∷ rest)) (λ l. Beside u v (a ∷ l))
+        (λ t. beside_behind a (c ∷ rest) (beside_joined a b c rest t h))
+        (λ f. elim h [ inl e ↦ inl e | inr more ↦ inr (beside_behind b (c ∷ rest) more) ])
 
     pub runs_beside : (line : List ℕ) → Beside u v line → Beside u v (without_runs ss line)
-    unfolding Beside
     runs_beside [] h = h
-    runs_beside (a ∷ []) h = h
-    runs_beside (a ∷ b ∷ rest) h = beside_from a b rest h
+    runs_beside (a ∷ rest) h = beside_behind a rest h
 
 pub beside_at : (line : List ℕ) (i : ℕ) → i + 1 < length line → Beside (get_or line i 0) (get_or line (i + 1) 0) line
 unfolding Beside

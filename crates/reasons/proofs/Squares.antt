@@ -1,14 +1,14 @@
 -- Four nodes that read all four pairs, found among what the readers of a key read.
 use Rattle.std.proofs.Common.{◌≡◌, ◌≢◌, ◌⊎◌, ℕ, ◌+◌, ◌<◌, Bool, true, false, List, [], ◌∷◌, ◌++◌, Option, None, Some, refl, sym, ap, ◌∙◌, subst, inl, inr, arith, eqb, eqb-true, eq-eqb, cond}
 use Rattle.std.specs.Prelude.{is_some}
-use Rattle.std.specs.Option.{option_map}
+use Rattle.std.specs.Option.{option_map, option_and_then}
 use Rattle.std.specs.List.{Contains}
 use Rattle.std.specs.Ordering.{is_eq}
 use Rattle.std.specs.declared.cmp.Ordering.{Ordering}
 use Rattle.std.specs.declared.cmp.Ordering.TheVariants.{Less, Equal, Greater}
 use Rattle.std.specs.BTreeMap.{BTreeMap, get, is_at, Updates}
 use Rattle.std.specs.Ordering.{nat_cmp}
-use Rattle.std.proofs.lemmas.Bool.{cases_eq, false≢true}
+use Rattle.std.proofs.lemmas.Bool.{cases_eq, ne_eqb, false≢true}
 use Rattle.std.proofs.lemmas.List.Elements.{Contains-push, Contains-push_cases, Contains-append_left}
 use Rattle.std.proofs.lemmas.Map.Lookups.{exact_unsigned, exact_pairs}
 use Rattle.serializability.specs.Log.{Log}
@@ -17,159 +17,132 @@ use Rattle.serializability.proofs.Sources.{source_is}
 use Rattle.session_history.specs.Tables.{writers_in}
 use Rattle.write_chains.proofs.Nexts.{writer_among}
 use Rattle.reasons.specs.declared.crossings.Pair.{Pair}
-use Rattle.reasons.specs.declared.crossings.Shared.{Shared}
 use Rattle.reasons.specs.declared.crossings.Square.{Square}
-use Rattle.reasons.specs.Squares.{ReadsBoth, IsSquare, NoSquare, pair, ArePairs, IsSquareOf, NoSquareOf, pair_cmp, AreBeside, meeting, IsShared, IsMet, AreShared, square_of, IsLooked}
+use Rattle.reasons.specs.Squares.{ReadsBoth, IsSquare, NoSquare, pair, ArePairs, IsSquareOf, NoSquareOf, pair_cmp, IsIndex, read_at, met_at, square_of}
 
-abbrev pub Key : Type 0
-Key = ℕ × ℕ
-
-abbrev pub at : ℕ → ℕ → Key
-at y w = (y, w)
-
--- ---- an entry more in a table
+-- ---- a pair more in an index
 is_equal : (o : Ordering) → is_eq o ≡ true → o ≡ Equal
 is_equal Less e = absurd (false≢true e)
 is_equal Equal e = refl
 is_equal Greater e = absurd (false≢true e)
 
-pub record Put {V : Type 0} (f g : Key → Option V) (k : Key) (v : V) : Type 0 where
-  pub here : g k ≡ Some v
-  pub other : (q : Key) → (k ≡ q) ⊎ (g q ≡ f q)
+put_at : (f g : ℕ × ℕ → Option Pair) (k q : ℕ × ℕ) (p : Pair) (b : Bool) → is_at (pair_cmp k) q ≡ b → g q ≡ cond b (Some p) (f q) → (k ≡ q) ⊎ (g q ≡ f q)
+put_at f g k q p true is e = inl (exact_pairs nat_cmp nat_cmp exact_unsigned exact_unsigned k q (is_equal (pair_cmp k q) is))
+put_at f g k q p false is e = inr e
 
-put_at : {V : Type 0} (f g : Key → Option V) (k q : Key) (v : V) (b : Bool) → is_at (pair_cmp k) q ≡ b → g q ≡ cond b (Some v) (f q) → (k ≡ q) ⊎ (g q ≡ f q)
-put_at f g k q v true is e = inl (exact_pairs nat_cmp nat_cmp exact_unsigned exact_unsigned k q (is_equal (pair_cmp k q) is))
-put_at f g k q v false is e = inr e
-
-pub put : {V : Type 0} (m n : BTreeMap Key V) (k : Key) (v : V) → Updates pair_cmp m n k (Some v) → Put (get pair_cmp m) (get pair_cmp n) k v
-put m n k v u = record {
-  here = u.1;
-  other = λ q. put_at (get pair_cmp m) (get pair_cmp n) k q v (is_at (pair_cmp k) q) refl (u.0 q);
-}
-
-same_pair : (p : Pair) (r u y w : ℕ) → p.reader ≡ r → p.version ≡ u → (at p.key p.source) ≡ (at y w) → p ≡ pair r u y w
-same_pair p r u y w a b e =
-    ap (λ n. pair n p.version p.key p.source) a ∙ ap (λ n. pair r n p.key p.source) b ∙ ap (λ (q : Key). pair r u q.0 q.1) e
-
--- ---- beside a version
-pub beside_put : (front : List Pair) (p : Pair) (u : ℕ) (f g : Key → Option ℕ) → p.version ≡ u → Put f g (at p.key p.source) p.reader → AreBeside front u f → AreBeside (front ++ p ∷ []) u g
-beside_put front p u f g version new h = record {
-  sound = λ y w r e. sound y w r e (new.other (at y w));
-  all = λ q c of. elim (Contains-push_cases front p q c) [
-    | inl c ↦ older q (h.all q c of) (new.other (at q.key q.source))
-    | inr same ↦ (p.reader, subst (λ (d : Pair). g (at d.key d.source) ≡ Some p.reader) same new.here)
+pub index_put : (at : Pair → Option (ℕ × ℕ)) (front : List Pair) (p : Pair) (k : ℕ × ℕ) (m n : BTreeMap (ℕ × ℕ) Pair) → at p ≡ Some k → Updates pair_cmp m n k (Some p) → IsIndex at front (get pair_cmp m) → IsIndex at (front ++ p ∷ []) (get pair_cmp n)
+index_put at front p k m n own u h = record {
+  sound = λ q r e. elim (cases q) [
+    | inl same ↦
+        let found : Some p ≡ Some r = sym u.1 ∙ ap (get pair_cmp n) same ∙ e in
+        let item : p ≡ r = cc in
+        (subst (Contains (front ++ p ∷ [])) item (Contains-push front p), ap at (sym item) ∙ own ∙ ap Some same)
+    | inr old ↦ let s = h.sound q r (sym old ∙ e) in (Contains-append_left front (p ∷ []) r s.0, s.1)
+  ];
+  all = λ q r c e. elim (cases q) [
+    | inl same ↦ (p, ap (get pair_cmp n) (sym same) ∙ u.1)
+    | inr old ↦ elim (Contains-push_cases front p r c) [
+      | inl c ↦ let s = h.all q r c e in (s.0, old ∙ s.1)
+      | inr item ↦ let same : k ≡ q = cc (ap at item) in (p, ap (get pair_cmp n) (sym same) ∙ u.1)
+    ]
   ];
 }
   where
-    sound : (y w r : ℕ) → g (at y w) ≡ Some r → (((at p.key p.source) ≡ (at y w)) ⊎ (g (at y w) ≡ f (at y w))) → Contains (front ++ p ∷ []) (pair r u y w)
-    sound y w r e (inl same) =
-        let found : Some p.reader ≡ Some r = sym new.here ∙ ap g same ∙ e in
-        let reader : p.reader ≡ r = cc in
-        subst (Contains (front ++ p ∷ [])) (same_pair p r u y w reader version same) (Contains-push front p)
-    sound y w r e (inr old) = Contains-append_left front (p ∷ []) (pair r u y w) (h.sound y w r (sym old ∙ e))
+    cases : (q : ℕ × ℕ) → (k ≡ q) ⊎ (get pair_cmp n q ≡ get pair_cmp m q)
+    cases q = put_at (get pair_cmp m) (get pair_cmp n) k q p (is_at (pair_cmp k) q) refl (u.0 q)
 
-    older : (q : Pair) → ((r : ℕ) × (f (at q.key q.source) ≡ Some r)) → (((at p.key p.source) ≡ (at q.key q.source)) ⊎ (g (at q.key q.source) ≡ f (at q.key q.source))) → (r : ℕ) × (g (at q.key q.source) ≡ Some r)
-    older q s (inl same) = (p.reader, ap g (sym same) ∙ new.here)
-    older q s (inr old) = (s.0, old ∙ s.1)
-
--- ---- beside two versions
--- what a meeting is
-record Meets (g : Key → Option ℕ) (u : ℕ) (p : Pair) (now : Shared) : Type 0 where
-  apart : p.version ≢ u
-  left : g (at p.key p.source) ≡ Some now.left
-  source : now.source ≡ p.source
-  right : now.right ≡ p.reader
-
-meets_in : (g : Key → Option ℕ) (u : ℕ) (p : Pair) (now : Shared) (b : Bool) (o : Option ℕ) → eqb p.version u ≡ b → g (at p.key p.source) ≡ o → cond b None (option_map (λ r. record { source = p.source; left = r; right = p.reader }) o) ≡ Some now → Meets g u p now
-meets_in g u p now true o same is e = cc
-meets_in g u p now false None same is e = cc
-meets_in g u p now false (Some r) same is e =
-    let left : r ≡ now.left = cc in
-    let source : p.source ≡ now.source = cc in
-    let right : p.reader ≡ now.right = cc in
-    record { apart = λ bad. false≢true (sym same ∙ eq-eqb p.version u bad); left = is ∙ ap Some left; source = sym source; right = sym right }
-
-meets : (g : Key → Option ℕ) (u : ℕ) (p : Pair) (now : Shared) → Some now ≡ meeting g u p → Meets g u p now
-meets g u p now e = meets_in g u p now (eqb p.version u) (g (at p.key p.source)) refl refl (sym e)
-
-pub shared_again : (pairs front : List Pair) (p : Pair) (u : ℕ) (g : Key → Option ℕ) (h : Key → Option Shared) (before now : Shared) → Some now ≡ meeting g u p → h (at p.version p.key) ≡ Some before → before.source ≡ now.source → AreShared pairs front u g h → AreShared pairs (front ++ p ∷ []) u g h
-shared_again pairs front p u g h before now met is_before alike a =
-    let m = meets g u p now met in
-    let own : IsMet h p = record { entry = before; is = is_before; same = alike ∙ m.source } in
-    record {
-      sound = a.sound;
-      all = λ q c apart r is. elim (Contains-push_cases front p q c) [
-        | inl c ↦ a.all q c apart r is
-        | inr same ↦ subst (IsMet h) same own
-      ];
-    }
-
-pub shared_put : (pairs front : List Pair) (p : Pair) (u : ℕ) (g : Key → Option ℕ) (h k : Key → Option Shared) (now : Shared) → Contains pairs p → Some now ≡ meeting g u p → h (at p.version p.key) ≡ None → Put h k (at p.version p.key) now → AreShared pairs front u g h → AreShared pairs (front ++ p ∷ []) u g k
-shared_put pairs front p u g h k now here met absent new a = record {
-  sound = λ v y e is. sound v y e is (new.other (at v y));
-  all = λ q c apart r is. elim (Contains-push_cases front p q c) [
-    | inl c ↦ older q (a.all q c apart r is) (new.other (at q.version q.key))
-    | inr same ↦ subst (IsMet k) same own
+pub index_passed : (at : Pair → Option (ℕ × ℕ)) (front : List Pair) (p : Pair) (f : ℕ × ℕ → Option Pair) → at p ≡ None → IsIndex at front f → IsIndex at (front ++ p ∷ []) f
+index_passed at front p f none h = record {
+  sound = λ k q e. (let s = h.sound k q e in (Contains-append_left front (p ∷ []) q s.0, s.1));
+  all = λ k q c e. elim (Contains-push_cases front p q c) [
+    | inl c ↦ h.all k q c e
+    | inr item ↦ absurd (let bad : None ≡ Some k = sym none ∙ ap at item ∙ e in cc)
   ];
 }
-  where
-    m : Meets g u p now
-    m = meets g u p now met
-
-    own : IsMet k p
-    own = record { entry = now; is = new.here; same = m.source }
-
-    sound : (v y : ℕ) (e : Shared) → k (at v y) ≡ Some e → (((at p.version p.key) ≡ (at v y)) ⊎ (k (at v y) ≡ h (at v y))) → IsShared pairs u g v y e
-    sound v y e is (inl same) =
-        let found : Some now ≡ Some e = sym new.here ∙ ap k same ∙ is in
-        let entry : now ≡ e = cc in
-        subst (IsShared pairs u g v y) entry (subst (λ (q : Key). IsShared pairs u g q.0 q.1 now) same (record {
-          apart = m.apart;
-          left = ap (λ n. g (at p.key n)) m.source ∙ m.left;
-          right = subst (Contains pairs) (same_pair p now.right p.version p.key now.source (sym m.right) refl (ap (λ n. at p.key n) (sym m.source))) here;
-        }))
-    sound v y e is (inr old) = a.sound v y e (sym old ∙ is)
-
-    older : (q : Pair) → IsMet h q → (((at p.version p.key) ≡ (at q.version q.key)) ⊎ (k (at q.version q.key) ≡ h (at q.version q.key))) → IsMet k q
-    older q t (inl same) =
-        let is = t.is in
-        absurd (let bad : None ≡ Some t.entry = sym absent ∙ ap h same ∙ is in cc)
-    older q t (inr old) = record { entry = t.entry; is = old ∙ t.is; same = t.same }
 
 -- ---- two versions that are read beside both
-seen : (pairs : List Pair) (p : Pair) (u x : ℕ) (g : Key → Option ℕ) (h : Key → Option Shared) (front : List Pair) (before now : Shared) → Contains pairs p → AreBeside pairs u g → AreShared pairs front u g h → Some now ≡ meeting g u p → h (at p.version p.key) ≡ Some before → (before.source ≡ now.source → ⊥) → IsSquareOf pairs u (record { first = x; second = p.key; one_one = before.left; one_two = now.left; two_one = before.right; two_two = now.right })
-seen pairs p u x g h front before now here b a met is apart =
-    let m = meets g u p now met in
-    let e = a.sound p.version p.key before is in
+same_pair : (p : Pair) (u y w : ℕ) → p.version ≡ u → p.key ≡ y → p.source ≡ w → p ≡ pair p.reader u y w
+same_pair p u y w a b c = ap (λ n. pair p.reader n p.key p.source) a ∙ ap (λ n. pair p.reader u n p.source) b ∙ ap (pair p.reader u y) c
+
+read_at_is : (u y w : ℕ) (p : Pair) (b : Bool) → eqb p.version u ≡ b → cond {A = Option (ℕ × ℕ)} b (Some (p.key, p.source)) None ≡ Some (y, w) → p ≡ pair p.reader u y w
+read_at_is u y w p true t e =
+    let same : ◌≡◌ {A = ℕ × ℕ} (p.key, p.source) (y, w) = cc in
+    same_pair p u y w (eqb-true p.version u t) (ap (λ (k : ℕ × ℕ). k.0) same) (ap (λ (k : ℕ × ℕ). k.1) same)
+read_at_is u y w p false t e = cc
+
+record IsMet (u v y : ℕ) (beside : ℕ × ℕ → Option Pair) (q : Pair) : Type 0 where
+  apart : v ≢ u
+  item : q ≡ pair q.reader v y q.source
+  before : Pair
+  is : beside (y, q.source) ≡ Some before
+
+met_at_is : (u v y : ℕ) (beside : ℕ × ℕ → Option Pair) (q : Pair) (b : Bool) (o : Option Pair) → eqb q.version u ≡ b → beside (q.key, q.source) ≡ o → cond {A = Option (ℕ × ℕ)} b None (option_map (λ r. (q.version, q.key)) o) ≡ Some (v, y) → IsMet u v y beside q
+met_at_is u v y beside q true o t is e = cc
+met_at_is u v y beside q false None t is e = cc
+met_at_is u v y beside q false (Some before) t is e =
+    let same : ◌≡◌ {A = ℕ × ℕ} (q.version, q.key) (v, y) = cc in
+    let version = ap (λ (k : ℕ × ℕ). k.0) same in
+    let key = ap (λ (k : ℕ × ℕ). k.1) same in
     record {
-      two = p.version;
-      apart = m.apart;
-      this = before.source;
-      that = now.source;
-      apart_too = apart;
-      one_one = b.sound p.key before.source before.left e.left;
-      one_two = b.sound p.key now.source now.left (ap (λ n. g (at p.key n)) m.source ∙ m.left);
-      two_one = e.right;
-      two_two = subst (Contains pairs) (same_pair p now.right p.version p.key now.source (sym m.right) refl (ap (λ n. at p.key n) (sym m.source))) here;
+      apart = λ same. false≢true (sym t ∙ eq-eqb q.version u (version ∙ same));
+      item = same_pair q v y q.source version key refl;
+      before = before;
+      is = ap (λ n. beside (n, q.source)) (sym key) ∙ is;
     }
 
-pub looked_again : (pairs front : List Pair) (p : Pair) (u x : ℕ) (g : Key → Option ℕ) (h : Key → Option Shared) (before now : Shared) (found : Option Square) → Contains pairs p → AreBeside pairs u g → AreShared pairs front u g h → Some now ≡ meeting g u p → h (at p.version p.key) ≡ Some before → found ≡ square_of x p.key before now → IsLooked pairs u g h x (front ++ p ∷ []) found
-looked_again pairs front p u x g h before now found here b a met is e =
-    subst (IsLooked pairs u g h x (front ++ p ∷ [])) (sym e) (go (eqb before.source now.source) refl)
-  where
-    go : (t : Bool) → eqb before.source now.source ≡ t → IsLooked pairs u g h x (front ++ p ∷ []) (cond t None (Some (record { first = x; second = p.key; one_one = before.left; one_two = now.left; two_one = before.right; two_two = now.right })))
-    go true t = shared_again pairs front p u g h before now met is (eqb-true before.source now.source t) a
-    go false t = (refl, seen pairs p u x g h front before now here b a met is (λ same. false≢true (sym t ∙ eq-eqb before.source now.source same)))
+module _ (pairs : List Pair) (u x : ℕ) (beside met : ℕ × ℕ → Option Pair) (b : IsIndex (read_at u) pairs beside) (m : IsIndex (met_at u beside) pairs met) where
+  beside_is : (y w : ℕ) (p : Pair) → beside (y, w) ≡ Some p → Contains pairs (pair p.reader u y w)
+  beside_is y w p e = let s = b.sound (y, w) p e in subst (Contains pairs) (read_at_is u y w p (eqb p.version u) refl s.1) s.0
 
-pub none_met : (pairs : List Pair) (u : ℕ) (g : Key → Option ℕ) (h : Key → Option Shared) → AreBeside pairs u g → AreShared pairs pairs u g h → NoSquareOf pairs u
-none_met pairs u g h b a s q =
-    let r = b.all (pair s.one_one u s.second q.this) q.one_one refl in
-    let t = b.all (pair s.one_two u s.second q.that) q.one_two refl in
-    let e = a.all (pair s.two_one q.two s.second q.this) q.two_one q.apart r.0 r.1 in
-    let f = a.all (pair s.two_two q.two s.second q.that) q.two_two q.apart t.0 t.1 in
-    let both : Some e.entry ≡ Some f.entry = sym e.is ∙ f.is in
-    let entry : e.entry ≡ f.entry = cc in
-    q.apart_too (sym e.same ∙ ap (λ (d : Shared). d.source) entry ∙ f.same)
+  met_is : (v y : ℕ) (q : Pair) → met (v, y) ≡ Some q → IsMet u v y beside q × Contains pairs q
+  met_is v y q e = let s = m.sound (v, y) q e in (met_at_is u v y beside q (eqb q.version u) (beside (q.key, q.source)) refl refl s.1, s.0)
+
+  made : Pair → Pair → Pair → Pair → Square
+  made p now other before = record { first = x; second = p.key; one_one = now.reader; one_two = before.reader; two_one = p.reader; two_two = other.reader }
+
+  found_at : (p now other : Pair) (s : Square) (t : Bool) (o : Option Pair) → Contains pairs p → beside (p.key, p.source) ≡ Some now → met (p.version, p.key) ≡ Some other → eqb other.source p.source ≡ t → beside (p.key, other.source) ≡ o → Some s ≡ cond t None (option_map (made p now other) o) → (s.first ≡ x) × IsSquareOf pairs u s
+  unfolding made
+  found_at p now other s true o c e f t g h = cc
+  found_at p now other s false None c e f t g h = cc
+  found_at p now other s false (Some before) c e f t g h =
+      let q = met_is p.version p.key other f in
+      let same : made p now other before ≡ s = cc in
+      let is : IsSquareOf pairs u (made p now other before) = record {
+        two = p.version;
+        apart = q.0.apart;
+        this = p.source;
+        that = other.source;
+        apart_too = λ e. false≢true (sym t ∙ eq-eqb other.source p.source (sym e));
+        one_one = beside_is p.key p.source now e;
+        one_two = beside_is p.key other.source before g;
+        two_one = c;
+        two_two = subst (Contains pairs) q.0.item q.1;
+      } in
+      subst (λ s. (s.first ≡ x) × IsSquareOf pairs u s) same (refl, is)
+
+  pub found : (p : Pair) (s : Square) → Contains pairs p → Some s ≡ square_of x beside met p → (s.first ≡ x) × IsSquareOf pairs u s
+  unfolding made
+  found p s c h = go (beside (p.key, p.source)) (met (p.version, p.key)) refl refl h
+    where
+      go : (o q : Option Pair) → beside (p.key, p.source) ≡ o → met (p.version, p.key) ≡ q → Some s ≡ option_and_then (λ now. option_and_then (λ other. cond (eqb other.source p.source) None (option_map (made p now other) (beside (p.key, other.source)))) q) o → (s.first ≡ x) × IsSquareOf pairs u s
+      go None q e f h = cc
+      go (Some now) None e f h = cc
+      go (Some now) (Some other) e f h = found_at p now other s (eqb other.source p.source) (beside (p.key, other.source)) c e f refl refl h
+
+  none_missed : (p now other before : Pair) → beside (p.key, p.source) ≡ Some now → met (p.version, p.key) ≡ Some other → other.source ≢ p.source → beside (p.key, other.source) ≡ Some before → square_of x beside met p ≡ None → ⊥
+  none_missed p now other before e f ne g none = let is = rw (e, f, ne_eqb other.source p.source ne, g) at none in cc
+
+  pub none_met : ((p : Pair) → Contains pairs p → square_of x beside met p ≡ None) → NoSquareOf pairs u
+  none_met none s q =
+      let y = s.second in
+      let one_one = b.all (y, q.this) (pair s.one_one u y q.this) q.one_one (rw (eq-eqb u u refl) refl) in
+      let one_two = b.all (y, q.that) (pair s.one_two u y q.that) q.one_two (rw (eq-eqb u u refl) refl) in
+      let other = m.all (q.two, y) (pair s.two_one q.two y q.this) q.two_one (rw (ne_eqb q.two u q.apart, one_one.1) refl) in
+      let o = (met_is q.two y other.0 other.1).0 in
+      elim (cases_eq other.0.source q.this) [
+        | inl same ↦ none_missed (pair s.two_two q.two y q.that) one_two.0 other.0 o.before one_two.1 other.1 (λ e. q.apart_too (sym same ∙ e)) o.is (none (pair s.two_two q.two y q.that) q.two_two)
+        | inr ne ↦ none_missed (pair s.two_one q.two y q.this) one_one.0 other.0 o.before one_one.1 other.1 ne o.is (none (pair s.two_one q.two y q.this) q.two_one)
+      ]
 
 -- ---- from the pairs of a key to the log
 pub square_from : (log : Log) (x n u : ℕ) (pairs : List Pair) (s : Square) → ArePairs log x n pairs → s.first ≡ x → IsSquareOf pairs u s → IsSquare log s

@@ -35,7 +35,7 @@ start log x v lo hi t = record {
   here = λ all b. record { left = all; count = omega arith; back = b };
 }
 
-one_on : (log : Log) (x v s : ℕ) → source log v x ≡ Some s → IsOfInitial log x s → IsOfInitial log x v
+pub one_on : (log : Log) (x v s : ℕ) → source log v x ≡ Some s → IsOfInitial log x s → IsOfInitial log x v
 one_on log x v s e h = record { steps = suc h.steps; back = (s, (e, h.back)) }
 
 over_on : (log : Log) (x v s steps all : ℕ) → v ≢ 0 → source log v x ≡ Some s → (left : ℕ) → all ≡ left + steps → IsBackIn log x left v → Over log x s (steps + 1) all

@@ -1,11 +1,12 @@
 -- Who reads a key from the chain of its initial value.
-use Rattle.std.specs.Prelude.{◌≡◌, ℕ, zero, suc, List, length, Bool, true, slice_get, None, Some}
-use Rattle.session_log.specs.Text.{ClientSession}
+use Rattle.std.specs.Prelude.{◌≡◌, ℕ, zero, suc, List, length, Bool, true, slice_get, None}
+use Rattle.std.specs.Prelude.{Some}
 use Rattle.serializability.specs.Log.{Log}
 use Rattle.serializability.specs.Polygraph.{source}
 use Rattle.serializability.specs.declared.event.Event.{Event}
 use Rattle.serializability.specs.declared.event.Event.TheVariants as event
-use Rattle.reason_laws.specs.Reasons.{IsOfInitialBefore}
+use Rattle.reasons.specs.declared.operations.KeyWrite.{KeyWrite}
+use Rattle.reasons.specs.Events.{NoneBefore}
 
 -- so many steps back along the sources of the key lead from v to node 0
 abbrev pub IsBackIn : Log → ℕ → ℕ → ℕ → Type 0
@@ -32,10 +33,12 @@ abbrev pub IsBeginning : Log → ℕ → ℕ → Event → Type 0
 IsBeginning log a b (event.Read x w) = ⊥
 IsBeginning log a b (event.Write x w) = IsBegun log a b x
 
--- some read of a stands before operation `begins` of b by the chain of the initial value
-pub record BeginsBehind (ss : List ClientSession) (a b begins : ℕ) : Type 0 where
-  pub read : ℕ
-  pub is : IsOfInitialBefore ss a read b begins
+-- this write of b is the first that does
+pub record BeginsAt (log : Log) (a b : ℕ) (o : KeyWrite) : Type 0 where
+  pub wid : ℕ
+  pub stands : slice_get (log.ops b) o.place ≡ Some (event.Write o.key wid)
+  pub begun : IsBegun log a b o.key
+  pub first : NoneBefore (IsBeginning log a b) (log.ops b) o.place
 
 -- a mark for each key: a write of a marked one begins no chain
 pub record ArePlain (log : Log) (a b : ℕ) (plain : List Bool) : Type 0 where

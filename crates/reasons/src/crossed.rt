@@ -1,15 +1,16 @@
 //! Transactions that read all four pairs of two versions of a key and two of another.
 
-ghost use Rattle.std.specs.Prelude.{◌≡◌, ℕ, ◌+◌, ◌≤◌, min, Some, IfOk};
+ghost use Rattle.std.specs.Prelude.{◌≡◌, ◌+◌, min, IfOk};
 ghost use Rattle.serializability.specs.Reads.{IsClean};
-ghost use Rattle.serializability.specs.Polygraph.{source};
 ghost use Rattle.log_definitions.specs.Numbers.{log_of};
 ghost use Rattle.reason_laws.specs.Crossed.{AreCrossed};
+ghost use Rattle.reason_laws.specs.Reasons.{IsNode};
 ghost use Rattle.reasons.specs.Crossed.{looks_at, looks, IsCrossedAnswer};
-ghost use Rattle.reasons.specs.Squares.{IsReadFrom, IsPairFrom, ReadsBoth, ReadsKeys, IsSquare};
+ghost use Rattle.reasons.specs.Firsts.{HasSource, IsPairOf};
+ghost use Rattle.reasons.specs.Squares.{IsSquare};
 
 use crate::crossings::{Square, square_in};
-use crate::read::first_read;
+use crate::read::read_of;
 use reason_laws::{Crossing, PairRead};
 use serializability::NodeIx;
 use serializability::numbers::node;
@@ -19,25 +20,13 @@ use std::alloc::{AllocError, Global};
 /// How often a search for crossed reads looks at a read, at the most.
 pub const MAX_LOOKS: usize = 20_000_000;
 
-/// The first read of the key in a node that reads it before any own write of it.
-fn read_of(history: &History, node: NodeIx, key: usize) -> usize
-    requires clean { IsClean (log_of history.now) }
-    requires reads { ReadsKeys (log_of history.now) node key key }
-    ensures is { (u : ℕ) → source (log_of history.now) node key ≡ Some u →
-        IsReadFrom history.now node result key u }
-{
-    match first_read(history, node, key) {
-        Some(op) => op,
-        None => unreachable!(),
-    }
-}
-
 /// The reads of two keys by a node.
 fn pair_read(history: &History, node: NodeIx, first: usize, second: usize) -> PairRead
     requires clean { IsClean (log_of history.now) }
-    requires reads { ReadsKeys (log_of history.now) node first second }
-    ensures is { (u w : ℕ) → ReadsBoth (log_of history.now) node first u second w →
-        IsPairFrom history.now first u second w result }
+    requires node { IsNode history.now node }
+    requires first { HasSource (log_of history.now) node first }
+    requires second { HasSource (log_of history.now) node second }
+    ensures reads { IsPairOf history.now node first second result }
 {
     PairRead {
         node,
@@ -47,6 +36,7 @@ fn pair_read(history: &History, node: NodeIx, first: usize, second: usize) -> Pa
 }
 
 /// The reads of four nodes that read all four pairs.
+#[tactic(auto, unfolding(log_definitions::specs::Numbers::log_of))]
 fn crossing(history: &History, square: Square) -> Crossing
     requires clean { IsClean (log_of history.now) }
     requires square { IsSquare (log_of history.now) square }

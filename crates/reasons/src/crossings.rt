@@ -1,21 +1,20 @@
 //! Looks for four nodes that read all four pairs of two versions of a key and two of another. A
 //! version is given by the node that wrote it.
 //!
-//! For each key and each version of it that a node wrote, it looks once at what is read beside any
+//! For each key and each version of it that a node wrote, it looks at what is read beside any
 //! version of the key.
 
-ghost use Rattle.std.specs.Prelude.{◌≡◌, ◌≢◌, ◌<◌, ◌≤◌, ◌+◌, ◌++◌, ◌∷◌, [], List, IfOk, OnOk};
-ghost use Rattle.std.specs.Prelude.{IfSome, IfNone};
+ghost use Rattle.std.specs.Prelude.{◌≡◌, ◌<◌, ◌≤◌, ◌+◌, ◌++◌, ◌∷◌, [], ℕ, List, Option, Some, IfOk};
+ghost use Rattle.std.specs.Prelude.{OnOk, IfSome, IfNone};
 ghost use Rattle.std.specs.BTreeMap.{get};
-ghost use Rattle.std.specs.List.{Contains};
 ghost use Rattle.serializability.specs.Reads.{IsClean};
 ghost use Rattle.log_definitions.specs.Numbers.{log_of};
 ghost use Rattle.session_history.specs.Tables.{sources_of};
 ghost use Rattle.reasons.specs.declared.crossings.Pair.{Pair as PairView};
 ghost use Rattle.reasons.specs.declared.crossings.Square.{Square as SquareView};
 ghost use Rattle.reasons.specs.Squares as spec;
-ghost use Rattle.reasons.specs.Squares.{pairs_by, ArePairs, AreBeside, AreShared, pair_cmp};
-ghost use Rattle.reasons.specs.Squares.{IsLooked, IsSquareOf, NoSquareOf, IsSquare, NoSquare};
+ghost use Rattle.reasons.specs.Squares.{pairs_by, ArePairs, IsIndex, pair_cmp};
+ghost use Rattle.reasons.specs.Squares.{IsSquareOf, NoSquareOf, IsSquare, NoSquare};
 
 use serializability::NodeIx;
 use serializability::numbers::node;
@@ -27,17 +26,9 @@ use std::collections::BTreeMap;
 #[derive(Clone, Copy)]
 pub struct Pair {
     pub reader: NodeIx,
-    pub version: NodeIx,
+    pub version: usize,
     pub key: usize,
-    pub source: NodeIx,
-}
-
-/// A version that is read beside two versions of a key, and who reads it beside which.
-#[derive(Clone, Copy)]
-pub struct Shared {
-    pub source: NodeIx,
-    pub left: NodeIx,
-    pub right: NodeIx,
+    pub source: usize,
 }
 
 /// Two keys, and who reads which versions of them: `one_two` version one of the first key and
@@ -62,16 +53,14 @@ fn put_reads(
     ensures put { OnOk result (pairs.new.items
         ≡ pairs.old.items ++ pairs_by reader version (sources_of (log_of history.now) reader)) }
 {
-    let reads = history.reads_of(reader);
-    for read in reads {
-        pairs.push(Pair {
+    pairs.extend(
+        history.reads_of(reader).iter().map(|read| Pair {
             reader,
-            version,
+            version: version.get(),
             key: read.key,
-            source: read.source,
-        })?;
-    }
-    Ok(())
+            source: read.source.get(),
+        }),
+    )
 }
 
 /// Appends what a node reads, where it reads the key.
@@ -108,18 +97,45 @@ fn pairs_at(alloc: Global, history: &History, key: usize) -> Result<Vec<Pair>, A
     Ok(pairs)
 }
 
-/// Enters what is read beside the version.
-fn put_beside(
-    beside: &mut BTreeMap<(usize, usize), NodeIx>,
-    version: NodeIx,
-    pair: &Pair,
-) -> Result<(), AllocError>
-    ensures put { OnOk result ((front : List PairView) →
-        AreBeside front version (get pair_cmp beside.old) →
-        AreBeside (front ++ pair.now ∷ []) version (get pair_cmp beside.new)) }
+/// The place of a reader of the version, by what it reads.
+fn read_at(version: usize, pair: &Pair) -> Option<(usize, usize)>
+    ensures { result ≡ spec.read_at version pair.now }
 {
     if pair.version == version {
-        beside.insert((pair.key, pair.source.get()), pair.reader)?;
+        Some((pair.key, pair.source))
+    } else {
+        None
+    }
+}
+
+/// The place of a reader of another version that reads what a reader of this one reads, by that
+/// version and the key.
+fn met_at(
+    beside: &BTreeMap<(usize, usize), Pair>,
+    version: usize,
+    pair: &Pair,
+) -> Option<(usize, usize)>
+    ensures { result ≡ spec.met_at version (get pair_cmp beside.now) pair.now }
+{
+    if pair.version == version {
+        return None;
+    }
+    beside.get(&(pair.key, pair.source))?;
+    Some((pair.version, pair.key))
+}
+
+/// Enters a pair at its place, if it has one.
+fn put(
+    index: &mut BTreeMap<(usize, usize), Pair>,
+    place: Option<(usize, usize)>,
+    pair: &Pair,
+) -> Result<(), AllocError>
+    ensures put { OnOk result ((at : PairView → Option (ℕ × ℕ)) (front : List PairView) →
+        at pair.now ≡ place → IsIndex at front (get pair_cmp index.old) →
+        IsIndex at (front ++ pair.now ∷ []) (get pair_cmp index.new)) }
+{
+    if let Some(place) = place {
+        index.insert(place, *pair)?;
     }
     Ok(())
 }
@@ -128,79 +144,73 @@ fn put_beside(
 fn beside_of(
     alloc: Global,
     pairs: &[Pair],
-    version: NodeIx,
-) -> Result<BTreeMap<(usize, usize), NodeIx>, AllocError>
-    ensures beside { IfOk result (λ beside. AreBeside pairs.now version (get pair_cmp beside)) }
+    version: usize,
+) -> Result<BTreeMap<(usize, usize), Pair>, AllocError>
+    ensures beside { IfOk result (λ index.
+        IsIndex (spec.read_at version) pairs.now (get pair_cmp index)) }
 {
     let mut beside = BTreeMap::new(alloc);
     for pair in pairs {
-        put_beside(&mut beside, version, pair)?;
+        put(&mut beside, read_at(version, pair), pair)?;
     }
     Ok(beside)
 }
 
-/// What is read beside another version, where it is read beside this one too.
-fn meeting(
-    beside: &BTreeMap<(usize, usize), NodeIx>,
-    version: NodeIx,
-    pair: &Pair,
-) -> Option<Shared>
-    ensures { result ≡ spec.meeting (get pair_cmp beside.now) version pair.now }
+/// A reader of each other version for each key of which it reads what is read beside this one.
+fn met_by(
+    alloc: Global,
+    pairs: &[Pair],
+    beside: &BTreeMap<(usize, usize), Pair>,
+    version: usize,
+) -> Result<BTreeMap<(usize, usize), Pair>, AllocError>
+    ensures met { IfOk result (λ index.
+        IsIndex (spec.met_at version (get pair_cmp beside.now)) pairs.now (get pair_cmp index)) }
 {
-    if pair.version == version {
+    let mut met = BTreeMap::new(alloc);
+    for pair in pairs {
+        put(&mut met, met_at(beside, version, pair), pair)?;
+    }
+    Ok(met)
+}
+
+/// Four nodes, where the last two of these read two versions of a key.
+fn square_by(
+    beside: &BTreeMap<(usize, usize), Pair>,
+    key: usize,
+    now: Pair,
+    other: Pair,
+    pair: Pair,
+) -> Option<Square>
+    ensures { result ≡ spec.square_by key (get pair_cmp beside.now) now other pair }
+{
+    if other.source == pair.source {
         return None;
     }
-    let left = beside.get(&(pair.key, pair.source.get())).copied()?;
-    Some(Shared {
-        source: pair.source,
-        left,
-        right: pair.reader,
+    let before = beside.get(&(pair.key, other.source)).copied()?;
+    Some(Square {
+        first: key,
+        second: pair.key,
+        one_one: now.reader,
+        one_two: before.reader,
+        two_one: pair.reader,
+        two_two: other.reader,
     })
 }
 
-/// Who reads two versions of the second key, each beside both versions of the first.
-fn square_of(first: usize, second: usize, before: Shared, now: Shared) -> Option<Square>
-    ensures { result ≡ spec.square_of first second before now }
-{
-    if before.source == now.source {
-        None
-    } else {
-        Some(Square {
-            first,
-            second,
-            one_one: before.left,
-            one_two: now.left,
-            two_one: before.right,
-            two_two: now.right,
-        })
-    }
-}
-
-/// Looks at one pair more.
-fn look(
-    beside: &BTreeMap<(usize, usize), NodeIx>,
-    shared: &mut BTreeMap<(usize, usize), Shared>,
+/// Four nodes, two of which are this reader and another of the same version, that read two versions
+/// of a key, each of which is read beside the version that is looked at.
+fn square_of(
+    beside: &BTreeMap<(usize, usize), Pair>,
+    met: &BTreeMap<(usize, usize), Pair>,
     key: usize,
-    version: NodeIx,
     pair: &Pair,
-) -> Result<Option<Square>, AllocError>
-    ensures looked { IfOk result (λ found. (pairs front : List PairView) →
-        Contains pairs pair.now → AreBeside pairs version (get pair_cmp beside.now) →
-        AreShared pairs front version (get pair_cmp beside.now) (get pair_cmp shared.old) →
-        IsLooked pairs version (get pair_cmp beside.now) (get pair_cmp shared.new) key
-        (front ++ pair.now ∷ []) found) }
+) -> Option<Square>
+    ensures { result
+        ≡ spec.square_of key (get pair_cmp beside.now) (get pair_cmp met.now) pair.now }
 {
-    let Some(now) = meeting(beside, version, pair) else {
-        return Ok(None);
-    };
-    let place = (pair.version.get(), pair.key);
-    match shared.get(&place).copied() {
-        Some(before) => Ok(square_of(key, pair.key, before, now)),
-        None => {
-            shared.insert(place, now)?;
-            Ok(None)
-        }
-    }
+    let now = beside.get(&(pair.key, pair.source)).copied()?;
+    let other = met.get(&(pair.version, pair.key)).copied()?;
+    square_by(beside, key, now, other, *pair)
 }
 
 /// Four nodes of which two read this version of the key, where there are such.
@@ -208,16 +218,16 @@ fn square_with(
     alloc: Global,
     pairs: &[Pair],
     key: usize,
-    version: NodeIx,
+    version: usize,
 ) -> Result<Option<Square>, AllocError>
     ensures square { IfOk result (λ found.
         IfSome found (λ s. (s.first ≡ key) × IsSquareOf pairs.now version s)) }
     ensures none { IfOk result (λ found. IfNone found (NoSquareOf pairs.now version)) }
 {
     let beside = beside_of(alloc, pairs, version)?;
-    let mut shared = BTreeMap::new(alloc);
+    let met = met_by(alloc, pairs, &beside, version)?;
     for pair in pairs {
-        if let Some(square) = look(&beside, &mut shared, key, version, pair)? {
+        if let Some(square) = square_of(&beside, &met, key, pair) {
             return Ok(Some(square));
         }
     }
@@ -234,7 +244,7 @@ fn square_at(alloc: Global, history: &History, key: usize) -> Result<Option<Squa
     let pairs = pairs_at(alloc, history, key)?;
     let writers = history.writers_of(key);
     for version in writers {
-        if let Some(square) = square_with(alloc, &pairs, key, *version)? {
+        if let Some(square) = square_with(alloc, &pairs, key, version.get())? {
             return Ok(Some(square));
         }
     }

@@ -1,17 +1,18 @@
 //! Writes of a node that begin a chain behind that of a key's initial value.
 
-ghost use Rattle.std.specs.Prelude.{◌≡◌, ◌<◌, ◌≤◌, ◌↔◌, IsTrue, true, IfSome, IfNone, IfOk, ℕ};
+ghost use Rattle.std.specs.Prelude.{◌≡◌, ◌<◌, ◌≤◌, ◌↔◌, IsTrue, true, length, IfSome, IfNone, IfOk};
 ghost use Rattle.serializability.specs.Reads.{IsClean};
 ghost use Rattle.log_definitions.specs.Numbers.{log_of};
 ghost use Rattle.chain_laws.specs.Chains.{writes};
 ghost use Rattle.serializability.specs.Events.{event_key};
 ghost use Rattle.reason_laws.specs.Reasons.{IsNode, IsOfInitialBefore};
+ghost use Rattle.reasons.specs.Events.{NoneBefore};
 ghost use Rattle.reasons.specs.Initials.{IsOfInitial, FollowsInitial, IsBegun, IsBeginning};
-ghost use Rattle.reasons.specs.Initials.{BeginsBehind, ArePlain};
+ghost use Rattle.reasons.specs.Initials.{BeginsAt, ArePlain};
 ghost use Rattle.reasons.specs.Given.{IsLeastInitial, NoneInitial};
 
-use crate::operations::Operations;
-use crate::read::first_read;
+use crate::operations::{KeyWrite, Operations};
+use crate::read::read_of;
 use serializability::{Event, NodeIx};
 use session_history::History;
 use std::alloc::{AllocError, Global};
@@ -107,37 +108,23 @@ fn begins_behind_initial(
     history: &History,
     a: NodeIx,
     b: NodeIx,
-) -> Result<Option<usize>, AllocError>
+) -> Result<Option<KeyWrite>, AllocError>
     requires clean { IsClean (log_of history.now) }
     requires first { IsNode history.now a }
-    requires second { IsNode history.now b }
-    ensures is { IfOk result (λ found. IfSome found (BeginsBehind history.now a b)) }
-    ensures least { IfOk result (λ found. IfSome found (λ begins.
-        (j : ℕ) → BeginsBehind history.now a b j → begins ≤ j)) }
-    ensures none { IfOk result (λ found. IfNone found (NoneInitial history.now a b)) }
+    ensures begins { IfOk result (λ found. IfSome found (BeginsAt (log_of history.now) a b)) }
+    ensures none { let log = log_of history.now in
+        IfOk result (λ found. IfNone found
+        (NoneBefore (IsBeginning log a b) (log.ops b) (length (log.ops b)))) }
 {
     let mut table = vec![in alloc; false; history.keys()]?;
     let plain = table.as_mut_slice();
     for (place, event) in history.events_of(b).iter().enumerate() {
         if is_beginning(plain, history, a, b, *event) {
-            return Ok(Some(place));
+            let key = event.key();
+            return Ok(Some(KeyWrite { key, place }));
         }
     }
     Ok(None)
-}
-
-/// The first read of `a` that stands before operation `begins` of `b` by the chain of the initial
-/// value of its key.
-fn read_before(history: &History, a: NodeIx, b: NodeIx, begins: usize) -> usize
-    requires clean { IsClean (log_of history.now) }
-    requires begun { BeginsBehind history.now a b begins }
-    ensures is { IsOfInitialBefore history.now a result b begins }
-    ensures least { (i : ℕ) → IsOfInitialBefore history.now a i b begins → result ≤ i }
-{
-    match first_read(history, a, history.events_of(b)[begins].key()) {
-        Some(read) => read,
-        None => unreachable!(),
-    }
 }
 
 /// The first operation of `b` that begins a chain behind that of the initial value of its key, and
@@ -160,8 +147,8 @@ pub fn before_by_initial(
 {
     match begins_behind_initial(alloc, history, a, b)? {
         Some(begins) => Ok(Some(Operations {
-            first: read_before(history, a, b, begins),
-            second: begins,
+            first: read_of(history, a, begins.key),
+            second: begins.place,
         })),
         None => Ok(None),
     }

@@ -1,42 +1,32 @@
 //! Reads of a node that do not see a write of another.
 
-ghost use Rattle.std.specs.Prelude.{◌≡◌, ◌≢◌, ◌<◌, None, IfSome, IfNone};
+ghost use Rattle.std.specs.Prelude.{◌≢◌, ◌<◌, ◌↔◌, IsTrue, length, IfSome, IfNone};
 ghost use Rattle.serializability.specs.Reads.{IsClean};
 ghost use Rattle.log_definitions.specs.Numbers.{log_of};
 ghost use Rattle.serializability.specs.Events.{event_key};
 ghost use Rattle.reason_laws.specs.Reasons.{IsNode, IsOverwrittenBy};
-ghost use Rattle.reasons.specs.Events as spec;
 ghost use Rattle.reasons.specs.Given.{IsLeastOverwrite, NoneOverwritten};
+ghost use Rattle.reasons.specs.Overwrites.{ReadsAlike, IsBelow, IsLess, IsLeastWrite};
 
-use crate::operations::Operations;
-use crate::read::first_read;
+use crate::operations::{KeyWrite, Operations};
+use crate::read::read_of;
 use serializability::{Event, NodeIx};
 use session_history::History;
-
-/// The first write of a key in a node, and the key.
-#[derive(Clone, Copy)]
-pub struct KeyWrite {
-    pub key: usize,
-    pub place: usize,
-}
 
 /// Whether both nodes read the key from one node.
 fn reads_alike(history: &History, a: NodeIx, b: NodeIx, key: usize) -> bool
     requires key { key < (log_of history.now).keys }
-    ensures { result ≡ spec.reads_alike (log_of history.now) a b key }
+    ensures { IsTrue result ↔ ReadsAlike (log_of history.now) a b key }
 {
     match history.source_of(a, key) {
-        Some(source) => match history.source_of(b, key) {
-            Some(other) => source == other,
-            None => false,
-        },
+        Some(source) => history.source_of(b, key) == Some(source),
         None => false,
     }
 }
 
 /// Whether the key is less than that of the write, if there is one.
 fn is_below(key: usize, least: Option<KeyWrite>) -> bool
-    ensures { result ≡ spec.is_below key least }
+    ensures { IsTrue result ↔ IsBelow key least }
 {
     match least {
         Some(write) => key < write.key,
@@ -44,41 +34,34 @@ fn is_below(key: usize, least: Option<KeyWrite>) -> bool
     }
 }
 
-/// The least key that both nodes read alike, with the first write of it, once this operation of `b`
-/// is looked at.
-fn least_after(
+/// Whether an operation of `b` writes a key that both nodes read alike, and a lesser one than this.
+fn writes_less(
     history: &History,
     a: NodeIx,
     b: NodeIx,
     least: Option<KeyWrite>,
-    place: usize,
     event: Event,
-) -> Option<KeyWrite>
+) -> bool
     requires key { event_key event < (log_of history.now).keys }
-    ensures { result
-        ≡ spec.least_after (spec.reads_alike (log_of history.now) a b) least place event }
+    ensures { IsTrue result ↔ IsLess (log_of history.now) a b least event }
 {
     match event {
-        Event::Read { .. } => least,
-        Event::Write { key, .. } => {
-            if is_below(key, least) && reads_alike(history, a, b, key) {
-                Some(KeyWrite { key, place })
-            } else {
-                least
-            }
-        }
+        Event::Read { .. } => false,
+        Event::Write { key, .. } => is_below(key, least) && reads_alike(history, a, b, key),
     }
 }
 
 /// The least key that both nodes read alike and `b` writes, with its first write of it.
 #[tactic(auto, using(crate::proofs::Ops::key_below_at))]
 fn least_write(history: &History, a: NodeIx, b: NodeIx) -> Option<KeyWrite>
-    ensures { let log = log_of history.now in
-        result ≡ spec.least_from (spec.reads_alike log a b) None 0 (log.ops b) }
+    ensures { let log = log_of history.now in IsLeastWrite log a b (length (log.ops b)) result }
 {
     let mut least = None;
     for (place, event) in history.events_of(b).iter().enumerate() {
-        least = least_after(history, a, b, least, place, *event);
+        if writes_less(history, a, b, least, *event) {
+            let key = event.key();
+            least = Some(KeyWrite { key, place });
+        }
     }
     least
 }
@@ -97,11 +80,8 @@ pub fn overwritten_by(history: &History, a: NodeIx, b: NodeIx) -> Option<Operati
     let Some(write) = least_write(history, a, b) else {
         return None;
     };
-    let Some(read) = first_read(history, a, write.key) else {
-        return None;
-    };
     Some(Operations {
-        first: read,
+        first: read_of(history, a, write.key),
         second: write.place,
     })
 }

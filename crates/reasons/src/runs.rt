@@ -21,6 +21,16 @@ fn goes_on(history: &History, a: NodeIx, b: NodeIx, c: NodeIx) -> bool
     is_behind(history, a, b) && is_behind(history, b, c)
 }
 
+/// Whether a node stands in one session between the one before it and the first behind it.
+fn is_between(history: &History, before: NodeIx, node: NodeIx, behind: &[NodeIx]) -> bool
+    ensures { result ≡ spec.is_between history.now before node behind.now }
+{
+    match behind.first() {
+        Some(next) => goes_on(history, before, node, *next),
+        None => false,
+    }
+}
+
 /// A line of nodes of which each run of one session is told by its ends. The one error is that
 /// memory runs out.
 pub fn without_runs(
@@ -30,19 +40,18 @@ pub fn without_runs(
 ) -> Result<Vec<NodeIx>, AllocError>
     ensures { IfOk result (λ made. made.items ≡ spec.without_runs history.now line.now) }
 {
-    let [first, second, behind @ ..] = line else {
-        return Vec::from_slice(alloc, line);
-    };
     let mut made = Vec::with_capacity(alloc, line.len())?;
-    let (mut from, mut to) = (*first, *second);
-    for next in behind {
-        if !goes_on(history, from, to, *next) {
-            made.push(from)?;
-            from = to;
+    let Some((first, rest)) = line.split_first() else {
+        return Ok(made);
+    };
+    made.push(*first)?;
+    let (mut last, mut rest) = (*first, rest);
+    while let Some((node, behind)) = rest.split_first() {
+        if !is_between(history, last, *node, behind) {
+            made.push(*node)?;
+            last = *node;
         }
-        to = *next;
+        rest = behind;
     }
-    made.push(from)?;
-    made.push(to)?;
     Ok(made)
 }

@@ -6,8 +6,7 @@ use Rattle.session_log.specs.Text.{ClientSession}
 use Rattle.serializability.specs.declared.anomaly.Anomaly.{Anomaly}
 use Rattle.log_lines.specs.Rows.{Table, rows_of}
 use Rattle.deciding.specs.declared.decision.Decision.{Decision}
-use Rattle.deciding.specs.declared.decision.Decision.TheVariants.{Serial, Anomalous, Cyclic, Dead}
-use Rattle.deciding.specs.declared.decision.Decision.TheVariants.{Refuted, Spent}
+use Rattle.deciding.specs.declared.decision.Decision.TheVariants as decision
 use Rattle.reason_laws.specs.declared.crossing.Crossing.{Crossing}
 use Rattle.reasons.specs.Crossed.{IsCrossedAnswer}
 use Rattle.reasons.specs.Runs.{without_runs}
@@ -24,30 +23,25 @@ use Rattle.tell_texts.specs.Texts.{items_text}
 use Rattle.tell_texts.specs.Graphs.{graph_text, table_text}
 use Rattle.tell_decision.specs.Names.{name_of, name_behind}
 use Rattle.tell_decision.specs.Short.{short_text}
+use Rattle.tell_decision.specs.declared.written.Told.{Told}
+use Rattle.tell_decision.specs.declared.written.Told.TheVariants.{Cycle, Dead, Tree}
 use Rattle.call_options.specs.declared.format.Format.{Format}
 use Rattle.call_options.specs.declared.format.Format.TheVariants.{Text, Dot}
 use Rattle.log_lines.specs.declared.placed.PlacedHistory.{PlacedHistory}
 
--- items as lines of text, or as a graph
-abbrev pub told_text : Format → PlacedHistory → List Item → List ℕ
-told_text Text log items = items_text log 0 false items
-told_text Dot log items = graph_text log items
+-- a name, where there is one, as a line
+abbrev pub known_as : List ℕ → List ℕ
+known_as [] = []
+known_as (b ∷ bs) = codes "known as: " ++ (b ∷ bs) ++ codes "\n"
 
--- a name, where there is one, as a line of a text
-abbrev pub known_as : Format → List ℕ → List ℕ
-known_as Text [] = []
-known_as Text (b ∷ bs) = codes "known as: " ++ (b ∷ bs) ++ codes "\n"
-known_as Dot name = []
-
-abbrev pub cycle_text : Format → PlacedHistory → List Item → List ℕ
-cycle_text format log items = short_text format log items
-    ++ told_text format log items ++ known_as format (name_of log.history.now items)
+abbrev pub cycle_text : PlacedHistory → List Item → List ℕ
+cycle_text log items = short_text log items ++ items_text log 0 false items
+    ++ known_as (name_of log.history.now items)
 
 -- reads that rule out every order, where such were found
-abbrev pub crossed_text : Format → PlacedHistory → Option Crossing → List ℕ
-crossed_text Text log (Some c) = crossing_text log c
-crossed_text Text log None = []
-crossed_text Dot log found = []
+abbrev pub crossed_text : PlacedHistory → Option Crossing → List ℕ
+crossed_text log (Some c) = crossing_text log c
+crossed_text log None = []
 
 -- of a step: itself, or an edge of its walk
 abbrev pub is_of_step : Item → Bool
@@ -59,38 +53,42 @@ is_of_step _ = false
 abbrev pub of_steps : List Item → ℕ
 of_steps items = prefix_len is_of_step items
 
+abbrev pub headed_text : PlacedHistory → List Item → List ℕ
+headed_text log items = codes "these orders of versions are forced:\n" ++ items_text log 0 false items
+
 abbrev pub forced_text : PlacedHistory → List Item → List ℕ
 forced_text log [] = []
-forced_text log (i ∷ items) =
-    codes "these orders of versions are forced:\n" ++ items_text log 0 false (i ∷ items)
+forced_text log (i ∷ items) = headed_text log (i ∷ items)
 
 -- what closes, and its name; and last the steps that it rests on
-abbrev pub steps_last : Format → PlacedHistory → List ℕ → List Item → List ℕ
-steps_last Text log name items =
-    items_text log 0 false (drop (of_steps items) items) ++ known_as Text name
+abbrev pub steps_last : PlacedHistory → List ℕ → List Item → List ℕ
+steps_last log name items = items_text log 0 false (drop (of_steps items) items) ++ known_as name
     ++ forced_text log (take (of_steps items) items)
-steps_last Dot log name items = graph_text log items
 
 -- the edges of the cycle behind steps
 abbrev pub edges_behind : List Item → List Item
 edges_behind items = drop (of_steps items + 1) items
 
 -- such reads; the cycle in a sentence; and the cycle, its name, and the steps before it
-abbrev pub dead_text : Format → PlacedHistory → Option Crossing → List Item → List ℕ
-dead_text format log found items = crossed_text format log found
-    ++ short_text format log (edges_behind items)
-    ++ steps_last format log (name_behind log.history.now items) items
+abbrev pub dead_text : PlacedHistory → Option Crossing → List Item → List ℕ
+dead_text log found items = crossed_text log found ++ short_text log (edges_behind items)
+    ++ steps_last log (name_behind log.history.now items) items
 
 -- before a tree: such reads; where none were found, what the transactions did
-abbrev pub front_text : Format → PlacedHistory → Option Crossing → List Item → List ℕ
-front_text Text log (Some c) items = crossing_text log c
-front_text Text log None items = table_text log items
-front_text Dot log found items = []
+abbrev pub front_text : PlacedHistory → Option Crossing → List Item → List ℕ
+front_text log (Some c) items = crossing_text log c
+front_text log None items = table_text log items
 
 -- and the tree, and the steps before it
-abbrev pub tree_text : Format → PlacedHistory → Option Crossing → List Item → List ℕ
-tree_text format log found items =
-    front_text format log found items ++ steps_last format log [] items
+abbrev pub tree_text : PlacedHistory → Option Crossing → List Item → List ℕ
+tree_text log found items = front_text log found items ++ steps_last log [] items
+
+-- as lines of text; or the items as a graph
+abbrev pub told_text : Format → PlacedHistory → Told → List Item → List ℕ
+told_text Text log Cycle items = cycle_text log items
+told_text Text log (Dead found) items = dead_text log found items
+told_text Text log (Tree found) items = tree_text log found items
+told_text Dot log told items = graph_text log items
 
 -- in a label a line break is a backslash and n
 abbrev pub label_byte : ℕ → List ℕ
@@ -118,16 +116,6 @@ pub record IsAnomalyExplained (format : Format) (log : PlacedHistory) (a : Anoma
   pub told : IsAnomalyTold log a lines
   pub written : text ≡ lines_text format lines
 
--- a refutation tree over these choices, and before it reads that rule out every order, where there
--- are such and they are sought
-pub record IsTreeWritten (choices : List Choice) (nodes : List TreeNode) (format : Format)
-    (log : PlacedHistory) (text : List ℕ) : Type 0 where
-  pub found : Option Crossing
-  pub crossed : IsCrossedAnswer log.history.now found
-  pub items : List Item
-  pub told : IsTreeTold log.history.now choices nodes items
-  pub written : text ≡ tree_text format log found items
-
 -- the edges of a cycle, each with its reason, with each run of edges of one session as one: what is
 -- told leads from the cycle's first node back to it
 pub record IsRoundTold (ss : List ClientSession) (line : List ℕ) (items : List Item) : Type 0 where
@@ -141,25 +129,35 @@ pub record IsCycleWritten (line : List ℕ) (format : Format) (log : PlacedHisto
     (text : List ℕ) : Type 0 where
   pub items : List Item
   pub told : IsRoundTold log.history.now line items
-  pub written : text ≡ cycle_text format log items
+  pub written : text ≡ told_text format log Cycle items
 
--- reads that rule out every order, where there are such and they are sought; the forced steps that
--- the cycle of a dead ledger needs, the cycle, and its name
-pub record IsDeadWritten (format : Format) (log : PlacedHistory) (text : List ℕ) : Type 0 where
+-- reads that rule out every order, where there are such and they are sought; and what items tell:
+-- the forced steps that the cycle of a dead ledger needs, the cycle, and its name; or a refutation
+-- tree and the steps that it needs
+pub record IsRefutationWritten (kind : Option Crossing → Told) (Tells : List Item → Type 0)
+    (format : Format) (log : PlacedHistory) (text : List ℕ) : Type 0 where
   pub found : Option Crossing
   pub crossed : IsCrossedAnswer log.history.now found
   pub items : List Item
-  pub told : IsDeadTold log.history.now items
-  pub written : text ≡ dead_text format log found items
+  pub told : Tells items
+  pub written : text ≡ told_text format log (kind found) items
+
+abbrev pub IsDeadWritten : Format → PlacedHistory → List ℕ → Type 0
+IsDeadWritten format log text =
+    IsRefutationWritten Dead (IsDeadTold log.history.now) format log text
+
+abbrev pub IsTreeWritten : List Choice → List TreeNode → Format → PlacedHistory → List ℕ → Type 0
+IsTreeWritten choices nodes format log text =
+    IsRefutationWritten Tree (IsTreeTold log.history.now choices nodes) format log text
 
 -- by what is decided; of an order and of a spent budget there is nothing to explain
 abbrev pub IsWhy : Format → PlacedHistory → Decision → List ℕ → Type 0
-IsWhy format log (Serial order) text = text ≡ empty_text format
-IsWhy format log (Anomalous a) text = IsAnomalyExplained format log a text
-IsWhy format log (Cyclic line) text = IsCycleWritten line.items format log text
-IsWhy format log (Dead ledger) text = IsDeadWritten format log text
-IsWhy format log (Refuted left tree) text = IsTreeWritten left.poly.choices tree format log text
-IsWhy format log (Spent closed) text = text ≡ empty_text format
+IsWhy format log (decision.Serial order) text = text ≡ empty_text format
+IsWhy format log (decision.Anomalous a) text = IsAnomalyExplained format log a text
+IsWhy format log (decision.Cyclic line) text = IsCycleWritten line.items format log text
+IsWhy format log (decision.Dead ledger) text = IsDeadWritten format log text
+IsWhy format log (decision.Refuted left tree) text = IsTreeWritten left.poly.choices tree format log text
+IsWhy format log (decision.Spent closed) text = text ≡ empty_text format
 
 -- why, in the places and lines of this table
 pub record IsExplained (format : Format) (table : Table) (ss : List ClientSession) (d : Decision)

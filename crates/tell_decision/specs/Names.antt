@@ -2,7 +2,6 @@
 use Rattle.std.specs.Prelude.{ℕ, ◌==◌, ◌&&◌, nat_lt, if◌then◌else◌, List, [], ◌∷◌}
 use Rattle.std.specs.Prelude.{Option, None, Some}
 use Rattle.session_log.specs.Text.{ClientSession}
-use Rattle.reasons.specs.declared.reason.Reason.{Reason}
 use Rattle.reasons.specs.declared.reason.Reason.TheVariants as reason
 use Rattle.tell_reasons.specs.Names.{followed, with_orders, cycle_name}
 use Rattle.tell_reasons.specs.Versions.{left_at}
@@ -16,21 +15,18 @@ use Rattle.tell_steps.specs.declared.item.Item.{Item}
 use Rattle.tell_steps.specs.declared.item.Item.TheVariants.{Step, Edge, Cycle}
 
 -- ---- edges
--- an anti-dependency misses a write, and so does an order of versions
-abbrev pub kind_by_reason : Reason → Shape
-kind_by_reason reason.Session = SESSION
-kind_by_reason reason.Moments = MOMENTS
-kind_by_reason (reason.Read i j) = READ
-kind_by_reason (reason.Overwritten i j) = MISSED
-kind_by_reason (reason.Initial i j) = MISSED
-
 -- by an order of two versions: from who wrote the key at this place, or from who reads it
 abbrev pub kind_by_order : Option ℕ → Shape
 kind_by_order (Some i) = WRITTEN
 kind_by_order None = MISSED
 
+-- an anti-dependency misses a write, and so may an order of versions
 abbrev pub kind_of : List ClientSession → ℕ → Why → Shape
-kind_of ss a (why.Known r) = kind_by_reason r
+kind_of ss a (why.Known reason.Session) = SESSION
+kind_of ss a (why.Known reason.Moments) = MOMENTS
+kind_of ss a (why.Known (reason.Read i j)) = READ
+kind_of ss a (why.Known (reason.Overwritten i j)) = MISSED
+kind_of ss a (why.Known (reason.Initial i j)) = MISSED
 kind_of ss a (why.Forced number o) = kind_by_order (left_at ss o.key a)
 kind_of ss a (why.Chosen o) = kind_by_order (left_at ss o.key a)
 

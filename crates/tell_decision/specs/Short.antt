@@ -16,24 +16,18 @@ use Rattle.tell_decision.specs.Names.{kind_of}
 use Rattle.tell_decision.specs.declared.short.TheConstants.{MOST_EDGES}
 use Rattle.tell_decision.specs.declared.short.Before.{Before}
 use Rattle.tell_decision.specs.declared.short.Before.TheVariants.{Nothing, Same, Other}
-use Rattle.call_options.specs.declared.format.Format.{Format}
-use Rattle.call_options.specs.declared.format.Format.TheVariants.{Text, Dot}
 use Rattle.log_lines.specs.declared.placed.PlacedHistory.{PlacedHistory}
 
 -- whether the first transaction of an edge did not see a write of the second one
 abbrev pub is_missed : List ClientSession → ℕ → Why → Bool
 is_missed ss a w = nat_lt 0 (kind_of ss a w).missed
 
--- with which of an edge's transactions its words begin
-abbrev pub whose : Bool → ℕ → ℕ → ℕ
-whose missed a b = if missed then a else b
-
 -- what leads to the words of an edge: they go on the words before, where both are of one
 -- transaction
 abbrev pub lead_text : PlacedHistory → Before → Bool → ℕ → List ℕ
 lead_text log Nothing missed v = codes "in short: " ++ named log v
-lead_text log Other missed v = codes "; " ++ named log v
-lead_text log Same missed v = if missed then codes ", but" else codes "; " ++ named log v
+lead_text log Same true v = codes ", but"
+lead_text log _ missed v = codes "; " ++ named log v
 
 -- a write that is not seen, by its key; and what a transaction wrote of a key
 abbrev pub unseen_text : PlacedHistory → ℕ → ℕ → List ℕ
@@ -43,9 +37,6 @@ unseen_text log v i = codes " did not see "
 abbrev pub unseen_at : PlacedHistory → ℕ → Option ℕ → List ℕ
 unseen_at log v None = codes " did not see " ++ named log v
 unseen_at log v (Some i) = unseen_text log v i
-
-abbrev pub unseen_of : PlacedHistory → ℕ → ℕ → List ℕ
-unseen_of log x v = unseen_at log v (left_at log.history.now x v)
 
 abbrev pub known_text : PlacedHistory → ℕ → ℕ → Reason → List ℕ
 known_text log a b reason.Session = codes " came after " ++ (named log a ++ codes " in its session")
@@ -57,7 +48,7 @@ known_text log a b (reason.Initial read begins) = unseen_text log b begins
 
 -- by an order of two versions of a key: from who wrote it, or from who reads it
 abbrev pub ordered_at : PlacedHistory → ℕ → ℕ → ℕ → Option ℕ → List ℕ
-ordered_at log x a b None = unseen_of log x b
+ordered_at log x a b None = unseen_at log b (left_at log.history.now x b)
 ordered_at log x a b (Some i) = codes " wrote "
     ++ (key_text (op_at log.history.now a i) ++ (codes " after " ++ named log a))
 
@@ -74,10 +65,10 @@ said_text log a b (why.Known r) = known_text log a b r
 said_text log a b (why.Forced number o) = ordered_text log o.key a b ++ by_text number
 said_text log a b (why.Chosen o) = ordered_text log o.key a b
 
+-- the words begin with the transaction that did not see a write, else with the second one
 abbrev pub words_of : PlacedHistory → Before → Item → List ℕ
-words_of log before (Edge a b w) =
-    lead_text log before (is_missed log.history.now a w) (whose (is_missed log.history.now a w) a b)
-    ++ said_text log a b w
+words_of log before (Edge a b w) = lead_text log before (is_missed log.history.now a w)
+    (if is_missed log.history.now a w then a else b) ++ said_text log a b w
 words_of log before _ = []
 
 -- no edge, or one whose words say what a transaction did not see
@@ -85,38 +76,28 @@ abbrev pub misses : List ClientSession → Item → Bool
 misses ss (Edge a b w) = is_missed ss a w
 misses ss _ = true
 
--- what the words of an item are for those behind them
-abbrev pub behind : List ClientSession → Item → Before
-behind ss i = if misses ss i then Other else Same
-
 abbrev pub all_words : PlacedHistory → Before → List Item → List ℕ
 all_words log before [] = []
-all_words log before (i ∷ items) =
-    words_of log before i ++ all_words log (behind log.history.now i) items
+all_words log before (i ∷ items) = words_of log before i
+    ++ all_words log (if misses log.history.now i then Other else Same) items
 
 -- how many of these edges stand behind the last one that misses a write
 abbrev pub count_behind : List ClientSession → List Item → ℕ
 count_behind ss items = prefix_len (λ i. not (misses ss i)) (reverse items)
 
--- what stands before the words of edges that follow these, none of which misses a write
-abbrev pub behind_all : List Item → Before
-behind_all [] = Nothing
-behind_all (i ∷ items) = Same
-
 -- edges that close: those behind the last one that misses a write, and then the others up to it
-abbrev pub turned_text : PlacedHistory → ℕ → List Item → List ℕ
-turned_text log n items = all_words log Nothing (drop n items)
-    ++ all_words log (behind_all (drop n items)) (take n items)
+abbrev pub turned : ℕ → List Item → List Item
+turned n items = drop n items ++ take n items
 
 abbrev pub round_text : PlacedHistory → List Item → List ℕ
-round_text log items = turned_text log (length items - count_behind log.history.now items) items
+round_text log items =
+    all_words log Nothing (turned (length items - count_behind log.history.now items) items)
 
 -- what follows from so many edges, where two do not show it at a glance
 abbrev pub end_text : ℕ → List ℕ
 end_text n = if nat_lt 2 n then codes "; no serial order has all of this\n" else codes "\n"
 
 -- the edges of a cycle, where they are few
-abbrev pub short_text : Format → PlacedHistory → List Item → List ℕ
-short_text Text log items = if nat_eq (length items) 0 || nat_lt MOST_EDGES (length items) then []
+abbrev pub short_text : PlacedHistory → List Item → List ℕ
+short_text log items = if nat_eq (length items) 0 || nat_lt MOST_EDGES (length items) then []
     else round_text log items ++ end_text (length items)
-short_text Dot log items = []

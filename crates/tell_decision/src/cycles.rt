@@ -17,6 +17,7 @@ use tell_reasons::Why;
 use tell_steps::Item;
 
 /// Why the log shows that `a` stands before `b`, where it does.
+#[tactic(auto, using(crate::proofs::Known::reason_there))]
 fn reason(alloc: Global, history: &History, a: NodeIx, b: NodeIx) -> Result<Reason, AllocError>
     requires clean { IsClean (log_of history.now) }
     requires stands { Stands history.now [] [] a b }

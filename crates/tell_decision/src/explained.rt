@@ -2,6 +2,7 @@
 
 ghost use Rattle.std.specs.Prelude.{◌≡◌, IfOk};
 ghost use Rattle.serializability.specs.Anomalies.{anomaly_of};
+ghost use Rattle.serializability.specs.Reads.{IsClean};
 ghost use Rattle.log_definitions.specs.Numbers.{log_of};
 ghost use Rattle.reduction.specs.Outcome.{IsCyclicHistory, IsDeadHistory, IsOpenHistory};
 ghost use Rattle.cube_laws.specs.Trees.{IsRefutationTree};
@@ -9,7 +10,7 @@ ghost use Rattle.tell_decision.specs.Explained.{IsAnomalyExplained, IsCycleWritt
 ghost use Rattle.tell_decision.specs.Explained.{IsDeadWritten, IsTreeWritten};
 
 use crate::cycles::cycle_items;
-use crate::written::{written_cycle, written_dead, written_lines, written_tree};
+use crate::written::{Told, written, written_lines};
 use call_options::Format;
 use cube_laws::Tree;
 use log_lines::PlacedHistory;
@@ -46,31 +47,31 @@ pub fn explain_cycle(
     format: Format,
     line: &[NodeIx],
 ) -> Result<Vec<u8>, AllocError>
-    requires none { anomaly_of (log_of log.now.history.now) ≡ None }
+    requires clean { IsClean (log_of log.now.history.now) }
     requires cyclic { IsCyclicHistory log.now.history.now line.now }
     ensures written { IfOk result (λ text. IsCycleWritten line.now format log.now text.items) }
 {
-    let _invariant = log.history.committed();
     let items = cycle_items(alloc, log.history, line)?;
-    written_cycle(alloc, log, format, &items)
+    written(alloc, log, format, Told::Cycle, &items)
 }
 
 /// Reads that rule out every order, where there are such and they are sought; the forced steps that
 /// the cycle of a dead ledger needs, the cycle, and its name.
+#[tactic(auto, using(crate::proofs::Known::dead_ledger))]
 pub fn explain_dead(
     alloc: Global,
     log: &PlacedHistory<'_>,
     format: Format,
     ledger: &Ledger,
 ) -> Result<Vec<u8>, AllocError>
+    requires clean { IsClean (log_of log.now.history.now) }
     requires dead { IsDeadHistory log.now.history.now ledger.now }
     ensures written { IfOk result (λ text. IsDeadWritten format log.now text.items) }
 {
-    let _invariant = log.history.committed();
     let chains = open_chains(alloc, log.history)?;
     let items = tell_dead(alloc, log.history, &chains, ledger)?;
     let found = crossed_reads(alloc, log.history)?;
-    written_dead(alloc, log, format, found, &items)
+    written(alloc, log, format, Told::Dead(found), &items)
 }
 
 /// Reads that rule out every order, where there are such and they are sought; the forced steps that
@@ -82,14 +83,14 @@ pub fn explain_tree(
     reduced: &Reduced,
     tree: &Tree,
 ) -> Result<Vec<u8>, AllocError>
+    requires clean { IsClean (log_of log.now.history.now) }
     requires left { IsOpenHistory log.now.history.now reduced.now }
     requires refutes { IsRefutationTree reduced.now.poly tree.now }
     ensures written { IfOk result (λ text.
         IsTreeWritten reduced.now.poly.choices tree.now format log.now text.items) }
 {
-    let _invariant = log.history.committed();
     let chains = open_chains(alloc, log.history)?;
     let items = tell_tree(alloc, log.history, &chains, reduced, tree)?;
     let found = crossed_reads(alloc, log.history)?;
-    written_tree(alloc, log, format, found, &items)
+    written(alloc, log, format, Told::Tree(found), &items)
 }

@@ -13,18 +13,6 @@ use tell_reasons::names::{
 use tell_reasons::{ChainOrder, Why, left_at};
 use tell_steps::Item;
 
-/// What an edge of this reason is.
-fn kind_by_reason(reason: Reason) -> Shape
-    ensures { result ≡ spec.kind_by_reason reason }
-{
-    match reason {
-        Reason::Session => SESSION,
-        Reason::Moments => MOMENTS,
-        Reason::Read { .. } => READ,
-        Reason::Overwritten { .. } | Reason::Initial { .. } => MISSED,
-    }
-}
-
 /// What an edge by an order of two versions of a key is, from a node that wrote it or reads it.
 fn kind_by_order(history: &History, key: usize, node: NodeIx) -> Shape
     ensures { result ≡ spec.kind_by_order (left_at history.now key node) }
@@ -40,7 +28,10 @@ pub fn kind_of(history: &History, first: NodeIx, why: Why) -> Shape
     ensures { result ≡ spec.kind_of history.now first why }
 {
     match why {
-        Why::Known(reason) => kind_by_reason(reason),
+        Why::Known(Reason::Session) => SESSION,
+        Why::Known(Reason::Moments) => MOMENTS,
+        Why::Known(Reason::Read { .. }) => READ,
+        Why::Known(Reason::Overwritten { .. } | Reason::Initial { .. }) => MISSED,
         Why::Forced { order, .. } => kind_by_order(history, order.key, first),
         Why::Chosen(order) => kind_by_order(history, order.key, first),
     }

@@ -1,15 +1,16 @@
 //! A cycle in a sentence: what each of its transactions saw of another one, and what not.
 
 ghost use Rattle.std.specs.Prelude.{◌≡◌, ◌≤◌, ◌++◌, length, OnOk};
+ghost use Rattle.tell_reasons.specs.Versions.{left_at};
 ghost use Rattle.tell_decision.specs.Short as spec;
+ghost use Rattle.tell_decision.specs.declared.short.Before.TheVariants.{Nothing};
 
 use crate::names::kind_of;
-use call_options::Format;
 use log_lines::PlacedHistory;
 use reasons::Reason;
 use serializability::NodeIx;
 use session_history::History;
-use std::alloc::AllocError;
+use std::alloc::{AllocError, Global};
 use tell_reasons::{Why, left_at, say};
 use tell_steps::Item;
 
@@ -33,13 +34,6 @@ fn is_missed(history: &History, first: NodeIx, why: &Why) -> bool
     kind_of(history, first, *why).missed > 0
 }
 
-/// The transaction with which the words of an edge begin.
-fn whose(is_missed: bool, first: NodeIx, second: NodeIx) -> NodeIx
-    ensures { result ≡ spec.whose is_missed first second }
-{
-    if is_missed { first } else { second }
-}
-
 /// Appends what leads from other words to those of an edge, up to the transaction with which they
 /// begin.
 fn put_lead(
@@ -52,16 +46,10 @@ fn put_lead(
     ensures text { OnOk result (out.new.items
         ≡ out.old.items ++ spec.lead_text log.now before is_missed whose) }
 {
-    match before {
-        Before::Nothing => say!(out, log; Text(b"in short: "), Node(whose)),
-        Before::Other => say!(out, log; Text(b"; "), Node(whose)),
-        Before::Same => {
-            if is_missed {
-                say!(out, log; Text(b", but"))
-            } else {
-                say!(out, log; Text(b"; "), Node(whose))
-            }
-        }
+    match (before, is_missed) {
+        (Before::Nothing, _) => say!(out, log; Text(b"in short: "), Node(whose)),
+        (Before::Same, true) => say!(out, log; Text(b", but")),
+        _ => say!(out, log; Text(b"; "), Node(whose)),
     }
 }
 
@@ -86,7 +74,7 @@ fn put_unseen_of(
     writer: NodeIx,
 ) -> Result<(), AllocError>
     ensures text { OnOk result (out.new.items
-        ≡ out.old.items ++ spec.unseen_of log.now key writer) }
+        ≡ out.old.items ++ spec.unseen_at log.now writer (left_at log.now.history.now key writer)) }
 {
     match left_at(log.history, key, writer) {
         Some(op) => put_unseen(out, log, writer, op),
@@ -138,10 +126,19 @@ fn put_ordered(
     }
 }
 
-/// Appends by which step an edge stands.
-fn put_by(out: &mut Vec<u8>, log: &PlacedHistory<'_>, number: usize) -> Result<(), AllocError>
-    ensures text { OnOk result (out.new.items ≡ out.old.items ++ spec.by_text number) }
+/// Appends the same, and by which step the order stands.
+fn put_forced(
+    out: &mut Vec<u8>,
+    log: &PlacedHistory<'_>,
+    number: usize,
+    key: usize,
+    first: NodeIx,
+    second: NodeIx,
+) -> Result<(), AllocError>
+    ensures text { OnOk result (out.new.items
+        ≡ out.old.items ++ (spec.ordered_text log.now key first second ++ spec.by_text number)) }
 {
+    put_ordered(out, log, key, first, second)?;
     say!(out, log; Text(b" (by ["), Number(number as u64), Text(b"])"))
 }
 
@@ -158,10 +155,7 @@ fn put_said(
 {
     match why {
         Why::Known(reason) => put_known(out, log, first, second, *reason),
-        Why::Forced { number, order } => {
-            put_ordered(out, log, order.key, first, second)?;
-            put_by(out, log, *number)
-        }
+        Why::Forced { number, order } => put_forced(out, log, *number, order.key, first, second),
         Why::Chosen(order) => put_ordered(out, log, order.key, first, second),
     }
 }
@@ -179,7 +173,7 @@ fn put_words(
     match item {
         Item::Edge { first, second, why } => {
             let missed = is_missed(log.history, *first, why);
-            let begins = whose(missed, *first, *second);
+            let begins = if missed { *first } else { *second };
             put_lead(out, log, before, missed, begins)?;
             put_said(out, log, *first, *second, why)
         }
@@ -197,31 +191,19 @@ fn misses(history: &History, item: &Item) -> bool
     }
 }
 
-/// What the words of an item are for those behind them.
-fn behind(history: &History, item: &Item) -> Before
-    ensures { result ≡ spec.behind history.now item.now }
-{
-    if misses(history, item) {
-        Before::Other
-    } else {
-        Before::Same
-    }
-}
-
 /// Appends the words of edges.
-fn put_all(
-    out: &mut Vec<u8>,
-    log: &PlacedHistory<'_>,
-    start: Before,
-    items: &[Item],
-) -> Result<(), AllocError>
+fn put_all(out: &mut Vec<u8>, log: &PlacedHistory<'_>, items: &[Item]) -> Result<(), AllocError>
     ensures text { OnOk result (out.new.items
-        ≡ out.old.items ++ spec.all_words log.now start items.now) }
+        ≡ out.old.items ++ spec.all_words log.now Nothing items.now) }
 {
-    let mut before = start;
+    let mut before = Before::Nothing;
     for item in items {
         put_words(out, log, before, item)?;
-        before = behind(log.history, item);
+        before = if misses(log.history, item) {
+            Before::Other
+        } else {
+            Before::Same
+        };
     }
     Ok(())
 }
@@ -238,25 +220,20 @@ fn count_behind(history: &History, edges: &[Item]) -> usize
         .count()
 }
 
-/// What stands before the words of edges that follow these, none of which misses a write.
-fn behind_all(edges: &[Item]) -> Before
-    ensures { result ≡ spec.behind_all edges.now }
-{
-    match edges {
-        [] => Before::Nothing,
-        [_, ..] => Before::Same,
-    }
-}
-
 /// Appends the words of edges that close, so that the last ones say what a transaction did not see.
-fn put_round(out: &mut Vec<u8>, log: &PlacedHistory<'_>, edges: &[Item]) -> Result<(), AllocError>
+fn put_round(
+    alloc: Global,
+    out: &mut Vec<u8>,
+    log: &PlacedHistory<'_>,
+    edges: &[Item],
+) -> Result<(), AllocError>
     ensures text { OnOk result (out.new.items
         ≡ out.old.items ++ spec.round_text log.now edges.now) }
 {
     let count = edges.len() - count_behind(log.history, edges);
-    let (missing, first) = edges.split_at(count);
-    put_all(out, log, Before::Nothing, first)?;
-    put_all(out, log, behind_all(first), missing)
+    let mut turned = Vec::from_slice(alloc, &edges[count..])?;
+    turned.extend_from_slice(&edges[..count])?;
+    put_all(out, log, &turned)
 }
 
 /// Appends what follows from so many edges, where two do not show it at a glance, and ends the line.
@@ -270,24 +247,18 @@ fn put_end(out: &mut Vec<u8>, log: &PlacedHistory<'_>, edges: usize) -> Result<(
     }
 }
 
-/// Appends the edges of a cycle as a sentence, where they are few, as a line of a text.
+/// Appends the edges of a cycle as a sentence, where they are few.
 pub fn put_short(
+    alloc: Global,
     out: &mut Vec<u8>,
     log: &PlacedHistory<'_>,
-    format: Format,
     edges: &[Item],
 ) -> Result<(), AllocError>
-    ensures text { OnOk result (out.new.items
-        ≡ out.old.items ++ spec.short_text format log.now edges.now) }
+    ensures text { OnOk result (out.new.items ≡ out.old.items ++ spec.short_text log.now edges.now) }
 {
-    match format {
-        Format::Text => {
-            if edges.is_empty() || edges.len() > MOST_EDGES {
-                return Ok(());
-            }
-            put_round(out, log, edges)?;
-            put_end(out, log, edges.len())
-        }
-        Format::Dot => Ok(()),
+    if edges.is_empty() || edges.len() > MOST_EDGES {
+        return Ok(());
     }
+    put_round(alloc, out, log, edges)?;
+    put_end(out, log, edges.len())
 }

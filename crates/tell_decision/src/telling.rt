@@ -39,6 +39,7 @@ pub fn explain_placed(
     requires decided { IsDecided log.now.history.now decision.now }
     ensures why { IfOk result (λ text. IsWhy format log.now decision.now text.items) }
 {
+    let _invariant = log.history.committed();
     match decision {
         Decision::Anomalous(anomaly) => explain_anomaly(alloc, log, format, *anomaly),
         Decision::Cyclic(line) => explain_cycle(alloc, log, format, line),

@@ -2,9 +2,9 @@
 
 ghost use Rattle.std.specs.Prelude.{◌≡◌, ◌≤◌, ◌++◌, length, IfOk, OnOk};
 ghost use Rattle.std.specs.List.{flat_map};
-ghost use Rattle.tell_decision.specs.Explained.{told_text, crossed_text, tree_text};
-ghost use Rattle.tell_decision.specs.Explained.{is_of_step, of_steps, forced_text, steps_last, front_text};
-ghost use Rattle.tell_decision.specs.Explained.{known_as, cycle_text, edges_behind, dead_text};
+ghost use Rattle.tell_decision.specs.Explained.{known_as, cycle_text, crossed_text, edges_behind};
+ghost use Rattle.tell_decision.specs.Explained.{is_of_step, of_steps, forced_text, steps_last, dead_text};
+ghost use Rattle.tell_decision.specs.Explained.{headed_text, front_text, tree_text, told_text};
 ghost use Rattle.tell_decision.specs.Explained.{lines_text, label_byte, box_text};
 
 use crate::names::{name_behind, name_of};
@@ -17,68 +17,58 @@ use tell_reasons::put_crossing;
 use tell_steps::Item;
 use tell_texts::{put_graph, put_items, put_table};
 
-/// Appends items as lines of text, or as a graph.
-fn put_told(
-    alloc: Global,
-    out: &mut Vec<u8>,
-    log: &PlacedHistory<'_>,
-    format: Format,
-    items: &[Item],
-) -> Result<(), AllocError>
-    ensures text { OnOk result (out.new.items
-        ≡ out.old.items ++ told_text format log.now items.now) }
-{
-    match format {
-        Format::Text => put_items(out, log, items),
-        Format::Dot => put_graph(alloc, out, log, items),
-    }
+/// What items tell, and the reads that rule out every order, where such were found.
+#[derive(Clone, Copy)]
+pub enum Told {
+    /// The edges of a cycle.
+    Cycle,
+    /// Steps, and the cycle behind them.
+    Dead(Option<Crossing>),
+    /// Steps, and the tree behind them.
+    Tree(Option<Crossing>),
 }
 
-/// Appends reads that rule out every order, where such were found, as lines of a text.
+/// Appends reads that rule out every order, where such were found.
 fn put_crossed(
     out: &mut Vec<u8>,
     log: &PlacedHistory<'_>,
-    format: Format,
     found: Option<Crossing>,
 ) -> Result<(), AllocError>
-    ensures text { OnOk result (out.new.items
-        ≡ out.old.items ++ crossed_text format log.now found) }
+    ensures text { OnOk result (out.new.items ≡ out.old.items ++ crossed_text log.now found) }
 {
-    match (format, found) {
-        (Format::Text, Some(crossing)) => put_crossing(out, log, crossing),
-        (Format::Text, None) | (Format::Dot, _) => Ok(()),
+    match found {
+        Some(crossing) => put_crossing(out, log, crossing),
+        None => Ok(()),
     }
 }
 
-/// Appends a name, where there is one, as a line of a text.
-fn put_known_as(out: &mut Vec<u8>, format: Format, name: &str) -> Result<(), AllocError>
-    ensures text { OnOk result (out.new.items ≡ out.old.items ++ known_as format name.now) }
+/// Appends a name, where there is one, as a line.
+fn put_known_as(out: &mut Vec<u8>, name: &str) -> Result<(), AllocError>
+    ensures text { OnOk result (out.new.items ≡ out.old.items ++ known_as name.now) }
 {
-    match (format, name.as_bytes()) {
-        (Format::Text, [_, ..]) => {
+    match name.as_bytes() {
+        [] => Ok(()),
+        [_, ..] => {
             out.extend_from_slice(b"known as: ")?;
             out.extend_from_slice(name.as_bytes())?;
             out.extend_from_slice(b"\n")?;
             Ok(())
         }
-        (Format::Text, []) | (Format::Dot, _) => Ok(()),
     }
 }
 
-/// The edges of a cycle, in a sentence and as lines of text, and its name; or as a graph.
-pub fn written_cycle(
+/// Appends the edges of a cycle, in a sentence and as lines, and its name.
+fn put_cycle(
     alloc: Global,
+    out: &mut Vec<u8>,
     log: &PlacedHistory<'_>,
-    format: Format,
     items: &[Item],
-) -> Result<Vec<u8>, AllocError>
-    ensures text { IfOk result (λ text. text.items ≡ cycle_text format log.now items.now) }
+) -> Result<(), AllocError>
+    ensures text { OnOk result (out.new.items ≡ out.old.items ++ cycle_text log.now items.now) }
 {
-    let mut out = Vec::new(alloc);
-    put_short(&mut out, log, format, items)?;
-    put_told(alloc, &mut out, log, format, items)?;
-    put_known_as(&mut out, format, name_of(log.history, items))?;
-    Ok(out)
+    put_short(alloc, out, log, items)?;
+    put_items(out, log, items)?;
+    put_known_as(out, name_of(log.history, items))
 }
 
 /// How many of these items are of steps, before all else.
@@ -108,116 +98,120 @@ fn edges_behind(items: &[Item]) -> &[Item]
     }
 }
 
-/// Appends steps, where there are any.
-fn put_forced(out: &mut Vec<u8>, log: &PlacedHistory<'_>, items: &[Item]) -> Result<(), AllocError>
-    ensures text { OnOk result (out.new.items ≡ out.old.items ++ forced_text log.now items.now) }
+/// Appends steps under a heading.
+fn put_headed(out: &mut Vec<u8>, log: &PlacedHistory<'_>, steps: &[Item]) -> Result<(), AllocError>
+    ensures text { OnOk result (out.new.items ≡ out.old.items ++ headed_text log.now steps.now) }
 {
-    match items {
+    out.extend_from_slice(b"these orders of versions are forced:\n")?;
+    put_items(out, log, steps)
+}
+
+/// Appends steps, where there are any.
+fn put_forced(out: &mut Vec<u8>, log: &PlacedHistory<'_>, steps: &[Item]) -> Result<(), AllocError>
+    ensures text { OnOk result (out.new.items ≡ out.old.items ++ forced_text log.now steps.now) }
+{
+    match steps {
         [] => Ok(()),
-        [_, ..] => {
-            out.extend_from_slice(b"these orders of versions are forced:\n")?;
-            put_items(out, log, items)
-        }
+        [_, ..] => put_headed(out, log, steps),
     }
 }
 
-/// Appends what closes, its name, and last the steps that it rests on; or all as a graph.
+/// Appends what closes, its name, and last the steps that it rests on.
 fn put_steps_last(
-    alloc: Global,
     out: &mut Vec<u8>,
     log: &PlacedHistory<'_>,
-    format: Format,
     name: &str,
     items: &[Item],
 ) -> Result<(), AllocError>
-    ensures text { OnOk result (out.new.items ≡ out.old.items
-        ++ steps_last format log.now name.now items.now) }
+    ensures text { OnOk result (out.new.items
+        ≡ out.old.items ++ steps_last log.now name.now items.now) }
 {
-    match format {
-        Format::Text => {
-            let (steps, closing) = items.split_at(of_steps(items));
-            put_items(out, log, closing)?;
-            put_known_as(out, format, name)?;
-            put_forced(out, log, steps)
-        }
-        Format::Dot => put_graph(alloc, out, log, items),
-    }
+    let (steps, closing) = items.split_at(of_steps(items));
+    put_items(out, log, closing)?;
+    put_known_as(out, name)?;
+    put_forced(out, log, steps)
 }
 
-/// Appends reads that rule out every order, where such were found, else what the transactions of a
-/// tree did, as lines of a text.
-fn put_front(
+/// Appends reads that rule out every order, where such were found; a cycle, in a sentence and in
+/// lines, its name, and the steps that it rests on.
+fn put_dead(
     alloc: Global,
     out: &mut Vec<u8>,
     log: &PlacedHistory<'_>,
-    format: Format,
     found: Option<Crossing>,
     items: &[Item],
 ) -> Result<(), AllocError>
     ensures text { OnOk result (out.new.items
-        ≡ out.old.items ++ front_text format log.now found items.now) }
+        ≡ out.old.items ++ dead_text log.now found items.now) }
 {
-    match (format, found) {
-        (Format::Text, Some(crossing)) => put_crossing(out, log, crossing),
-        (Format::Text, None) => put_table(alloc, out, log, items),
-        (Format::Dot, _) => Ok(()),
+    put_crossed(out, log, found)?;
+    put_short(alloc, out, log, edges_behind(items))?;
+    put_steps_last(out, log, name_behind(log.history, items), items)
+}
+
+/// Appends reads that rule out every order, where such were found, else what the transactions of a
+/// tree did.
+fn put_front(
+    alloc: Global,
+    out: &mut Vec<u8>,
+    log: &PlacedHistory<'_>,
+    found: Option<Crossing>,
+    items: &[Item],
+) -> Result<(), AllocError>
+    ensures text { OnOk result (out.new.items
+        ≡ out.old.items ++ front_text log.now found items.now) }
+{
+    match found {
+        Some(crossing) => put_crossing(out, log, crossing),
+        None => put_table(alloc, out, log, items),
     }
 }
 
-/// Reads that rule out every order, where such were found, else what the transactions did; a tree;
-/// and the steps that it rests on; as lines of text, or the steps and the tree as a graph.
-pub fn written_tree(
+/// Appends such reads, or what the transactions did; a tree; and the steps that it rests on.
+fn put_tree(
+    alloc: Global,
+    out: &mut Vec<u8>,
+    log: &PlacedHistory<'_>,
+    found: Option<Crossing>,
+    items: &[Item],
+) -> Result<(), AllocError>
+    ensures text { OnOk result (out.new.items
+        ≡ out.old.items ++ tree_text log.now found items.now) }
+{
+    put_front(alloc, out, log, found, items)?;
+    put_steps_last(out, log, "", items)
+}
+
+/// What is told, as lines of text, or the items as a graph.
+pub fn written(
     alloc: Global,
     log: &PlacedHistory<'_>,
     format: Format,
-    found: Option<Crossing>,
+    told: Told,
     items: &[Item],
 ) -> Result<Vec<u8>, AllocError>
-    ensures text { IfOk result (λ text. text.items ≡ tree_text format log.now found items.now) }
+    ensures text { IfOk result (λ text. text.items ≡ told_text format log.now told items.now) }
 {
     let mut out = Vec::new(alloc);
-    put_front(alloc, &mut out, log, format, found, items)?;
-    put_steps_last(alloc, &mut out, log, format, "", items)?;
-    Ok(out)
-}
-
-/// Reads that rule out every order, where such were found; a cycle, in a sentence and in lines, its
-/// name, and the steps that it rests on; as lines of text, or the steps and the cycle as a graph.
-pub fn written_dead(
-    alloc: Global,
-    log: &PlacedHistory<'_>,
-    format: Format,
-    found: Option<Crossing>,
-    items: &[Item],
-) -> Result<Vec<u8>, AllocError>
-    ensures text { IfOk result (λ text. text.items ≡ dead_text format log.now found items.now) }
-{
-    let mut out = Vec::new(alloc);
-    put_crossed(&mut out, log, format, found)?;
-    put_short(&mut out, log, format, edges_behind(items))?;
-    let name = name_behind(log.history, items);
-    put_steps_last(alloc, &mut out, log, format, name, items)?;
-    Ok(out)
-}
-
-/// Appends a byte of a label, in which a line break is a backslash and `n`.
-fn put_label_byte(out: &mut Vec<u8>, byte: u8) -> Result<(), AllocError>
-    ensures text { OnOk result (out.new.items ≡ out.old.items ++ label_byte byte) }
-{
-    if byte == b'\n' {
-        out.extend_from_slice(b"\\n")?;
-    } else {
-        out.push(byte)?;
+    match (format, told) {
+        (Format::Text, Told::Cycle) => put_cycle(alloc, &mut out, log, items)?,
+        (Format::Text, Told::Dead(found)) => put_dead(alloc, &mut out, log, found, items)?,
+        (Format::Text, Told::Tree(found)) => put_tree(alloc, &mut out, log, found, items)?,
+        (Format::Dot, _) => put_graph(alloc, &mut out, log, items)?,
     }
-    Ok(())
+    Ok(out)
 }
 
-/// Appends lines as a label.
+/// Appends lines as a label, in which a line break is a backslash and `n`.
 fn put_label(out: &mut Vec<u8>, lines: &[u8]) -> Result<(), AllocError>
     ensures text { OnOk result (out.new.items ≡ out.old.items ++ flat_map label_byte lines.now) }
 {
     for byte in lines {
-        put_label_byte(out, *byte)?;
+        if *byte == b'\n' {
+            out.extend_from_slice(b"\\n")?;
+        } else {
+            out.push(*byte)?;
+        }
     }
     Ok(())
 }

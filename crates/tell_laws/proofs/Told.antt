@@ -1,5 +1,5 @@
 -- What is told holds in each serial order.
-use Rattle.std.proofs.Common.{◌≡◌, ◌⊎◌, ℕ, zero, suc, ◌+◌, ◌<◌, ◌≤◌, cond, List, [], ◌∷◌, ◌++◌, Option, None, Some, refl, sym, ap, ◌∙◌, subst, inl, inr, arith}
+use Rattle.std.proofs.Common.{◌≡◌, ◌⊎◌, ℕ, zero, suc, ◌+◌, ◌<◌, cond, List, [], ◌∷◌, ◌++◌, Option, None, Some, refl, sym, ap, ◌∙◌, subst, inl, inr, arith}
 use Rattle.std.proofs.lemmas.Bool.{le-ltb}
 use Rattle.std.specs.List.{AllByRecursion, Contains}
 use Rattle.list_lemmas.proofs.Elements.{contains_at}
@@ -31,6 +31,7 @@ use Rattle.tell_trees.specs.Trees as trees
 use Rattle.tell_trees.specs.Trees.{IsCubeTold, IsTreeTold}
 use Rattle.tell_trees.specs.Visits.{leaf_count}
 use Rattle.tell_laws.proofs.Chains.{either_chain_first, tail_first}
+use Rattle.tell_laws.proofs.Counts.{of_cube}
 
 -- well-formed sessions, and a serial order of them
 record Setting (ss : List ClientSession) (order : List ℕ) : Type 0 where
@@ -73,24 +74,10 @@ why_before ss order s steps decided ks kd a b (Forced (suc k) o) h =
 why_before ss order s steps decided ks kd a b (Chosen o) h = edge_among ss order decided o a b kd h.2 h.3
 
 -- ---- lines
--- each node of the line stands before the next
-abbrev Along : List ℕ → List ℕ → Type 0
-Along order [] = Unit {0}
-Along order (v ∷ []) = Unit {0}
-Along order (a ∷ b ∷ rest) = Before order a b × Along order (b ∷ rest)
-
-line_along : (ss : List ClientSession) (order : List ℕ) → Setting ss order → (steps decided : List ChainOrder) → AreKept ss order steps → AreKept ss order decided → (line : List ℕ) (items : List Item) → IsLineTold ss steps decided line items → Along order line
-line_along ss order s steps decided ks kd line items (told.ends v) = tt
-line_along ss order s steps decided ks kd line items (told.goes a b rest w more why h) =
-    (why_before ss order s steps decided ks kd a b w why, line_along ss order s steps decided ks kd (b ∷ rest) more h)
-
-first_before_last : (order : List ℕ) (u v : ℕ) (inner : List ℕ) → Along order (u ∷ (inner ++ v ∷ [])) → Before order u v
-first_before_last order u v [] h = h.0
-first_before_last order u v (w ∷ inner) h = omega (arith, h.0, first_before_last order w v inner h.1)
-
 line_before : (ss : List ClientSession) (order : List ℕ) → Setting ss order → (steps decided : List ChainOrder) → AreKept ss order steps → AreKept ss order decided → (u v : ℕ) (inner : List ℕ) (items : List Item) → IsLineTold ss steps decided (u ∷ (inner ++ v ∷ [])) items → Before order u v
-line_before ss order s steps decided ks kd u v inner items h =
-    first_before_last order u v inner (line_along ss order s steps decided ks kd (u ∷ (inner ++ v ∷ [])) items h)
+line_before ss order s steps decided ks kd u v [] items (told.goes a b rest w more why h) = why_before ss order s steps decided ks kd u v w why
+line_before ss order s steps decided ks kd u v (x ∷ inner) items (told.goes a b rest w more why h) =
+    omega (arith, why_before ss order s steps decided ks kd u x w why, line_before ss order s steps decided ks kd x v inner more h)
 
 -- ---- steps
 -- what follows from an order that is kept
@@ -121,16 +108,10 @@ cycle_refuted ss order s steps decided ks kd items (told.closes start inner edge
     (let round = line_before ss order s steps decided ks kd start start inner edges h in omega (arith, round))
 
 -- ---- cubes
-counts_grow : (ss : List ClientSession) (steps : List ChainOrder) (orders : List ChainOrder) (nodes : List TreeNode) (i depth : ℕ) (decided : List ChainOrder) (n m : ℕ) (items : List Item) → IsCubeTold ss steps orders nodes i depth decided n m items → n ≤ m
-counts_grow ss steps orders nodes i depth decided n m items (trees.leaf v d ks k round less at h) = omega arith
-counts_grow ss steps orders nodes i depth decided n m items (trees.split v d ks k l j c first second o one two at is order h g) =
-    omega (arith, counts_grow ss steps orders nodes first (d + 1) (o ∷ ks) k l one h, counts_grow ss steps orders nodes second (d + 1) (turned o ∷ ks) l j two g)
-counts_grow ss steps orders nodes i depth decided n m items (trees.left_out v d ks) = omega arith
-
 cube_refuted : (ss : List ClientSession) (order : List ℕ) → Setting ss order → (steps : List ChainOrder) → AreKept ss order steps → (orders : List ChainOrder) (nodes : List TreeNode) (i depth : ℕ) (decided : List ChainOrder) (n m : ℕ) (items : List Item) → IsCubeTold ss steps orders nodes i depth decided n m items → AreKept ss order decided → m < MAX_LEAVES → ⊥
 cube_refuted ss order s steps ks orders nodes i depth decided n m items (trees.leaf v d kd k round less at h) kept few = cycle_refuted ss order s steps kd ks kept round h
 cube_refuted ss order s steps ks orders nodes i depth decided n m items (trees.split v d kd k l j c first second o one two at is two_chains h g) kept few =
-    let first_few : l < MAX_LEAVES = omega (arith, few, counts_grow ss steps orders nodes second (d + 1) (turned o ∷ kd) l j two g) in
+    let first_few : l < MAX_LEAVES = omega (arith, few, of_cube ss steps orders nodes second (d + 1) (turned o ∷ kd) l j two g) in
     elim (one_way ss order s o two_chains) [
       | inl a ↦ cube_refuted ss order s steps ks orders nodes first (d + 1) (o ∷ kd) k l one h (a, kept) first_few
       | inr a ↦ cube_refuted ss order s steps ks orders nodes second (d + 1) (turned o ∷ kd) l j two g (a, kept) few
@@ -138,25 +119,22 @@ cube_refuted ss order s steps ks orders nodes i depth decided n m items (trees.s
 cube_refuted ss order s steps ks orders nodes i depth decided n m items (trees.left_out v d kd) kept few = absurd (omega (arith, few))
 
 -- ---- of the sessions
-setting : (ss : List ClientSession) (order : List ℕ) → IsWellFormedList ss → IsSerialOrder ss order → Setting ss order
-setting ss order h serial = record { well = h; serial = serial }
-
 pub steps_stand : (ss : List ClientSession) (order : List ℕ) → IsWellFormedList ss → IsSerialOrder ss order → (steps : List ChainOrder) (items : List Item) → AreStepsTold ss steps items → (o : ChainOrder) → Contains steps o → (a b : ℕ) → Contains (edges_in (log_of ss) o) (a, b) → Before order a b
 steps_stand ss order h serial steps items t o among a b has =
-    edge_among ss order steps o a b (steps_kept ss order (setting ss order h serial) steps items t) among has
+    edge_among ss order steps o a b (steps_kept ss order (record { well = h; serial = serial }) steps items t) among has
 
 pub no_cycle : (ss : List ClientSession) → IsWellFormedList ss → (start : ℕ) (inner : List ℕ) (items : List Item) → IsLineTold ss [] [] (start ∷ (inner ++ start ∷ [])) items → (order : List ℕ) → IsSerialOrder ss order → ⊥
 no_cycle ss h start inner items line order serial =
-    cycle_refuted ss order (setting ss order h serial) [] [] tt tt _ (told.closes start inner items line)
+    cycle_refuted ss order (record { well = h; serial = serial }) [] [] tt tt _ (told.closes start inner items line)
 
 pub no_order_where_dead : (ss : List ClientSession) → IsWellFormedList ss → (items : List Item) → IsDeadTold ss items → (order : List ℕ) → IsSerialOrder ss order → ⊥
 no_order_where_dead ss h items t order serial =
-    let s = setting ss order h serial in
+    let s : Setting ss order = record { well = h; serial = serial } in
     cycle_refuted ss order s t.steps [] (steps_kept ss order s t.steps t.before t.told) tt t.round t.cycle
 
 pub no_order_where_tree : (ss : List ClientSession) → IsWellFormedList ss → (choices : List Choice) (nodes : List TreeNode) (items : List Item) (t : IsTreeTold ss choices nodes items) → leaf_count nodes < MAX_LEAVES → (order : List ℕ) → IsSerialOrder ss order → ⊥
 no_order_where_tree ss h choices nodes items t less order serial =
     let leaves = leaf_count nodes in
-    let s = setting ss order h serial in
+    let s : Setting ss order = record { well = h; serial = serial } in
     let few : t.last < MAX_LEAVES = subst (λ n. n < MAX_LEAVES) (sym (t.count ∙ ap (λ b. cond b MAX_LEAVES leaves) (le-ltb MAX_LEAVES leaves (omega (arith, less))))) less in
     cube_refuted ss order s t.steps (steps_kept ss order s t.steps t.before t.told) t.orders nodes 0 0 [] 0 t.last t.tree t.root tt few

@@ -26,6 +26,17 @@ pub enum Kind {
     Written,
 }
 
+impl Kind {
+    /// What a hop costs that the log shows.
+    fn cost(self) -> usize {
+        match self {
+            Kind::On => 0,
+            Kind::Session | Kind::Moments => BY_ORDER,
+            Kind::Read | Kind::Missed | Kind::Written => BY_READS,
+        }
+    }
+}
+
 /// A hop to a place, what it costs, and the number of the kept order that gives it; none where the
 /// log shows it.
 #[derive(Clone, Copy)]
@@ -46,67 +57,21 @@ pub struct Hops {
     lists: Vec<Vec<Hop>>,
 }
 
-/// A node that began at a moment.
-#[derive(Clone, Copy)]
-struct Begun {
-    moment: u64,
-    node: NodeIx,
-}
-
-/// What a hop costs that the log shows.
-fn cost_of(kind: Kind) -> usize {
-    match kind {
-        Kind::On => 0,
-        Kind::Session | Kind::Moments => BY_ORDER,
-        Kind::Read | Kind::Missed | Kind::Written => BY_READS,
-    }
-}
-
 /// The node of this number, and node 0 where there is none.
 pub fn node_at(number: usize) -> NodeIx {
     NodeIx::new(number).unwrap_or(NodeIx::INITIAL)
 }
 
-/// Which of the nodes that read a version of the key writes it: the next of the chain.
-fn next_writer(history: &History, key: usize, readers: &[NodeIx]) -> Option<NodeIx> {
-    if history.keys() <= key {
-        return None;
-    }
-    let writers = history.writers_of(key);
-    readers
-        .iter()
-        .find(|reader| writers.contains(reader))
-        .copied()
-}
-
-/// The nodes of which it is stated when they began, in the order of these moments.
-fn begun_nodes(alloc: Global, history: &History) -> Result<Vec<Begun>, AllocError> {
-    let mut begun = Vec::new(alloc);
-    for number in 1..history.committed().saturating_add(1) {
-        let node = node_at(number);
-        if let Some(moment) = history.begun_of(node) {
-            begun.push(Begun { moment, node })?;
-        }
-    }
-    begun.sort_by_key(|entry| entry.moment)?;
-    Ok(begun)
-}
-
 impl Hops {
-    /// None, of so many nodes and keys.
-    fn none(alloc: Global, nodes: usize, keys: usize) -> Result<Hops, AllocError> {
-        let mut lists = Vec::new(alloc);
-        for _ in 0..nodes.saturating_mul(3).saturating_add(keys) {
-            lists.push(Vec::new(alloc))?;
-        }
-        Ok(Hops { nodes, lists })
-    }
-
     /// What the log shows.
     pub fn of(alloc: Global, chains: &Chains<'_>) -> Result<Hops, AllocError> {
         let history = chains.history();
         let nodes = history.committed().saturating_add(1);
-        let mut hops = Hops::none(alloc, nodes, history.keys())?;
+        let mut lists = Vec::new(alloc);
+        for _ in 0..nodes.saturating_mul(3).saturating_add(history.keys()) {
+            lists.push(Vec::new(alloc))?;
+        }
+        let mut hops = Hops { nodes, lists };
         hops.add_sessions(history)?;
         hops.add_moments(alloc, history)?;
         hops.add_reads(history)?;
@@ -145,7 +110,7 @@ impl Hops {
         let hop = Hop {
             to,
             kind,
-            cost: cost_of(kind),
+            cost: kind.cost(),
             kept: None,
         };
         self.add(from, hop)
@@ -182,15 +147,21 @@ impl Hops {
 
     /// From each node to those that began behind its end.
     fn add_moments(&mut self, alloc: Global, history: &History) -> Result<(), AllocError> {
-        let begun = begun_nodes(alloc, history)?;
-        for (count, entry) in begun.iter().enumerate() {
+        let mut begun = Vec::new(alloc);
+        for number in 1..self.nodes {
+            if let Some(moment) = history.begun_of(node_at(number)) {
+                begun.push((moment, number))?;
+            }
+        }
+        begun.sort()?;
+        for (count, (_, number)) in begun.iter().enumerate() {
             let rail = self.in_time(count);
-            self.add_shown(rail, entry.node.get(), Kind::On)?;
+            self.add_shown(rail, *number, Kind::On)?;
             self.add_shown(rail, self.in_time(count.saturating_add(1)), Kind::On)?;
         }
         for number in 1..self.nodes {
             if let Some(end) = history.ended_of(node_at(number)) {
-                let count = begun.partition_point(|entry| entry.moment <= end);
+                let count = begun.partition_point(|(moment, _)| *moment <= end);
                 if count < begun.len() {
                     self.add_shown(number, self.in_time(count), Kind::Moments)?;
                 }
@@ -216,6 +187,7 @@ impl Hops {
             return Ok(());
         }
         let place = self.of_key(key);
+        let writers = chains.history().writers_of(key);
         let mut next = Some(NodeIx::INITIAL);
         for _ in 0..self.nodes {
             let Some(writer) = next else {
@@ -228,7 +200,7 @@ impl Hops {
             for reader in readers {
                 self.add_shown(reader.get(), place, Kind::Missed)?;
             }
-            next = next_writer(chains.history(), key, readers);
+            next = readers.iter().find(|it| writers.contains(it)).copied();
         }
         for chain in chains.chains_of(key) {
             self.add_shown(place, chain.head.get(), Kind::On)?;

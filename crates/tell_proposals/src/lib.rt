@@ -5,7 +5,6 @@
 //! pruning found. So nothing is promised of it but that it ends. It knows no text.
 #![tactic(auto)]
 
-mod claim;
 mod hops;
 mod orders;
 mod proposal;

@@ -1,9 +1,8 @@
 //! What is proposed.
 
-use crate::claim::Claim;
 use crate::hops::Kind;
-use crate::orders::{Pair, chains_at, end_of_cycle, end_of_step};
-use crate::rounds::{Rounds, rounds_of};
+use crate::orders::{End, Order};
+use crate::rounds::{Rounds, kind_behind, rounds_of};
 use crate::search::{Search, Walk};
 use serializability::NodeIx;
 use std::alloc::{AllocError, Global};
@@ -27,115 +26,125 @@ pub struct Proposal {
     pub cycle: Vec<NodeIx>,
 }
 
-/// The first writers of the two chains.
-fn heads_of(chains: &Chains<'_>, pair: Pair) -> (NodeIx, NodeIx) {
-    let all = chains_at(chains, pair.key);
-    match (all.get(pair.first), all.get(pair.second)) {
-        (Some(first), Some(second)) => (first.head, second.head),
-        _ => (NodeIx::INITIAL, NodeIx::INITIAL),
-    }
+/// How little a cycle with hops of these kinds claims: how little order besides reads and writes it
+/// takes, and how weak a store may be at which it happens. The more writes are missed, the weaker;
+/// then come stores at which information goes in a circle, and then those at which writes do.
+fn modesty(kinds: &[Kind]) -> (usize, usize) {
+    let freedom = if kinds.contains(&Kind::Moments) {
+        0
+    } else if kinds.contains(&Kind::Session) {
+        1
+    } else {
+        2
+    };
+    let missed = kinds.iter().filter(|kind| **kind == Kind::Missed);
+    let weakness = match missed.count() {
+        0 => usize::from(kinds.contains(&Kind::Read)),
+        1 => 2,
+        _ => 3,
+    };
+    (freedom, weakness)
 }
 
-/// The rounds of a history with these chains, and a search among them.
+/// The rounds of a history with these chains, a search among them, which of the kept orders are
+/// needed, and the steps so far, the last one first.
 #[derive(Drop)]
-struct Walks<'a> {
+struct Telling<'a> {
     alloc: Global,
     chains: &'a Chains<'a>,
     rounds: &'a Rounds,
     search: Search,
+    is_needed: Vec<bool>,
+    steps: Vec<ProposedStep>,
 }
 
-impl<'a> Walks<'a> {
+impl<'a> Telling<'a> {
+    /// The first writers of the two chains.
+    fn heads(&self, order: Order) -> (NodeIx, NodeIx) {
+        match order.chains(self.chains) {
+            Some((first, second)) => (first.head, second.head),
+            None => (NodeIx::INITIAL, NodeIx::INITIAL),
+        }
+    }
+
     /// The cheapest walk against an order, by what the log shows and the first `limit` kept orders:
     /// that of a step, or that of a cycle.
-    fn against(&mut self, order: Pair, limit: usize, is_step: bool) -> Result<Walk, AllocError> {
-        let (_, start) = heads_of(self.chains, order);
+    fn against(&mut self, order: Order, limit: usize, is_step: bool) -> Result<Walk, AllocError> {
+        let (_, start) = self.heads(order);
         let hops = &self.rounds.hops;
         self.search.run(hops, start, limit)?;
-        let end = match chains_at(self.chains, order.key).get(order.first) {
-            Some(chain) if is_step => end_of_step(&self.search, chain).node,
-            Some(chain) => end_of_cycle(&self.search, chain).node,
+        let end = match order.chains(self.chains) {
+            Some((first, _)) if is_step => End::of_step(&self.search, first).node,
+            Some((first, _)) => End::of_cycle(&self.search, first).node,
             None => start,
         };
         self.search.walk_to(self.alloc, hops, start, end)
     }
 
-    /// The one of two orders, both of which are refuted, that a step refutes: the other one's cycle
-    /// claims no more than its own would, so what is told as a fact is rather one.
-    fn last_step(&mut self, order: Pair, limit: usize) -> Result<Pair, AllocError> {
-        let one = self.against(order, limit, false)?;
-        let two = self.against(order.turned(), limit, false)?;
-        let own = claim_of(self.chains, order, &one);
-        let others = claim_of(self.chains, order.turned(), &two);
-        Ok(if own.is_less(others) {
-            order.turned()
-        } else {
-            order
-        })
-    }
-}
-
-/// What the cycle claims that refutes an order: this walk, and the edge that closes it.
-fn claim_of(chains: &Chains<'_>, order: Pair, walk: &Walk) -> Claim {
-    let mut claim = walk.claim;
-    let first = chains_at(chains, order.key).get(order.first);
-    let is_read = first.is_some_and(|chain| !chain.readers.is_empty());
-    claim.add(if is_read { Kind::Missed } else { Kind::Written });
-    claim
-}
-
-/// Marks the kept orders that a walk rests on.
-fn mark(needed: &mut [bool], walk: &Walk) {
-    for number in &walk.kept {
-        if let Some(is_needed) = needed.get_mut(*number) {
-            *is_needed = true;
+    /// How little the cycle claims that refutes an order.
+    fn modesty_against(&mut self, order: Order) -> Result<(usize, usize), AllocError> {
+        let mut walk = self.against(order, self.rounds.kept.len(), false)?;
+        if let Some((first, _)) = order.chains(self.chains) {
+            walk.kinds.push(kind_behind(first))?;
         }
+        Ok(modesty(&walk.kinds))
+    }
+
+    /// The nodes of such a walk. The kept orders that it rests on are needed.
+    fn needed_walk(
+        &mut self,
+        order: Order,
+        limit: usize,
+        is_step: bool,
+    ) -> Result<Vec<NodeIx>, AllocError> {
+        let walk = self.against(order, limit, is_step)?;
+        for number in &walk.kept {
+            if let Some(is_needed) = self.is_needed.get_mut(*number) {
+                *is_needed = true;
+            }
+        }
+        Ok(walk.nodes)
+    }
+
+    /// Adds the step that keeps an order, by the walk against the other way.
+    fn add_step(&mut self, order: Order, limit: usize) -> Result<(), AllocError> {
+        let (first, second) = self.heads(order);
+        let walk = self.needed_walk(order.turned(), limit, true)?;
+        self.steps.push(ProposedStep {
+            key: order.key,
+            first,
+            second,
+            walk,
+        })?;
+        Ok(())
     }
 }
 
-/// The step that keeps an order, by the walk against the other way.
-fn step_of(chains: &Chains<'_>, order: Pair, walk: Walk) -> ProposedStep {
-    let (first, second) = heads_of(chains, order);
-    ProposedStep {
-        key: order.key,
-        first,
-        second,
-        walk: walk.nodes,
-    }
-}
-
-/// The steps that are needed, and the cycle.
+/// The steps that are needed, and the cycle. Of the last order a cycle refutes the one way and a step
+/// the other: the cycle is told that claims less, so what is told as a fact is rather one.
 fn told(alloc: Global, chains: &Chains<'_>, rounds: &Rounds) -> Result<Proposal, AllocError> {
     let limit = rounds.kept.len();
-    let search = Search::new(alloc, rounds.hops.places())?;
-    let mut walks = Walks {
+    let mut telling = Telling {
         alloc,
         chains,
         rounds,
-        search,
+        search: Search::new(alloc, rounds.hops.places())?,
+        is_needed: vec![in alloc; false; limit]?,
+        steps: Vec::new(alloc),
     };
-    let mut table = vec![in alloc; false; limit]?;
-    let needed = table.as_mut_slice();
-    let last = walks.last_step(rounds.last, limit)?;
-    let order = last.turned();
-    let round = walks.against(order, limit, false)?;
-    mark(needed, &round);
-    let walk = walks.against(last, limit, true)?;
-    mark(needed, &walk);
-    let mut steps = Vec::new(alloc);
-    steps.push(step_of(chains, order, walk))?;
+    let (one, other) = (rounds.last, rounds.last.turned());
+    let is_less = telling.modesty_against(other)? < telling.modesty_against(one)?;
+    let last = if is_less { one } else { other };
+    let mut cycle = telling.needed_walk(last, limit, false)?;
+    cycle.extend(cycle.first().copied())?;
+    telling.add_step(last, limit)?;
     for (number, kept) in rounds.kept.iter().enumerate().rev() {
-        if needed.get(number).copied().unwrap_or(false) {
-            let walk = walks.against(kept.order.turned(), kept.limit, true)?;
-            mark(needed, &walk);
-            steps.push(step_of(chains, kept.order, walk))?;
+        if telling.is_needed.get(number).copied().unwrap_or(false) {
+            telling.add_step(kept.order, kept.limit)?;
         }
     }
+    let mut steps = telling.steps;
     steps.reverse();
-    let mut cycle = round.nodes;
-    if let Some(start) = cycle.first().copied() {
-        cycle.push(start)?;
-    }
     Ok(Proposal { steps, cycle })
 }
 

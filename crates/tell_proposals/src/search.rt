@@ -1,6 +1,5 @@
 //! The cheapest walks from a node.
 
-use crate::claim::Claim;
 use crate::hops::{Hops, Kind, node_at};
 use serializability::NodeIx;
 use std::alloc::{AllocError, Global};
@@ -19,12 +18,13 @@ struct Reached {
     kept: Option<usize>,
 }
 
-/// A walk: its nodes, the numbers of the kept orders that it rests on, and what it claims.
+/// A walk: its nodes, the numbers of the kept orders that it rests on, and of which kinds its hops
+/// are.
 #[derive(Drop)]
 pub struct Walk {
     pub nodes: Vec<NodeIx>,
     pub kept: Vec<usize>,
-    pub claim: Claim,
+    pub kinds: Vec<Kind>,
 }
 
 /// The cheapest walks from one node, and the places that are still to be looked at, by cost.
@@ -73,8 +73,8 @@ impl Search {
         Ok(())
     }
 
-    /// Looks at a place that was reached at this cost, if it was not reached for less.
-    fn look_at(
+    /// Goes on by the hops from a place that was reached at this cost, if it was not reached for less.
+    fn go_on(
         &mut self,
         hops: &Hops,
         place: usize,
@@ -118,7 +118,7 @@ impl Search {
                 let Some(place) = self.next(cost) else {
                     break;
                 };
-                self.look_at(hops, place, cost, limit)?;
+                self.go_on(hops, place, cost, limit)?;
             }
         }
         Ok(())
@@ -132,29 +132,28 @@ impl Search {
         start: NodeIx,
         end: NodeIx,
     ) -> Result<Walk, AllocError> {
-        let mut nodes = Vec::new(alloc);
-        let mut kept = Vec::new(alloc);
-        let mut claim = Claim::default();
+        let mut walk = Walk {
+            nodes: vec![in alloc; end]?,
+            kept: Vec::new(alloc),
+            kinds: Vec::new(alloc),
+        };
         let mut place = end.get();
-        nodes.push(end)?;
         for _ in 0..self.reached.len() {
             let Some(reached) = self.reached.get(place) else {
                 break;
             };
-            claim.add(reached.kind);
-            if let Some(number) = reached.kept {
-                kept.push(number)?;
-            }
+            walk.kinds.push(reached.kind)?;
+            walk.kept.extend(reached.kept)?;
             place = reached.from;
             if place == start.get() {
                 break;
             }
             if place < hops.nodes {
-                nodes.push(node_at(place))?;
+                walk.nodes.push(node_at(place))?;
             }
         }
-        nodes.push(start)?;
-        nodes.reverse();
-        Ok(Walk { nodes, kept, claim })
+        walk.nodes.push(start)?;
+        walk.nodes.reverse();
+        Ok(walk)
     }
 }

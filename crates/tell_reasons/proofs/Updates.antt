@@ -22,7 +22,7 @@ use Rattle.log_lines.specs.declared.placed.PlacedHistory.{PlacedHistory}
 use Rattle.tell_reasons.specs.Reasons.{op_at, named, wid_text, op_in_line}
 use Rattle.tell_reasons.specs.Events.{is_write_in, is_read_in, is_other_in, last_position}
 use Rattle.tell_reasons.specs.Versions.{left_at, read_at}
-use Rattle.tell_reasons.specs.Anomalies.{Appends, IsRead, IsReadTold, IsUpdateTold, AreUpdatesTold}
+use Rattle.tell_reasons.specs.Anomalies.{Appends, IsRead, IsReadTold, IsUpdateTold, AreUpdatesTold, short_text}
 use Rattle.tell_reasons.proofs.Found.{none_at}
 use Rattle.reasons.proofs.Ops.{op_of, key_below}
 
@@ -157,9 +157,9 @@ update_told log x v read write old mid new first last a e =
       told = record { read = read; write = write; line = a.text; first = first; last = last; told = a.told; whole = refl };
     }
 
-pub updates_told : (log : PlacedHistory) (x a b : ℕ) (old mid new : List ℕ) → Appends old mid (IsUpdateTold log x a) → Appends mid new (IsUpdateTold log x b) → Appends old new (AreUpdatesTold log x a b)
-updates_told log x a b old mid new p q = record {
-  text = p.text ++ q.text;
-  added = two old p.text q.text mid new p.added q.added;
+pub updates_told : (log : PlacedHistory) (x a b : ℕ) (old said mid new : List ℕ) → said ≡ old ++ short_text log x a b → Appends said mid (IsUpdateTold log x a) → Appends mid new (IsUpdateTold log x b) → Appends old new (AreUpdatesTold log x a b)
+updates_told log x a b old said mid new short p q = record {
+  text = short_text log x a b ++ (p.text ++ q.text);
+  added = two old (short_text log x a b) (p.text ++ q.text) said new short (two said p.text q.text mid new p.added q.added);
   told = record { one = p.text; two = q.text; first = p.told; second = q.told; whole = refl };
 }

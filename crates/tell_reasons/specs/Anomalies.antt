@@ -1,6 +1,6 @@
 -- How an anomaly is told: the reads that show it, who wrote what they name, and what their
 -- transactions did with the key besides. Operations count from 0.
-use Rattle.std.specs.Prelude.{◌≡◌, ◌≢◌, ℕ, ◌+◌, ◌-◌, ◌&&◌, Bool, false, List, [], ◌∷◌}
+use Rattle.std.specs.Prelude.{◌≡◌, ◌≢◌, ℕ, ◌+◌, ◌-◌, ◌&&◌, ◌==◌, Bool, false, List, [], ◌∷◌}
 use Rattle.std.specs.Prelude.{◌++◌, take, drop, position, codes, slice_get, Option}
 use Rattle.std.specs.Prelude.{None, Some, nat_lt, if◌then◌else◌}
 use Rattle.std.specs.List.{Contains, flat_map}
@@ -14,13 +14,14 @@ use Rattle.session_log.specs.declared.session.Outcome.TheVariants.{Commit, Abort
 use Rattle.serializability.specs.declared.anomaly.Anomaly.{Anomaly}
 use Rattle.serializability.specs.declared.anomaly.Anomaly.TheVariants as anomaly
 use Rattle.log_definitions.specs.Unknown.{ops_in}
+use Rattle.log_definitions.specs.Numbers.{log_of}
 use Rattle.order_text.specs.Text.{name_text}
 use Rattle.log_lines.specs.Rows.{TxnRow, Table, line_at}
 use Rattle.log_lines.specs.Places.{StandsAt}
 use Rattle.log_lines.specs.Placed.{table_in, op_line_in}
 use Rattle.log_lines.specs.declared.placed.PlacedHistory.{PlacedHistory}
 use Rattle.tell_reasons.specs.Reasons.{named, in_line, op_at, op_in_line, key_and_wid}
-use Rattle.tell_reasons.specs.Reasons.{wid_text, does_text}
+use Rattle.tell_reasons.specs.Reasons.{wid_text, does_text, key_bytes}
 use Rattle.tell_reasons.specs.Versions.{left_at, read_at, written_before, other_before}
 
 -- ---- operations of a key
@@ -154,13 +155,26 @@ pub record IsUpdateTold (log : PlacedHistory) (x v : ℕ) (text : List ℕ) : Ty
   pub whole : text ≡ line ++ (named log v ++ codes " overwrites it with " ++ wid_text
       (op_at log.history.now v write) ++ op_in_line log v write ++ 10 ∷ [])
 
+-- which of two nodes did not see what the other wrote: of one session the second, else both
+abbrev pub unseen_text : PlacedHistory → ℕ → ℕ → List ℕ
+unseen_text log a b =
+    if (log_of log.history.now).session a == (log_of log.history.now).session b
+    then named log b ++ (codes " did not see " ++ (named log a ++ codes "'s\n"))
+    else codes "neither saw the other's\n"
+
+-- two updates of key number x in a sentence
+abbrev pub short_text : PlacedHistory → ℕ → ℕ → ℕ → List ℕ
+short_text log x a b = (codes "in short: " ++ (named log a ++ (codes " and " ++ (named log b
+    ++ (codes " read one version of " ++ (key_bytes log.history.now x
+    ++ codes " and both overwrote it; ")))))) ++ unseen_text log a b
+
 -- two nodes read key number x first and write it last
 pub record AreUpdatesTold (log : PlacedHistory) (x a b : ℕ) (text : List ℕ) : Type 0 where
   pub one : List ℕ
   pub two : List ℕ
   pub first : IsUpdateTold log x a one
   pub second : IsUpdateTold log x b two
-  pub whole : text ≡ one ++ two
+  pub whole : text ≡ short_text log x a b ++ (one ++ two)
 
 -- ---- an anomaly, whose operations count from 1
 abbrev pub IsAnomalyTold : PlacedHistory → Anomaly → List ℕ → Type 0

@@ -131,16 +131,21 @@ versions_text log o =
     key_bytes log.history.now o.key ++ codes ": " ++ version_text log o.key o.first
     ++ codes ", comes before " ++ version_text log o.key o.second
 
--- why one of two versions of a key comes first: u reads the other one, and comes after v. Nothing,
--- where u reads neither: `    if 20 came first, 14.1, which reads 20 (line 68), would come before
--- 11.1, but 11.1 comes before 14.1:`
+-- node u, which comes after v, reads a version or an update of it, by operation i: so the version comes
+-- after the one that v wrote: `    14.1, which comes after 11.1, reads 20 (line 68), so 20 is the later
+-- version:`
+abbrev pub later_text : PlacedHistory → ℕ → ℕ → ℕ → ℕ → List ℕ
+later_text log version u v i =
+    (codes "    " ++ (named log u ++ (codes ", which comes after " ++ (named log v
+    ++ (codes ", reads " ++ (wid_text (op_at log.history.now u i) ++ op_in_line log u i))))))
+    ++ behind_text log version u i
+    ++ (codes ", so " ++ (decimal version ++ codes " is the later version:\n"))
+
+-- why the first of two versions of a key comes first: u reads the other one. Nothing, where u does not
+-- read the key
 abbrev pub since_at : PlacedHistory → ℕ → ℕ → ℕ → Option ℕ → List ℕ
 since_at log version u v None = []
-since_at log version u v (Some i) =
-    codes "    if " ++ decimal version ++ codes " came first, " ++ named log u
-    ++ codes ", which reads " ++ wid_text (op_at log.history.now u i) ++ op_in_line log u i
-    ++ behind_text log version u i ++ codes ", would come before " ++ named log v
-    ++ codes ", which would overwrite it, but " ++ named log v ++ codes " comes before " ++ named log u ++ codes ":\n"
+since_at log version u v (Some i) = later_text log version u v i
 
 abbrev pub since_text : PlacedHistory → ChainOrder → ℕ → ℕ → List ℕ
 since_text log o u v = since_at log (version_of log.history.now o.key o.second) u v

@@ -1,6 +1,6 @@
 //! What is wrong with a read, or with two transactions that update one key, in the log's own lines.
 
-ghost use Rattle.std.specs.Prelude.{◌≡◌, ℕ, Some, IfSome, OnOk};
+ghost use Rattle.std.specs.Prelude.{◌≡◌, ◌++◌, ℕ, Some, IfSome, OnOk};
 ghost use Rattle.serializability.specs.Anomalies.{anomaly_of};
 ghost use Rattle.anomaly_laws.specs.Meaning.{IsUpdate};
 ghost use Rattle.log_definitions.specs.Numbers.{log_of};
@@ -115,7 +115,40 @@ fn put_update(
     Ok(())
 }
 
-/// Appends the lines of two updates of a key.
+/// Appends which of two nodes did not see what the other wrote: of one session the second, else both.
+fn put_unseen(
+    out: &mut Vec<u8>,
+    log: &PlacedHistory<'_>,
+    first: NodeIx,
+    second: NodeIx,
+) -> Result<(), AllocError>
+    ensures text { OnOk result (out.new.items
+        ≡ out.old.items ++ spec.unseen_text log.now first second) }
+{
+    if log.history.session_of(first) == log.history.session_of(second) {
+        say!(out, log; Node(second), Text(b" did not see "), Node(first), Text(b"'s\n"))
+    } else {
+        say!(out, log; Text(b"neither saw the other's\n"))
+    }
+}
+
+/// Appends two updates of a key in a sentence.
+fn put_short(
+    out: &mut Vec<u8>,
+    log: &PlacedHistory<'_>,
+    key: usize,
+    first: NodeIx,
+    second: NodeIx,
+) -> Result<(), AllocError>
+    ensures text { OnOk result (out.new.items
+        ≡ out.old.items ++ spec.short_text log.now key first second) }
+{
+    say!(out, log; Text(b"in short: "), Node(first), Text(b" and "), Node(second),
+        Text(b" read one version of "), Key(key), Text(b" and both overwrote it; "))?;
+    put_unseen(out, log, first, second)
+}
+
+/// Appends two updates of a key, in a sentence and in lines.
 #[tactic(auto, using(crate::proofs::Updates::updates_told))]
 fn put_updates(
     out: &mut Vec<u8>,
@@ -128,6 +161,7 @@ fn put_updates(
     ensures told { OnOk result (Appends out.old.items out.new.items
         (spec.AreUpdatesTold log.now key nodes.0 nodes.1)) }
 {
+    put_short(out, log, key, nodes.0, nodes.1)?;
     put_update(out, log, key, nodes.0)?;
     put_update(out, log, key, nodes.1)?;
     Ok(())

@@ -24,6 +24,7 @@ fn put_pair(out: &mut Vec<u8>, log: &PlacedHistory<'_>, pair: PairRead) -> Resul
 
 /// Appends that all four pairs of two versions of a key and two of another were read, and what that
 /// is called.
+#[tactic(auto, using(std::proofs::Common::append_assoc))]
 pub fn put_crossing(
     out: &mut Vec<u8>,
     log: &PlacedHistory<'_>,

@@ -105,6 +105,7 @@ fn put_comes_by(
 
 /// Appends what `a` has of a key, and that a forced step puts it before what `b` wrote of it, or
 /// that by supposition it comes before that, and ends the line.
+#[tactic(auto, using(std::proofs::Common::append_assoc))]
 fn put_comes(
     out: &mut Vec<u8>,
     log: &PlacedHistory<'_>,

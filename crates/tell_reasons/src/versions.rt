@@ -285,8 +285,27 @@ pub fn put_versions(
     put_version(out, log, order.key, order.second)
 }
 
+/// Appends that a node, which comes after another one, reads a version of a key or an update of it, by
+/// this operation: so the version comes after the one that the other node wrote.
+fn put_later(
+    out: &mut Vec<u8>,
+    log: &PlacedHistory<'_>,
+    version: u64,
+    node: NodeIx,
+    after: NodeIx,
+    op: usize,
+) -> Result<(), AllocError>
+    ensures text { OnOk result (out.new.items
+        ≡ out.old.items ++ spec.later_text log.now version node after op) }
+{
+    say!(out, log; Text(b"    "), Node(node), Text(b", which comes after "), Node(after),
+        Text(b", reads "), Identity(node, op), AtLine(node, op))?;
+    put_behind(out, log, version, node, op)?;
+    say!(out, log; Text(b", so "), Number(version), Text(b" is the later version:\n"))
+}
+
 /// Appends why the first of two versions of a key comes first: `source` reads the other one, and
-/// comes after `target`. Nothing, where `source` does not read the key.
+/// comes after `target`, which wrote the first. Nothing, where `source` does not read the key.
 pub fn put_since(
     out: &mut Vec<u8>,
     log: &PlacedHistory<'_>,
@@ -300,14 +319,7 @@ pub fn put_since(
     match read_at(log.history, order.key, source) {
         Some(op) => {
             let version = version_of(log.history, order.key, order.second);
-            say!(out, log;
-                Text(b"    if "), Number(version), Text(b" came first, "), Node(source),
-                Text(b", which reads "), Identity(source, op), AtLine(source, op))?;
-            put_behind(out, log, version, source, op)?;
-            say!(out, log;
-                Text(b", would come before "), Node(target),
-                Text(b", which would overwrite it, but "), Node(target),
-                Text(b" comes before "), Node(source), Text(b":\n"))
+            put_later(out, log, version, source, target, op)
         }
         None => Ok(()),
     }

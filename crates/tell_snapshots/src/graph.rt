@@ -1,52 +1,24 @@
 //! The points of nodes, and which stands before which.
 
-use crate::nodes::Access;
+use crate::nodes::{Access, Node};
 use std::alloc::{AllocError, Global};
 
-/// The snapshot of a node, or its commit.
-#[derive(Clone, Copy)]
-pub struct Point {
-    pub node: usize,
-    pub is_commit: bool,
+/// No way costs so much to tell.
+pub const FAR: usize = usize::MAX;
+
+/// The number of a node's snapshot.
+pub fn snapshot(node: Node<'_>) -> usize {
+    node.number.saturating_mul(2)
 }
 
-/// The snapshot of a node.
-pub fn snapshot(node: usize) -> Point {
-    Point {
-        node,
-        is_commit: false,
-    }
+/// The number of a node's commit.
+pub fn commit(node: Node<'_>) -> usize {
+    snapshot(node).saturating_add(1)
 }
 
-/// The commit of a node.
-pub fn commit(node: usize) -> Point {
-    Point {
-        node,
-        is_commit: true,
-    }
-}
-
-/// The points of a node are two numbers.
-pub fn number(point: Point) -> usize {
-    point
-        .node
-        .saturating_mul(2)
-        .saturating_add(usize::from(point.is_commit))
-}
-
-/// The point of a number.
-pub fn point_of(number: usize) -> Point {
-    Point {
-        node: number / 2,
-        is_commit: number % 2 == 1,
-    }
-}
-
-/// Why one point stands before another.
+/// Why a point of one node stands before one of another.
 #[derive(Clone, Copy)]
 pub enum Why<'a> {
-    /// A snapshot before its own commit.
-    Own,
     Session,
     Moments,
     /// The second reads from its snapshot what the first wrote.
@@ -67,48 +39,68 @@ pub enum Why<'a> {
     },
     /// Both write a key, and a step says which commits first.
     Written {
+        key: &'a str,
         step: usize,
     },
 }
 
-impl<'a> Why<'a> {
+/// The commit of one node stands before the snapshot of another; or, where the one misses a write of
+/// the other, its snapshot before the other's commit.
+#[derive(Clone, Copy)]
+pub struct Edge<'a> {
+    pub first: Node<'a>,
+    pub second: Node<'a>,
+    pub why: Why<'a>,
+}
+
+impl<'a> Edge<'a> {
+    /// Whether the one misses a write of the other.
+    pub fn is_missed(&self) -> bool {
+        matches!(self.why, Why::Missed { .. } | Why::Behind { .. })
+    }
+
     /// The step that it rests on.
-    pub fn step(self) -> Option<usize> {
-        match self {
-            Why::Behind { step, .. } | Why::Written { step } => Some(step),
+    pub fn step(&self) -> Option<usize> {
+        match self.why {
+            Why::Behind { step, .. } | Why::Written { step, .. } => Some(step),
             _ => None,
         }
     }
 
     /// How much it takes to tell it. What clients saw counts less than the order of a session, and
     /// that less than the clock.
-    pub fn cost(self) -> usize {
-        match self {
-            Why::Own => 0,
+    fn cost(&self) -> usize {
+        match self.why {
             Why::Read { .. } | Why::Missed { .. } => 1_000_000,
             Why::Session => 1_000_001,
             Why::Moments => 1_001_000,
             Why::Behind { .. } | Why::Written { .. } => 3_000_000,
         }
     }
+
+    /// The numbers of its points.
+    fn points(&self) -> (usize, usize) {
+        if self.is_missed() {
+            (snapshot(self.first), commit(self.second))
+        } else {
+            (commit(self.first), snapshot(self.second))
+        }
+    }
 }
 
-/// Which point stands before which.
+/// The edges from point to point. That a snapshot stands before its own commit is none of them, and
+/// takes no words.
 #[derive(Drop)]
 pub struct Graph<'a> {
-    rows: Vec<Vec<Option<Why<'a>>>>,
+    rows: Vec<Vec<Option<Edge<'a>>>>,
 }
 
 impl<'a> Graph<'a> {
-    /// So many points, none before another.
+    /// So many points, with no edge.
     pub fn new(alloc: Global, points: usize) -> Result<Graph<'a>, AllocError> {
         let mut rows = Vec::new(alloc);
         for _ in 0..points {
-            let mut row = Vec::new(alloc);
-            for _ in 0..points {
-                row.push(None)?;
-            }
-            rows.push(row)?;
+            rows.push(vec![in alloc; None; points]?)?;
         }
         Ok(Graph { rows })
     }
@@ -117,18 +109,26 @@ impl<'a> Graph<'a> {
         self.rows.len()
     }
 
-    /// Why one point stands before another, by their numbers.
-    pub fn why(&self, from: usize, to: usize) -> Option<Why<'a>> {
+    /// The edge from one point to another.
+    pub fn edge(&self, from: usize, to: usize) -> Option<Edge<'a>> {
         *self.rows.get(from)?.get(to)?
     }
 
-    /// The one stands before the other, unless that was known.
-    pub fn add(&mut self, from: Point, to: Point, why: Why<'a>) {
-        if let Some(row) = self.rows.get_mut(number(from))
-            && let Some(entry) = row.get_mut(number(to))
-            && entry.is_none()
+    /// What it costs to tell that one point stands before another.
+    pub fn cost(&self, from: usize, to: usize) -> usize {
+        if from % 2 == 0 && to == from.saturating_add(1) {
+            return 0;
+        }
+        self.edge(from, to).map_or(FAR, |edge| edge.cost())
+    }
+
+    /// Adds an edge, unless there is one from point to point.
+    pub fn add(&mut self, edge: Edge<'a>) {
+        let (from, to) = edge.points();
+        if let Some(row) = self.rows.get_mut(from)
+            && let Some(entry) = row.get_mut(to)
         {
-            *entry = Some(why);
+            entry.get_or_insert(edge);
         }
     }
 }

@@ -1,245 +1,216 @@
-//! The lines that tell why one point stands before another.
+//! The lines that tell steps, and what they lead to.
 
-use crate::graph::{Point, Why, point_of};
-use crate::nodes::{Access, Node, Part};
-use session_log::Key;
+use crate::graph::{Edge, Why};
+use crate::nodes::{Access, Part, Writes};
+use crate::steps::{Ending, Neither, Step};
+use crate::ways::Way;
 use std::alloc::{AllocError, Global};
+use std::fmt;
 
-/// A key as text.
-pub fn key_text(key: &Key) -> &str {
-    std::str::from_utf8(key.as_bytes()).unwrap_or("")
+/// What stands before the lines of a step, and of what cannot be.
+const INDENT: &str = "    ";
+
+/// What lines are made from.
+#[derive(Clone, Copy)]
+pub struct Telling<'a, 'b> {
+    pub alloc: Global,
+    pub part: &'b Part<'a>,
+    /// The steps that are told.
+    pub is_needed: &'b [bool],
 }
 
-/// The name of a node.
-pub fn name(alloc: Global, part: &Part<'_>, node: usize) -> Result<String, AllocError> {
-    match part.nodes.get(node) {
-        Some(node) => {
-            let (session, place) = (node.session, node.at.place);
-            format!(in alloc; "{session}.{place}")
-        }
-        None => Ok(String::new(alloc)),
+/// That it reads what it does.
+impl fmt::Display for Access<'_> {
+    fn fmt<W: fmt::Write>(&self, f: &mut fmt::Formatter<W>) -> fmt::Result {
+        let (node, key, wid, line) = (self.node, self.key, self.wid, self.line);
+        write!(f, "{node} reads {key} {wid} (line {line})")
     }
 }
 
-/// The name of a point.
-fn point_name(alloc: Global, part: &Part<'_>, point: Point) -> Result<String, AllocError> {
-    let kind = if point.is_commit {
-        "commit"
-    } else {
-        "snapshot"
-    };
-    let node = name(alloc, part, point.node)?;
-    format!(in alloc; "{node}'s {kind}")
-}
-
-/// What reads what.
-fn read_text(alloc: Global, part: &Part<'_>, read: Access<'_>) -> Result<String, AllocError> {
-    let (key, wid, line) = (key_text(read.key), read.wid, read.line);
-    let node = name(alloc, part, read.node)?;
-    format!(in alloc; "{node} reads {key} {wid} (line {line})")
-}
-
-/// Whose version is read, as ` of 3.1`.
-fn writer_text(alloc: Global, part: &Part<'_>, read: Access<'_>) -> Result<String, AllocError> {
-    match part.writes.iter().find(|write| write.is_same(&read)) {
-        Some(write) => {
-            let writer = name(alloc, part, write.node)?;
-            format!(in alloc; " of {writer}")
-        }
-        None => Ok(String::new(alloc)),
+/// The only edge of a way, where it is one that misses a write: the read.
+fn only_missed<'a>(way: &Way<'a>) -> Option<Access<'a>> {
+    match way.edges.as_slice() {
+        [edge] => match edge.why {
+            Why::Missed { read, .. } => Some(read),
+            _ => None,
+        },
+        _ => None,
     }
 }
 
-/// Whose version is read, or that it is the initial value.
-fn whose_text(alloc: Global, part: &Part<'_>, read: Access<'_>) -> Result<String, AllocError> {
-    if read.wid == 0 {
-        String::from_str(alloc, ", the initial value")
-    } else {
-        writer_text(alloc, part, read)
+/// What two read, where each overwrites it.
+pub fn lost<'a>(two: &Neither<'a>) -> Option<Access<'a>> {
+    let one = only_missed(&two.not_first)?;
+    let other = only_missed(&two.not_second)?;
+    one.is_same(&other).then_some(one)
+}
+
+impl<'a, 'b> Telling<'a, 'b> {
+    /// The number under which a step is told.
+    pub fn number(&self, step: usize) -> usize {
+        self.is_needed
+            .iter()
+            .take(step.saturating_add(1))
+            .filter(|is_needed| **is_needed)
+            .count()
     }
-}
 
-/// Two moments.
-fn moments_text(
-    alloc: Global,
-    part: &Part<'_>,
-    first: usize,
-    second: usize,
-) -> Result<String, AllocError> {
-    let (Some(one), Some(other)) = (part.nodes.get(first), part.nodes.get(second)) else {
-        return Ok(String::new(alloc));
-    };
-    let (ended, end) = (one.txn.ended.unwrap_or(0), one.at.end);
-    let (begun, begin) = (other.txn.begun.unwrap_or(0), other.at.begin);
-    let (one, other) = (name(alloc, part, first)?, name(alloc, part, second)?);
-    format!(in alloc;
-        "{one} ended at {ended} (line {end}), {other} began at {begun} (line {begin})"
-    )
-}
-
-/// The number of the session of a node.
-fn session_of(part: &Part<'_>, node: usize) -> u16 {
-    part.nodes
-        .get(node)
-        .map_or(0, |node: &Node<'_>| node.session)
-}
-
-/// Whether a read and an overwriting write are of nodes that both read the same.
-fn is_read_by_both(part: &Part<'_>, read: Access<'_>, write: Access<'_>) -> bool {
-    part.reads
-        .iter()
-        .any(|other| other.node == write.node && other.is_same(&read))
-}
-
-/// What is said of a read from a snapshot and of a write, where a step has this number.
-fn read_reason(
-    alloc: Global,
-    part: &Part<'_>,
-    why: Why<'_>,
-    read: Access<'_>,
-    write: Access<'_>,
-    step: usize,
-) -> Result<String, AllocError> {
-    let reads = read_text(alloc, part, read)?;
-    let (node, line) = (name(alloc, part, write.node)?, write.line);
-    let (key, wid) = (key_text(write.key), write.wid);
-    match why {
-        Why::Behind { .. } => {
-            let of = writer_text(alloc, part, read)?;
-            format!(in alloc;
-                "{reads}{of}, which by [{step}] comes before {wid}, which {node} wrote (line {line})"
-            )
+    /// Whose version is read, as ` of 3.1`, or that it is the initial value.
+    fn whose(&self, read: &Access<'a>) -> Result<String, AllocError> {
+        match self.part.writes.iter().find(|write| write.is_same(read)) {
+            Some(write) => format!(in self.alloc; " of {}", write.node),
+            None if read.wid == 0 => String::from_str(self.alloc, ", the initial value"),
+            None => Ok(String::new(self.alloc)),
         }
-        Why::Missed { .. } if is_read_by_both(part, read, write) => {
-            let of = whose_text(alloc, part, read)?;
-            format!(in alloc;
-                "{reads}{of}, and {node}, which reads it too, overwrites it with {wid} (line {line})"
-            )
-        }
-        Why::Missed { .. } => {
-            format!(in alloc;
-                "{reads}, the initial value, and {node} wrote {key} {wid} (line {line})"
-            )
-        }
-        _ if read.node == write.node => {
-            format!(in alloc; "{reads}, which {node} writes itself only later (line {line})")
-        }
-        _ => format!(in alloc; "{reads}, which {node} wrote (line {line})"),
     }
-}
 
-/// Why one point stands before another; steps have these numbers.
-fn reason(
-    alloc: Global,
-    part: &Part<'_>,
-    from: Point,
-    to: Point,
-    why: Why<'_>,
-    step: usize,
-) -> Result<String, AllocError> {
-    match why {
-        Why::Own => Ok(String::new(alloc)),
-        Why::Session => {
-            let session = session_of(part, from.node);
-            format!(in alloc; "session {session}")
+    /// Why one point stands before another.
+    fn reason(&self, edge: &Edge<'a>) -> Result<String, AllocError> {
+        let (alloc, first, second) = (self.alloc, edge.first, edge.second);
+        match edge.why {
+            Why::Session => format!(in alloc; "session {}", first.session),
+            Why::Moments => {
+                let (ended, end) = (first.txn.ended.unwrap_or(0), first.at.end);
+                let (begun, begin) = (second.txn.begun.unwrap_or(0), second.at.begin);
+                format!(in alloc;
+                    "{first} ended at {ended} (line {end}), {second} began at {begun} (line {begin})"
+                )
+            }
+            Why::Written { step, .. } => format!(in alloc; "by [{}]", self.number(step)),
+            Why::Read { read, write } if first.number == second.number => {
+                let line = write.line;
+                format!(in alloc; "{read}, which {first} writes itself only later (line {line})")
+            }
+            Why::Read { read, write } => {
+                format!(in alloc; "{read}, which {first} wrote (line {})", write.line)
+            }
+            Why::Missed { read, write } if self.part.also_reads(second, &read) => {
+                let (of, wid, line) = (self.whose(&read)?, write.wid, write.line);
+                format!(in alloc;
+                    "{read}{of}, and {second}, which reads it too, overwrites it with {wid} (line {line})"
+                )
+            }
+            Why::Missed { read, write } => {
+                let (key, wid, line) = (write.key, write.wid, write.line);
+                format!(in alloc;
+                    "{read}, the initial value, and {second} wrote {key} {wid} (line {line})"
+                )
+            }
+            Why::Behind { read, write, step } => {
+                let (of, step) = (self.whose(&read)?, self.number(step));
+                let (wid, line) = (write.wid, write.line);
+                format!(in alloc;
+                    "{read}{of}, which by [{step}] comes before {wid}, which {second} wrote (line {line})"
+                )
+            }
         }
-        Why::Moments => moments_text(alloc, part, from.node, to.node),
-        Why::Read { read, write } | Why::Missed { read, write } | Why::Behind { read, write, .. } =>
-            { read_reason(alloc, part, why, read, write, step) }
-        Why::Written { .. } => format!(in alloc; "by [{step}]"),
     }
-}
 
-/// The line that tells why one point stands before another, by their numbers; a step that it names
-/// has this number.
-pub fn edge_line(
-    alloc: Global,
-    part: &Part<'_>,
-    edge: (usize, usize),
-    why: Why<'_>,
-    step: usize,
-    indent: &str,
-) -> Result<String, AllocError> {
-    let (from, to) = (point_of(edge.0), point_of(edge.1));
-    let why = reason(alloc, part, from, to, why, step)?;
-    let (from, to) = (point_name(alloc, part, from)?, point_name(alloc, part, to)?);
-    format!(in alloc; "{indent}{from} before {to}: {why}")
-}
+    /// The line that tells an edge.
+    fn edge_line(&self, indent: &str, edge: &Edge<'a>) -> Result<String, AllocError> {
+        let (first, second, reason) = (edge.first, edge.second, self.reason(edge)?);
+        if edge.is_missed() {
+            format!(in self.alloc; "{indent}{first}'s snapshot before {second}'s commit: {reason}")
+        } else {
+            format!(in self.alloc; "{indent}{first}'s commit before {second}'s snapshot: {reason}")
+        }
+    }
 
-/// That two write a key.
-fn both_text(alloc: Global, writes: (Access<'_>, Access<'_>)) -> Result<String, AllocError> {
-    let (key, one, other) = (key_text(writes.0.key), writes.0.line, writes.1.line);
-    format!(in alloc; "both write {key} (lines {one} and {other})")
-}
+    /// The line of a read that would be overwritten, if its writer committed first.
+    fn overwritten_line(&self, edge: &Edge<'a>) -> Result<String, AllocError> {
+        let (Why::Missed { read, write } | Why::Behind { read, write, .. }) = edge.why else {
+            return Ok(String::new(self.alloc));
+        };
+        let (reader, node, of) = (read.node, write.node, self.whose(&read)?);
+        let (wid, line) = (write.wid, write.line);
+        format!(in self.alloc;
+            "    {reader}'s snapshot comes after {node}'s commit, but {read}{of}, which {node} would have overwritten with {wid} (line {line}):"
+        )
+    }
 
-/// The names of two nodes that write a key.
-fn both_names(
-    alloc: Global,
-    part: &Part<'_>,
-    writes: (Access<'_>, Access<'_>),
-) -> Result<(String, String), AllocError> {
-    Ok((
-        name(alloc, part, writes.0.node)?,
-        name(alloc, part, writes.1.node)?,
-    ))
-}
+    /// Tells a way, a line for each of its edges.
+    fn put_way(
+        &self,
+        lines: &mut Vec<String>,
+        indent: &str,
+        way: &Way<'a>,
+    ) -> Result<(), AllocError> {
+        if let Some(edge) = &way.overwritten {
+            lines.push(self.overwritten_line(edge)?)?;
+        }
+        for edge in &way.edges {
+            lines.push(self.edge_line(indent, edge)?)?;
+        }
+        Ok(())
+    }
 
-/// The line of two that write a key, neither of which can commit first.
-pub fn neither_line(
-    alloc: Global,
-    part: &Part<'_>,
-    writes: (Access<'_>, Access<'_>),
-) -> Result<String, AllocError> {
-    let (one, other) = both_names(alloc, part, writes)?;
-    let both = both_text(alloc, writes)?;
-    format!(in alloc;
-        "{one} and {other} {both}, so one of them commits before the other takes its snapshot"
-    )
-}
+    /// That two write a key.
+    fn both(&self, writes: Writes<'a>) -> Result<String, AllocError> {
+        let (key, one, other) = (writes.first.key, writes.first.line, writes.second.line);
+        format!(in self.alloc; "both write {key} (lines {one} and {other})")
+    }
 
-/// The line of one of two that cannot commit first.
-pub fn not_first_line(alloc: Global, part: &Part<'_>, node: usize) -> Result<String, AllocError> {
-    let node = name(alloc, part, node)?;
-    format!(in alloc; "{node} cannot commit first:")
-}
+    /// Tells a step of this number.
+    pub fn put_step(
+        &self,
+        lines: &mut Vec<String>,
+        number: usize,
+        step: &Step<'a>,
+    ) -> Result<(), AllocError> {
+        let (alloc, one, other) = (self.alloc, step.writes.first.node, step.writes.second.node);
+        let number = format!(in alloc; "[{number}] ")?;
+        if !step.is_forced && step.way.edges.len() == 1 {
+            return self.put_way(lines, &number, &step.way);
+        }
+        let shown = format!(in alloc; "{number}{one}'s commit before {other}'s snapshot:")?;
+        if step.is_forced {
+            let both = self.both(step.writes)?;
+            lines.push(format!(in alloc; "{shown} {both}, and {other} cannot commit first:")?)?;
+        } else {
+            lines.push(shown)?;
+        }
+        self.put_way(lines, INDENT, &step.way)
+    }
 
-/// The line of a step of this number, where what follows shows which of two commits first.
-pub fn shown_line(
-    alloc: Global,
-    part: &Part<'_>,
-    writes: (Access<'_>, Access<'_>),
-    number: usize,
-) -> Result<String, AllocError> {
-    let (one, other) = both_names(alloc, part, writes)?;
-    format!(in alloc; "[{number}] {one}'s commit before {other}'s snapshot:")
-}
+    /// Tells what steps lead to.
+    pub fn put_ending(
+        &self,
+        lines: &mut Vec<String>,
+        ending: &Ending<'a>,
+    ) -> Result<(), AllocError> {
+        match ending {
+            Ending::Circle(way) => {
+                lines.extend(self.short_circle(way)?)?;
+                self.put_way(lines, "", way)
+            }
+            Ending::Neither(two) => {
+                lines.extend(self.short_neither(two)?)?;
+                self.put_neither(lines, two)
+            }
+        }
+    }
 
-/// The same, where the other cannot commit first.
-pub fn forced_line(
-    alloc: Global,
-    part: &Part<'_>,
-    writes: (Access<'_>, Access<'_>),
-    number: usize,
-) -> Result<String, AllocError> {
-    let shown = shown_line(alloc, part, writes, number)?;
-    let (both, other) = (both_text(alloc, writes)?, name(alloc, part, writes.1.node)?);
-    format!(in alloc; "{shown} {both}, and {other} cannot commit first:")
-}
+    /// The writes by which two exclude each other: those of the key of which both lost an update,
+    /// where they did.
+    fn told_writes(&self, two: &Neither<'a>) -> Option<Writes<'a>> {
+        let key = lost(two)?.key;
+        Some(Writes {
+            first: self.part.first_write(two.writes.first.node, key)?,
+            second: self.part.first_write(two.writes.second.node, key)?,
+        })
+    }
 
-/// The line of a read that would be overwritten, if its writer committed first.
-pub fn overwritten_line(
-    alloc: Global,
-    part: &Part<'_>,
-    read: Access<'_>,
-    write: Access<'_>,
-) -> Result<String, AllocError> {
-    let (reads, of) = (
-        read_text(alloc, part, read)?,
-        writer_text(alloc, part, read)?,
-    );
-    let reader = name(alloc, part, read.node)?;
-    let (node, line, wid) = (name(alloc, part, write.node)?, write.line, write.wid);
-    format!(in alloc;
-        "    {reader}'s snapshot would come before {node}'s commit, since {reads}{of}, and {node} would overwrite it with {wid} (line {line}); but"
-    )
+    /// Tells two of which neither can commit first.
+    fn put_neither(&self, lines: &mut Vec<String>, two: &Neither<'a>) -> Result<(), AllocError> {
+        let (alloc, writes) = (self.alloc, two.writes);
+        let (one, other) = (writes.first.node, writes.second.node);
+        let both = self.both(self.told_writes(two).unwrap_or(writes))?;
+        lines.push(format!(in alloc;
+            "{one} and {other} {both}, so one of them commits before the other takes its snapshot"
+        )?)?;
+        lines.push(format!(in alloc; "{one} cannot commit first:")?)?;
+        self.put_way(lines, INDENT, &two.not_first)?;
+        lines.push(format!(in alloc; "{other} cannot commit first:")?)?;
+        self.put_way(lines, INDENT, &two.not_second)
+    }
 }

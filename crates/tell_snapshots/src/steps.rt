@@ -1,8 +1,8 @@
 //! Which of two that write a key commits first, where the other way round closes a circle.
 
-use crate::graph::{Graph, Why, commit, number, snapshot};
-use crate::nodes::{Access, Part};
-use crate::ways::{Way, Ways, all_ways, cheapest_circle, cost, way_between};
+use crate::graph::{Edge, Graph, Why, commit, snapshot};
+use crate::nodes::{Node, Part, Writes};
+use crate::ways::{Way, Ways};
 use std::alloc::{AllocError, Global};
 
 /// At most so many rounds of steps are gone.
@@ -11,199 +11,87 @@ const MANY_ROUNDS: usize = 100;
 /// What it costs to tell that a read would be overwritten.
 const READ_COST: usize = 1_000_000;
 
-/// Why one of two that write a key cannot commit before the other takes its snapshot: a way from the
-/// other's snapshot to its commit. Or somebody reads what it wrote, so that his snapshot would stand
-/// before the other's commit; then it is a way from that commit to that snapshot.
-#[derive(Drop)]
-pub struct Against<'a> {
-    /// That read, and the write of the other.
-    pub overwritten: Option<(Access<'a>, Access<'a>)>,
-    pub way: Way,
-}
-
 /// Of two that write a key the first commits before the second takes its snapshot.
 #[derive(Drop)]
 pub struct Step<'a> {
-    pub writes: (Access<'a>, Access<'a>),
-    pub why: StepWhy<'a>,
+    pub writes: Writes<'a>,
+    /// Whether it is so since the second cannot commit first; else the way leads from the first
+    /// one's commit to the second one's snapshot.
+    pub is_forced: bool,
+    pub way: Way<'a>,
 }
 
-/// Why a step is so.
+/// Two that write a key, and why neither can commit first.
 #[derive(Drop)]
-pub enum StepWhy<'a> {
-    /// By this way from the one's commit to the other's snapshot.
-    Shown(Way),
-    /// The other cannot commit first.
-    Forced(Against<'a>),
-}
-
-impl<'a> Step<'a> {
-    fn first(&self) -> usize {
-        self.writes.0.node
-    }
-
-    fn second(&self) -> usize {
-        self.writes.1.node
-    }
-
-    /// The way that it needs.
-    pub fn way(&self) -> &Way {
-        match &self.why {
-            StepWhy::Shown(way) => way,
-            StepWhy::Forced(against) => &against.way,
-        }
-    }
+pub struct Neither<'a> {
+    pub writes: Writes<'a>,
+    pub not_first: Way<'a>,
+    pub not_second: Way<'a>,
 }
 
 /// What a part comes to that has no snapshot order.
 #[derive(Drop)]
 pub enum Ending<'a> {
     /// What is known closes a circle.
-    Circle(Way),
-    /// Neither of two that write a key can commit first.
-    Neither {
-        writes: (Access<'a>, Access<'a>),
-        not_first: Against<'a>,
-        not_second: Against<'a>,
-    },
+    Circle(Way<'a>),
+    Neither(Neither<'a>),
 }
 
-/// What is known of the points of a part, the steps that follow, and to what they lead.
+/// The steps that follow from what is known of the points of a part, and to what they lead.
 #[derive(Drop)]
 pub struct Refuted<'a> {
     pub steps: Vec<Step<'a>>,
     pub ending: Ending<'a>,
 }
 
-/// The read that tells best why a node cannot commit before another takes its snapshot, with the
-/// write of the other, and what that costs.
-fn best_reader<'a>(
-    part: &Part<'a>,
-    ways: &[Ways],
-    first: usize,
-    second: usize,
-) -> Option<(usize, Access<'a>, Access<'a>)> {
-    let mut best: Option<(usize, Access<'a>, Access<'a>)> = None;
-    for read in &part.reads {
-        if read.node != first
-            && read.node != second
-            && part
-                .writes
-                .iter()
-                .any(|it| it.node == first && it.is_same(read))
-            && let Some(write) = part.first_write(second, read.key)
-            && let Some(cost) = cost(ways, number(commit(second)), number(snapshot(read.node)))
-        {
-            let cost = cost.saturating_add(READ_COST);
-            if best.is_none_or(|(best, _, _)| cost < best) {
-                best = Some((cost, *read, write));
-            }
-        }
-    }
-    best
-}
-
-/// Why a node cannot commit before another takes its snapshot.
-fn why_not_first<'a>(
-    alloc: Global,
-    part: &Part<'a>,
-    ways: &[Ways],
-    first: usize,
-    second: usize,
-) -> Result<Option<Against<'a>>, AllocError> {
-    let (from, to) = (number(snapshot(second)), number(commit(first)));
-    let plain = cost(ways, from, to);
-    match best_reader(part, ways, first, second) {
-        Some((cost, read, write)) if plain.is_none_or(|plain| cost < plain) => {
-            let (from, to) = (number(commit(second)), number(snapshot(read.node)));
-            let found = way_between(alloc, ways, from, to)?;
-            Ok(found.map(|way| Against {
-                overwritten: Some((read, write)),
-                way,
-            }))
-        }
-        _ => Ok(way_between(alloc, ways, from, to)?.map(|way| Against {
-            overwritten: None,
-            way,
-        })),
-    }
-}
-
-/// What is found of two that write a key.
+/// A part, the steps so far, and the writes of each two nodes, in both orders, of which no step says
+/// which commits first.
 #[derive(Drop)]
-enum Found<'a> {
-    Nothing,
-    Step(Step<'a>),
-    Ending(usize, Ending<'a>),
-}
-
-/// What it costs to tell why one cannot be first.
-fn cost_of(against: &Against<'_>) -> usize {
-    against.way.cost
-}
-
-/// What is found of two nodes that write a key, at these writes.
-fn judge_pair<'a>(
+struct Steps<'a, 'b> {
     alloc: Global,
-    part: &Part<'a>,
-    ways: &[Ways],
-    writes: (Access<'a>, Access<'a>),
-) -> Result<Found<'a>, AllocError> {
-    let (first, second) = (writes.0.node, writes.1.node);
-    let not_first = why_not_first(alloc, part, ways, first, second)?;
-    let not_second = why_not_first(alloc, part, ways, second, first)?;
-    match (not_first, not_second) {
-        (None, None) => Ok(Found::Nothing),
-        (None, Some(against)) => Ok(Found::Step(Step {
-            writes,
-            why: StepWhy::Forced(against),
-        })),
-        (Some(against), None) => Ok(Found::Step(Step {
-            writes: (writes.1, writes.0),
-            why: StepWhy::Forced(against),
-        })),
-        (Some(not_first), Some(not_second)) => {
-            let cost = cost_of(&not_first).saturating_add(cost_of(&not_second));
-            Ok(Found::Ending(
-                cost,
-                Ending::Neither {
-                    writes,
-                    not_first,
-                    not_second,
-                },
-            ))
-        }
-    }
+    part: &'b Part<'a>,
+    steps: Vec<Step<'a>>,
+    open: Vec<Writes<'a>>,
 }
 
-/// Whether a step says which of two commits first.
-fn is_decided(steps: &[Step<'_>], one: usize, other: usize) -> bool {
-    steps.iter().any(|step| {
-        (step.first() == one && step.second() == other)
-            || (step.first() == other && step.second() == one)
-    })
-}
-
-/// What a round of steps comes to.
+/// What a round of steps comes to, and what the ending costs, where there is one.
 #[derive(Drop)]
 struct Round<'a> {
     steps: Vec<Step<'a>>,
-    /// The cheapest ending, with its cost.
-    ending: Option<(usize, Ending<'a>)>,
+    ending: Option<Ending<'a>>,
+    cost: usize,
 }
 
 impl<'a> Round<'a> {
-    fn take(&mut self, found: Found<'a>) -> Result<(), AllocError> {
-        match found {
-            Found::Nothing => {}
-            Found::Step(step) => self.steps.push(step)?,
-            Found::Ending(cost, ending) => {
-                let is_cheaper = match &self.ending {
-                    Some((least, _)) => cost < *least,
-                    None => true,
-                };
-                if is_cheaper {
-                    self.ending = Some((cost, ending));
+    /// Takes in why neither, or one, of two that write a key cannot commit first.
+    fn take(
+        &mut self,
+        writes: Writes<'a>,
+        not_first: Option<Way<'a>>,
+        not_second: Option<Way<'a>>,
+    ) -> Result<(), AllocError> {
+        let is_forced = true;
+        match (not_first, not_second) {
+            (None, None) => {}
+            (None, Some(way)) => self.steps.push(Step {
+                writes,
+                is_forced,
+                way,
+            })?,
+            (Some(way), None) => self.steps.push(Step {
+                writes: writes.turned(),
+                is_forced,
+                way,
+            })?,
+            (Some(not_first), Some(not_second)) => {
+                let cost = not_first.cost.saturating_add(not_second.cost);
+                if self.ending.is_none() || cost < self.cost {
+                    self.cost = cost;
+                    self.ending = Some(Ending::Neither(Neither {
+                        writes,
+                        not_first,
+                        not_second,
+                    }));
                 }
             }
         }
@@ -211,137 +99,134 @@ impl<'a> Round<'a> {
     }
 }
 
-/// Judges each two that write a key, of whom it is not known which commits first.
-fn judge_round<'a>(
-    alloc: Global,
-    part: &Part<'a>,
-    ways: &[Ways],
-    steps: &[Step<'a>],
-) -> Result<Round<'a>, AllocError> {
-    let mut round = Round {
-        steps: Vec::new(alloc),
-        ending: None,
-    };
-    for one in 0..part.nodes.len() {
-        for other in one..part.nodes.len() {
-            if other != one
-                && !is_decided(steps, one, other)
-                && let Some(writes) = part.both_write(one, other)
-            {
-                round.take(judge_pair(alloc, part, ways, writes)?)?;
+impl<'a, 'b> Steps<'a, 'b> {
+    /// Those of a part, of which there are none yet.
+    fn of(alloc: Global, part: &'b Part<'a>) -> Result<Steps<'a, 'b>, AllocError> {
+        let mut open = Vec::new(alloc);
+        for one in &part.nodes {
+            for other in &part.nodes {
+                if one.number != other.number {
+                    open.extend(part.both_write(*one, *other))?;
+                }
             }
         }
+        Ok(Steps {
+            alloc,
+            part,
+            steps: Vec::new(alloc),
+            open,
+        })
     }
-    Ok(round)
-}
 
-/// What a step of this number adds to what is known.
-fn add_step<'a>(graph: &mut Graph<'a>, part: &Part<'a>, first: usize, second: usize, step: usize) {
-    graph.add(commit(first), snapshot(second), Why::Written { step });
-    for read in &part.reads {
-        if read.node != second
-            && part
-                .writes
-                .iter()
-                .any(|it| it.node == first && it.is_same(read))
-            && let Some(write) = part.last_write(second, read.key)
+    /// Why a node cannot commit before another takes its snapshot: a way from the other's snapshot to
+    /// its commit. Or somebody reads what it wrote, so that his snapshot would stand before the
+    /// other's commit; then it is a way from that commit to that snapshot.
+    fn way_against(
+        &self,
+        ways: &Ways<'a, '_>,
+        first: Node<'a>,
+        second: Node<'a>,
+    ) -> Result<Option<Way<'a>>, AllocError> {
+        let plain = ways.cost(snapshot(second), commit(first));
+        let best = self
+            .part
+            .reads
+            .iter()
+            .filter(|read| read.node.number != first.number && read.node.number != second.number)
+            .filter(|read| self.part.wrote(first, read))
+            .filter_map(|read| Some((*read, self.part.first_write(second, read.key)?)))
+            .min_by_key(|(read, _)| ways.cost(commit(second), snapshot(read.node)));
+        if let Some((read, write)) = best
+            && let cost = ways.cost(commit(second), snapshot(read.node))
+            && cost.saturating_add(READ_COST) < plain
         {
-            let why = Why::Behind {
-                read: *read,
-                write,
-                step,
-            };
-            graph.add(snapshot(read.node), commit(second), why);
+            let way = ways.way(self.alloc, commit(second), snapshot(read.node))?;
+            let overwritten = Some(Edge {
+                first: read.node,
+                second,
+                why: Why::Missed { read, write },
+            });
+            return Ok(way.map(|way| Way { overwritten, ..way }));
         }
+        ways.way(self.alloc, snapshot(second), commit(first))
     }
-}
 
-/// Takes steps, with what they add to what is known.
-fn take_steps<'a>(
-    part: &Part<'a>,
-    graph: &mut Graph<'a>,
-    steps: &mut Vec<Step<'a>>,
-    more: Vec<Step<'a>>,
-) -> Result<(), AllocError> {
-    for step in more {
-        add_step(graph, part, step.first(), step.second(), steps.len());
-        steps.push(step)?;
-    }
-    Ok(())
-}
-
-/// Where one of two that write a key commits before the other takes its snapshot by what is known.
-fn shown_step<'a>(
-    alloc: Global,
-    ways: &[Ways],
-    writes: (Access<'a>, Access<'a>),
-) -> Result<Option<Step<'a>>, AllocError> {
-    let (from, to) = (commit(writes.0.node), snapshot(writes.1.node));
-    let found = way_between(alloc, ways, number(from), number(to))?;
-    Ok(found.map(|way| Step {
-        writes,
-        why: StepWhy::Shown(way),
-    }))
-}
-
-/// Each two that write a key, of whom what is known shows which commits first.
-fn shown_steps<'a>(
-    alloc: Global,
-    part: &Part<'a>,
-    ways: &[Ways],
-    steps: &[Step<'a>],
-) -> Result<Vec<Step<'a>>, AllocError> {
-    let mut shown = Vec::new(alloc);
-    for one in 0..part.nodes.len() {
-        for other in 0..part.nodes.len() {
-            if other != one
-                && !is_decided(steps, one, other)
-                && let Some(writes) = part.both_write(one, other)
-                && let Some(step) = shown_step(alloc, ways, writes)?
-            {
-                shown.push(step)?;
+    /// Each two that write a key, of whom what is known shows which commits first.
+    fn put_shown(&self, ways: &Ways<'a, '_>, shown: &mut Vec<Step<'a>>) -> Result<(), AllocError> {
+        for writes in &self.open {
+            let (from, to) = (commit(writes.first.node), snapshot(writes.second.node));
+            if let Some(way) = ways.way(self.alloc, from, to)? {
+                shown.push(Step {
+                    writes: *writes,
+                    is_forced: false,
+                    way,
+                })?;
             }
         }
+        Ok(())
     }
-    Ok(shown)
-}
 
-/// What a round finds: an ending, or whether there are steps more.
-#[derive(Drop)]
-enum Went<'a> {
-    To(Ending<'a>),
-    On,
-    Nowhere,
-}
+    /// Judges each two that write a key, of whom it is not known which commits first.
+    fn judge(&self, ways: &Ways<'a, '_>, round: &mut Round<'a>) -> Result<(), AllocError> {
+        for writes in &self.open {
+            let (one, other) = (writes.first.node, writes.second.node);
+            if one.number < other.number {
+                let not_first = self.way_against(ways, one, other)?;
+                let not_second = self.way_against(ways, other, one)?;
+                round.take(*writes, not_first, not_second)?;
+            }
+        }
+        Ok(())
+    }
 
-/// A round: a circle; else steps that what is known shows; else those that are forced.
-fn go_round<'a>(
-    alloc: Global,
-    part: &Part<'a>,
-    graph: &mut Graph<'a>,
-    steps: &mut Vec<Step<'a>>,
-) -> Result<Went<'a>, AllocError> {
-    let ways = all_ways(alloc, graph)?;
-    if let Some(circle) = cheapest_circle(alloc, graph, &ways)? {
-        return Ok(Went::To(Ending::Circle(circle)));
+    /// Takes a step, with what it adds to what is known.
+    fn take(&mut self, graph: &mut Graph<'a>, taken: Step<'a>) -> Result<(), AllocError> {
+        let step = self.steps.len();
+        let (first, second, key) = (
+            taken.writes.first.node,
+            taken.writes.second.node,
+            taken.writes.first.key,
+        );
+        graph.add(Edge {
+            first,
+            second,
+            why: Why::Written { key, step },
+        });
+        for read in &self.part.reads {
+            if read.node.number != second.number
+                && self.part.wrote(first, read)
+                && let Some(write) = self.part.last_write(second, read.key)
+            {
+                let read = *read;
+                graph.add(Edge {
+                    first: read.node,
+                    second,
+                    why: Why::Behind { read, write, step },
+                });
+            }
+        }
+        let numbers = taken.writes.numbers();
+        self.open.retain(|writes| writes.numbers() != numbers);
+        self.steps.push(taken)?;
+        Ok(())
     }
-    let shown = shown_steps(alloc, part, &ways, steps)?;
-    if !shown.is_empty() {
-        take_steps(part, graph, steps, shown)?;
-        return Ok(Went::On);
+
+    /// A round: a circle; else steps that what is known shows; else those that are forced.
+    fn go_round(&self, graph: &Graph<'a>) -> Result<Round<'a>, AllocError> {
+        let ways = Ways::of(self.alloc, graph)?;
+        let mut round = Round {
+            steps: Vec::new(self.alloc),
+            ending: ways.circle(self.alloc)?.map(Ending::Circle),
+            cost: 0,
+        };
+        if round.ending.is_none() {
+            self.put_shown(&ways, &mut round.steps)?;
+            if round.steps.is_empty() {
+                self.judge(&ways, &mut round)?;
+            }
+        }
+        Ok(round)
     }
-    let Round {
-        steps: more,
-        ending,
-    } = judge_round(alloc, part, &ways, steps)?;
-    if let Some((_, ending)) = ending {
-        return Ok(Went::To(ending));
-    }
-    if more.is_empty() {
-        return Ok(Went::Nowhere);
-    }
-    take_steps(part, graph, steps, more)?;
-    Ok(Went::On)
 }
 
 /// Why the points of a part have no order, by what is known of them and steps that follow; `None`
@@ -351,12 +236,22 @@ pub fn refute<'a>(
     part: &Part<'a>,
     graph: &mut Graph<'a>,
 ) -> Result<Option<Refuted<'a>>, AllocError> {
-    let mut steps: Vec<Step<'a>> = Vec::new(alloc);
+    let mut steps = Steps::of(alloc, part)?;
     for _ in 0..MANY_ROUNDS {
-        match go_round(alloc, part, graph, &mut steps)? {
-            Went::To(ending) => return Ok(Some(Refuted { steps, ending })),
-            Went::On => {}
-            Went::Nowhere => return Ok(None),
+        let Round {
+            steps: more,
+            ending,
+            ..
+        } = steps.go_round(graph)?;
+        if let Some(ending) = ending {
+            let steps = steps.steps;
+            return Ok(Some(Refuted { steps, ending }));
+        }
+        if more.is_empty() {
+            break;
+        }
+        for step in more {
+            steps.take(graph, step)?;
         }
     }
     Ok(None)

@@ -1,157 +1,124 @@
 //! The cheapest ways from point to point.
 
-use crate::graph::Graph;
+use crate::graph::{Edge, FAR, Graph};
 use std::alloc::{AllocError, Global};
 
-/// Points by their numbers, each before the next one, and what it costs to tell that.
+/// Edges that lead from one point to another, and what it costs to tell them.
 #[derive(Drop)]
-pub struct Way {
-    pub points: Vec<usize>,
+pub struct Way<'a> {
+    pub edges: Vec<Edge<'a>>,
     pub cost: usize,
+    /// The edge that would close a circle, if one node committed before another: somebody would miss
+    /// what that other one writes.
+    pub overwritten: Option<Edge<'a>>,
 }
 
-/// For each point what a way from the start to it costs, and the point before it on that way.
+/// What the cheapest ways of a graph cost, from each point to each.
 #[derive(Drop)]
-pub struct Ways {
-    costs: Vec<Option<usize>>,
-    before: Vec<usize>,
+pub struct Ways<'a, 'b> {
+    graph: &'b Graph<'a>,
+    costs: Vec<Vec<usize>>,
 }
 
-/// The point of least cost among those that are not done.
-fn nearest(costs: &[Option<usize>], is_done: &[bool]) -> Option<(usize, usize)> {
-    let mut least: Option<(usize, usize)> = None;
-    for (point, (cost, done)) in costs.iter().zip(is_done).enumerate() {
-        if let Some(cost) = cost
-            && !*done
-            && least.is_none_or(|(_, least)| *cost < least)
-        {
-            least = Some((point, *cost));
-        }
-    }
-    least
-}
-
-impl Ways {
-    /// The ways that begin at a point.
-    pub fn from(alloc: Global, graph: &Graph<'_>, start: usize) -> Result<Ways, AllocError> {
+impl<'a, 'b> Ways<'a, 'b> {
+    pub fn of(alloc: Global, graph: &'b Graph<'a>) -> Result<Ways<'a, 'b>, AllocError> {
         let points = graph.points();
-        let mut ways = Ways {
-            costs: vec![in alloc; None; points]?,
-            before: vec![in alloc; start; points]?,
-        };
-        if let Some(cost) = ways.costs.get_mut(start) {
-            *cost = Some(0);
-        }
-        let mut is_done = vec![in alloc; false; points]?;
-        for _ in 0..points {
-            let Some((point, cost)) = nearest(&ways.costs, &is_done) else {
-                return Ok(ways);
-            };
-            if let Some(done) = is_done.get_mut(point) {
-                *done = true;
+        let mut costs = Vec::new(alloc);
+        for from in 0..points {
+            let mut row = Vec::new(alloc);
+            for to in 0..points {
+                row.push(if from == to { 0 } else { graph.cost(from, to) })?;
             }
-            ways.go_on(graph, point, cost);
+            costs.push(row)?;
+        }
+        let mut ways = Ways { graph, costs };
+        for by in 0..points {
+            for from in 0..points {
+                for to in 0..points {
+                    ways.go_by(from, by, to);
+                }
+            }
         }
         Ok(ways)
     }
 
-    /// Goes on from a point, to which a way of this cost leads.
-    fn go_on(&mut self, graph: &Graph<'_>, point: usize, cost: usize) {
-        for next in 0..graph.points() {
-            if let Some(why) = graph.why(point, next) {
-                self.reach(next, point, cost.saturating_add(why.cost()));
-            }
-        }
-    }
-
-    /// A way of this cost leads to a point by way of another.
-    fn reach(&mut self, next: usize, by: usize, cost: usize) {
-        if let Some(entry) = self.costs.get_mut(next)
-            && let Some(before) = self.before.get_mut(next)
-            && entry.is_none_or(|old| cost < old)
+    /// Goes from one point to another by way of a third, where that is cheaper.
+    fn go_by(&mut self, from: usize, by: usize, to: usize) {
+        let cost = self.cost(from, by).saturating_add(self.cost(by, to));
+        if let Some(row) = self.costs.get_mut(from)
+            && let Some(least) = row.get_mut(to)
         {
-            *entry = Some(cost);
-            *before = by;
+            *least = cost.min(*least);
         }
     }
 
-    /// What the way to a point costs, where there is one.
-    pub fn cost(&self, to: usize) -> Option<usize> {
-        *self.costs.get(to)?
+    /// What the way from one point to another costs.
+    pub fn cost(&self, from: usize, to: usize) -> usize {
+        match self.costs.get(from) {
+            Some(row) => row.get(to).copied().unwrap_or(FAR),
+            None => FAR,
+        }
     }
 
-    /// The way to a point.
-    pub fn to(&self, alloc: Global, start: usize, to: usize) -> Result<Option<Way>, AllocError> {
-        let Some(cost) = self.cost(to) else {
+    /// What the way costs that goes on from a point to one that stands right behind it.
+    fn cost_on(&self, from: usize, last: usize, to: usize) -> usize {
+        self.cost(from, last)
+            .saturating_add(self.graph.cost(last, to))
+    }
+
+    /// The last point before another one on the way to it: of several the one that is reached for
+    /// least.
+    fn last_before(&self, from: usize, to: usize) -> usize {
+        (0..self.graph.points())
+            .min_by_key(|last| (self.cost_on(from, *last, to), self.cost(from, *last)))
+            .unwrap_or(from)
+    }
+
+    /// The way from one point to another, where there is one.
+    pub fn way(
+        &self,
+        alloc: Global,
+        from: usize,
+        to: usize,
+    ) -> Result<Option<Way<'a>>, AllocError> {
+        let cost = self.cost(from, to);
+        if cost == FAR {
             return Ok(None);
-        };
-        let mut points = Vec::new(alloc);
-        points.push(to)?;
+        }
+        let mut edges = Vec::new(alloc);
         let mut at = to;
-        for _ in 0..self.before.len() {
-            if at == start {
+        for _ in 0..self.graph.points() {
+            if at == from {
                 break;
             }
-            at = self.before.get(at).copied().unwrap_or(start);
-            points.push(at)?;
+            let last = self.last_before(from, at);
+            edges.extend(self.graph.edge(last, at))?;
+            at = last;
         }
-        points.reverse();
-        Ok(Some(Way { points, cost }))
+        edges.reverse();
+        Ok(Some(Way {
+            edges,
+            cost,
+            overwritten: None,
+        }))
     }
-}
 
-/// The ways from every point.
-pub fn all_ways(alloc: Global, graph: &Graph<'_>) -> Result<Vec<Ways>, AllocError> {
-    let mut all = Vec::new(alloc);
-    for start in 0..graph.points() {
-        all.push(Ways::from(alloc, graph, start)?)?;
-    }
-    Ok(all)
-}
-
-/// What the way from one point to another costs, where there is one.
-pub fn cost(ways: &[Ways], from: usize, to: usize) -> Option<usize> {
-    ways.get(from)?.cost(to)
-}
-
-/// The way from one point to another.
-pub fn way_between(
-    alloc: Global,
-    ways: &[Ways],
-    from: usize,
-    to: usize,
-) -> Result<Option<Way>, AllocError> {
-    match ways.get(from) {
-        Some(ways) => ways.to(alloc, from, to),
-        None => Ok(None),
-    }
-}
-
-/// The cheapest circle: a way to the point where it begins.
-pub fn cheapest_circle(
-    alloc: Global,
-    graph: &Graph<'_>,
-    ways: &[Ways],
-) -> Result<Option<Way>, AllocError> {
-    let mut least: Option<(usize, usize, usize)> = None;
-    for start in 0..graph.points() {
-        for last in 0..graph.points() {
-            if let Some(why) = graph.why(last, start)
-                && let Some(cost) = cost(ways, start, last)
-            {
-                let whole = cost.saturating_add(why.cost());
-                if least.is_none_or(|(least, _, _)| whole < least) {
-                    least = Some((whole, start, last));
-                }
+    /// The cheapest circle: a way, and the edge back to the point where it begins.
+    pub fn circle(&self, alloc: Global) -> Result<Option<Way<'a>>, AllocError> {
+        let mut least = (FAR, 0, 0);
+        for start in 0..self.graph.points() {
+            for last in 0..self.graph.points() {
+                least = least.min((self.cost_on(start, last, start), start, last));
             }
         }
+        let (cost, start, last) = least;
+        if cost == FAR {
+            return Ok(None);
+        }
+        let mut circle = self.way(alloc, start, last)?;
+        if let Some(way) = &mut circle {
+            way.edges.extend(self.graph.edge(last, start))?;
+        }
+        Ok(circle)
     }
-    let Some((_, start, last)) = least else {
-        return Ok(None);
-    };
-    let Some(mut way) = way_between(alloc, ways, start, last)? else {
-        return Ok(None);
-    };
-    way.points.push(start)?;
-    Ok(Some(way))
 }

@@ -1,23 +1,18 @@
 -- Chains by their heads, and how far their nodes go.
-use Rattle.std.proofs.Common.{◌≡◌, ◌≢◌, ℕ, zero, suc, ◌<◌, ◌≤◌, true, Option, None, Some, List, [], ◌∷◌, length, get_or, refl, sym, ap, ◌∙◌, subst, inl, inr, arith}
+use Rattle.std.proofs.Common.{◌≡◌, ◌≢◌, ℕ, zero, suc, ◌<◌, true, Option, None, Some, List, [], ◌∷◌, length, get_or, refl, sym, ap, ◌∙◌, inl, inr, arith}
 use Rattle.std.specs.Prelude.{map, is_some, IfSome}
 use Rattle.std.specs.List.{All, AllByRecursion, Contains}
-use Rattle.std.proofs.lemmas.List.Elements.{All-from_recursion, recursion_from_All}
-use Rattle.session_log.specs.Text.{ClientSession}
+use Rattle.std.proofs.lemmas.List.Elements.{recursion_from_All}
 use Rattle.serializability.specs.Log.{Log}
 use Rattle.serializability.specs.Polygraph.{Edge}
-use Rattle.serializability.proofs.Serial.{some_cases}
 use Rattle.reach_laws.proofs.Walks.{each_contained}
 use Rattle.known_graph.proofs.Listed.{In, In-from_Contains, Contains-from_In}
-use Rattle.chain_laws.specs.Chains.{heads, next, readers, tail_from, tail, edges_to}
-use Rattle.chain_laws.proofs.Walks.{next_is, step_some, step_none}
-use Rattle.chain_laws.proofs.Coalesced.{each_from_readers}
+use Rattle.chain_laws.specs.Chains.{heads, readers, tail, edges_to}
 use Rattle.write_chains.specs.Views.{ChainView, chain_view, chain_from, chains_in}
 use Rattle.write_chains.specs.declared.chain.Chain.{Chain}
-use Rattle.log_definitions.specs.Numbers.{log_of}
 use Rattle.tell_reasons.specs.declared.why.ChainOrder.{ChainOrder}
 use Rattle.tell_steps.specs.Steps.{edges_in}
-use Rattle.tell_steps.proofs.Ledgers.{head_between, to_target}
+use Rattle.tell_steps.proofs.Ledgers.{to_target}
 
 -- ---- the chain of a head
 view_there : (log : Log) (x : ℕ) (hs : List ℕ) (chains : List Chain) (k : ℕ) (c : Chain) → map chain_view chains ≡ map (chain_from log x) hs → k < length chains → chain_view c ≡ chain_view (get_or chains k c) → chain_view c ≡ chain_from log x c.head
@@ -65,32 +60,7 @@ pub head_there : (log : Log) (x h : ℕ) (chains : List Chain) (o : Option ℕ) 
 head_there log x h chains None e lt is t = absurd (cc)
 head_there log x h chains (Some k) e lt is t = Contains-from_In (heads log x) h (head_in log x h (heads log x) chains k e lt is)
 
--- ---- its nodes
-tail_within : (log : Log) (x f w : ℕ) → w ≤ log.nodes → tail_from log x f w ≤ log.nodes
-tail_within log x zero w hi = hi
-tail_within log x (suc f) w hi = elim (some_cases (next log x w)) [
-  | inl none ↦ subst (λ t. t ≤ log.nodes) (sym (step_none log x f w none)) hi
-  | inr some ↦ subst (λ t. t ≤ log.nodes) (sym (step_some log x f w some.0 some.1)) (tail_within log x f some.0 (next_is log x w some.0 some.1).high)
-]
-
-readers_within : (log : Log) (x w : ℕ) → All (λ u. u ≤ log.nodes) (readers log x w)
-readers_within log x w = All-from_recursion (λ u. u ≤ log.nodes) (readers log x w) (each_from_readers log x w (λ u. u ≤ log.nodes) (λ r lo hi from. hi))
-
-pub head_within : (ss : List ClientSession) (x h n : ℕ) → n ≡ (log_of ss).nodes → Contains (heads (log_of ss) x) h → h ≤ n
-head_within ss x h n e c = omega (arith, e, (head_between ss x h c).high)
-
-pub chain_tail : (ss : List ClientSession) (x h n : ℕ) (c : Chain) → n ≡ (log_of ss).nodes → Contains (heads (log_of ss) x) h → chain_view c ≡ chain_from (log_of ss) x h → c.tail ≤ n
-chain_tail ss x h n c e there view =
-    let log = log_of ss in
-    let is : c.tail ≡ tail log x h = ap (λ (v : ChainView). v.tail) view in
-    omega (arith, is, e, tail_within log x log.nodes h (head_between ss x h there).high)
-
-pub chain_readers : (ss : List ClientSession) (x h n : ℕ) (c : Chain) → n ≡ (log_of ss).nodes → chain_view c ≡ chain_from (log_of ss) x h → All (λ u. u ≤ n) c.readers.items
-chain_readers ss x h n c e view =
-    let log = log_of ss in
-    let is : c.readers.items ≡ readers log x (tail log x h) = ap (λ (v : ChainView). v.readers) view in
-    subst (λ m. All (λ u. u ≤ m) c.readers.items) (sym e) (subst (λ l. All (λ u. u ≤ log.nodes) l) (sym is) (readers_within log x (tail log x h)))
-
+-- ---- its edges
 pub chain_edges : (log : Log) (o : ChainOrder) (c : Chain) → chain_view c ≡ chain_from log o.key o.first → edges_to c.tail o.second c.readers.items ≡ edges_in log o
 chain_edges log o c view = ap (λ (v : ChainView). edges_to v.tail o.second v.readers) view
 

@@ -3,9 +3,9 @@ use Rattle.std.proofs.Common.{◌≡◌, ◌⊎◌, ℕ, zero, suc, ◌+◌, ◌
 use Rattle.std.specs.Prelude.{map, slice_get, unwrap_or}
 use Rattle.std.specs.List.{All, AllByRecursion, Contains, flat_map}
 use Rattle.std.proofs.lemmas.Option.{slice_get_within, slice_get-get_or, slice_get_read}
-use Rattle.std.proofs.lemmas.List.{length-map, get_or-map}
-use Rattle.std.proofs.lemmas.List.Elements.{All-cons, All-nil, Contains-append_cases}
-use Rattle.list_lemmas.proofs.Elements.{get_map as map_get}
+use Rattle.std.proofs.lemmas.List.{length-map, get_or-map, take-map}
+use Rattle.std.proofs.lemmas.List.Elements.{Contains-append_cases}
+use Rattle.list_lemmas.proofs.Elements.{get_map as map_get, same_item, contains_at, mapped}
 use Rattle.session_log.specs.Text.{ClientSession}
 use Rattle.serializability.specs.Log.{Log}
 use Rattle.serializability.specs.Reads.{IsClean}
@@ -34,10 +34,8 @@ use Rattle.prune_ledger.proofs.Finals.{length_posts}
 use Rattle.tell_reasons.specs.declared.why.ChainOrder.{ChainOrder}
 use Rattle.tell_steps.specs.Steps.{turned, edges_in, IsOrder}
 use Rattle.tell_steps.specs.Orders.{choice_of, orders_in, kept_of, kept_order}
-use Rattle.tell_steps.specs.Lines.{sides_of, IsBetween, Rests, LineRests}
-use Rattle.tell_steps.specs.Marks.{AreRested}
+use Rattle.tell_steps.specs.Lines.{IsBetween, Stands, LineStands}
 use Rattle.tell_steps.specs.Ledgers.{IsDeadLedger, AreEntries, kept_by, IsStep, AreSteps, IsClosed}
-use Rattle.tell_steps.proofs.FirstSides.{Sides}
 use Rattle.tell_steps.proofs.Chosen.{choices_are, all_orders, turned_order}
 
 -- ---- lists by place
@@ -45,12 +43,6 @@ pub get_map : {X Y : Type 0} (f : X → Y) (xs : List X) (k : ℕ) (y : Y) → s
 get_map f [] k y e = absurd (cc)
 get_map f (x ∷ xs) zero y e = let same : f x ≡ y = cc in (x, (refl, same))
 get_map f (x ∷ xs) (suc k) y e = get_map f xs k y e
-
-get_take : {X : Type 0} (xs : List X) (n k : ℕ) (x : X) → slice_get (take n xs) k ≡ Some x → (k < n) × (slice_get xs k ≡ Some x)
-get_take xs zero k x e = absurd (cc)
-get_take [] (suc n) k x e = absurd (cc)
-get_take (y ∷ xs) (suc n) zero x e = (omega arith, e)
-get_take (y ∷ xs) (suc n) (suc k) x e = let r = get_take xs n k x e in (omega (arith, r.0), r.1)
 
 -- ---- where edges lead
 each_const : {X : Type 0} (Q : Type 0) → Q → (xs : List X) → AllByRecursion (λ x. Q) xs
@@ -205,34 +197,24 @@ after_cases p earlier (q ∷ qs) x i = elim (after_cases p (kept_side q ∷ earl
 ]
 
 -- ---- lines
-pub line_one : (ss : List ClientSession) (sides : Sides) (bound v : ℕ) → IsBetween ss v → LineRests ss sides bound (v ∷ [])
-line_one ss sides bound v h = record {
-  some = omega arith;
-  nodes = All-cons (IsBetween ss) v [] h (All-nil (IsBetween ss));
-  each = λ i lt. absurd (omega (arith, lt));
-}
+line_one : (ss : List ClientSession) (earlier : List ChainOrder) (v : ℕ) → LineStands ss earlier [] (v ∷ [])
+line_one ss earlier v = record { some = omega arith; each = λ i lt. absurd (omega (arith, lt)) }
 
-pub line_cons : (ss : List ClientSession) (sides : Sides) (bound u w : ℕ) (rest : List ℕ) → Rests ss sides bound u w → LineRests ss sides bound (w ∷ rest) → LineRests ss sides bound (u ∷ w ∷ rest)
-line_cons ss sides bound u w rest r h = record {
-  some = omega arith;
-  nodes = All-cons (IsBetween ss) u (w ∷ rest) r.first h.nodes;
-  each = each_of;
-}
+line_cons : (ss : List ClientSession) (earlier : List ChainOrder) (u w : ℕ) (rest : List ℕ) → Stands ss earlier [] u w → LineStands ss earlier [] (w ∷ rest) → LineStands ss earlier [] (u ∷ w ∷ rest)
+line_cons ss earlier u w rest r h = record { some = omega arith; each = each_of }
   where
-    each_of : (i : ℕ) → i + 1 < length (u ∷ w ∷ rest) → Rests ss sides bound (get_or (u ∷ w ∷ rest) i 0) (get_or (u ∷ w ∷ rest) (i + 1) 0)
+    each_of : (i : ℕ) → i + 1 < length (u ∷ w ∷ rest) → Stands ss earlier [] (get_or (u ∷ w ∷ rest) i 0) (get_or (u ∷ w ∷ rest) (i + 1) 0)
     each_of zero lt = r
     each_of (suc i) lt =
         let e : suc (i + 1) ≡ suc i + 1 = omega arith in
-        subst (λ k. Rests ss sides bound (get_or (w ∷ rest) i 0) (get_or (u ∷ w ∷ rest) k 0)) e (h.each i (omega (arith, lt)))
+        subst (λ k. Stands ss earlier [] (get_or (w ∷ rest) i 0) (get_or (u ∷ w ∷ rest) k 0)) e (h.each i (omega (arith, lt)))
 
-walk_rests : (ss : List ClientSession) (sides : Sides) (bound : ℕ) (edges : List Edge) → ((a b : ℕ) → Contains edges (a, b) → IsBetween ss a → Rests ss sides bound a b)
-    → (ws : List ℕ) (u v : ℕ) → IsBetween ss u → Walk edges u ws v → LineRests ss sides bound (u ∷ (ws ++ v ∷ []))
-walk_rests ss sides bound edges each [] u v h w =
-    let r = each u v w h in
-    line_cons ss sides bound u v [] r (line_one ss sides bound v r.second)
-walk_rests ss sides bound edges each (x ∷ ws) u v h w =
+walk_rests : (ss : List ClientSession) (earlier : List ChainOrder) (edges : List Edge) → ((a b : ℕ) → Contains edges (a, b) → IsBetween ss a → Stands ss earlier [] a b)
+    → (ws : List ℕ) (u v : ℕ) → IsBetween ss u → Walk edges u ws v → LineStands ss earlier [] (u ∷ (ws ++ v ∷ []))
+walk_rests ss earlier edges each [] u v h w = line_cons ss earlier u v [] (each u v w h) (line_one ss earlier v)
+walk_rests ss earlier edges each (x ∷ ws) u v h w =
     let r = each u x w.0 h in
-    line_cons ss sides bound u x (ws ++ v ∷ []) r (walk_rests ss sides bound edges each ws x v r.second w.1)
+    line_cons ss earlier u x (ws ++ v ∷ []) r (walk_rests ss earlier edges each ws x v r.second w.1)
 
 pub walk_end : (edges : List Edge) (ws : List ℕ) (u v : ℕ) → Walk edges u ws v → (a : ℕ) × Contains edges (a, v)
 walk_end edges [] u v w = (u, w)
@@ -244,11 +226,11 @@ known_closed ss clean line c =
     let edges = (chain_polygraph (log_of ss)).known in
     let w = c.1 in
     let last = walk_end edges w.inner c.0 c.0 w.steps in
-    let rests : (a b : ℕ) → Contains edges (a, b) → IsBetween ss a → Rests ss [] 0 a b =
-    λ a b e h. record { first = h; second = known_leads ss (a, b) e; kept = λ none. absurd (known_not ss clean a b h.low e none) } in
+    let rests : (a b : ℕ) → Contains edges (a, b) → IsBetween ss a → Stands ss [] [] a b =
+    λ a b e h. record { first = h; second = known_leads ss (a, b) e; has = λ none. absurd (known_not ss clean a b h.low e none) } in
     record {
       round = record { start = c.0; ends = record { inner = w.inner; shape = w.shape } };
-      rests = subst (LineRests ss [] 0) (sym w.shape) (walk_rests ss [] 0 edges rests w.inner c.0 c.0 (known_leads ss (last.0, c.0) last.1) w.steps);
+      rests = subst (LineStands ss [] []) (sym w.shape) (walk_rests ss [] edges rests w.inner c.0 c.0 (known_leads ss (last.0, c.0) last.1) w.steps);
     }
 
 -- ---- edges over what posts keep
@@ -264,34 +246,26 @@ edge_leads ss p g qs x c = elim (after_cases p [] qs x (In-from_Contains (edges_
       order_leads ss (order_by ss k.post) q.two_chains x (Contains-from_In (edges_in (log_of ss) (order_by ss k.post)) x (subst (In x) q.keeps k.within)))
 ]
 
-pub edge_rests : (ss : List ClientSession) (p : Polygraph) → Given ss p → (posts qs : List Posted) (bound : ℕ) → ((j : ℕ) (q : Posted) → slice_get qs j ≡ Some q → (j < bound) × (slice_get posts j ≡ Some q))
-    → (a b : ℕ) → Contains (edges_after p (kept_after [] qs)) (a, b) → IsBetween ss a → Rests ss (sides_of ss (map (order_by ss) posts)) bound a b
-edge_rests ss p g posts qs bound below a b c h = record {
+pub edge_rests : (ss : List ClientSession) (p : Polygraph) → Given ss p → (qs : List Posted) (a b : ℕ) → Contains (edges_after p (kept_after [] qs)) (a, b) → IsBetween ss a → Stands ss (map (order_by ss) qs) [] a b
+edge_rests ss p g qs a b c h = record {
   first = h;
   second = edge_leads ss p g qs (a, b) c;
-  kept = λ none. elim (after_cases p [] qs (a, b) (In-from_Contains (edges_after p (kept_after [] qs)) (a, b) c)) [
+  has = λ none. elim (after_cases p [] qs (a, b) (In-from_Contains (edges_after p (kept_after [] qs)) (a, b) c)) [
     | inl i ↦ absurd (known_not ss g.clean a b h.low (g.known (a, b) (Contains-from_In p.known (a, b) (no_kept p (a, b) i))) none)
     | inr k ↦ (let q = post_keeps ss p g.choices k.post (other k.post.side) (a, b) k.within in
-        let at = below k.number k.post k.at in
-        record {
-          number = k.number;
-          below = at.0;
-          side = edges_in (log_of ss) (order_by ss k.post);
-          at = map_get (edges_in (log_of ss)) (map (order_by ss) posts) k.number (order_by ss k.post) (map_get (order_by ss) posts k.number k.post at.1);
-          within = Contains-from_In (edges_in (log_of ss) (order_by ss k.post)) (a, b) (subst (In (a, b)) q.keeps k.within);
-        })
+        inl (record {
+          order = order_by ss k.post;
+          among = mapped (order_by ss) qs k.post (contains_at qs k.number k.post k.at);
+          has = Contains-from_In (edges_in (log_of ss) (order_by ss k.post)) (a, b) (subst (In (a, b)) q.keeps k.within);
+        }))
   ];
 }
 
 given_of : (ss : List ClientSession) (entries : List LedgerEntry) → IsClean (log_of ss) → (d : AreEntries ss entries) → Given ss d.poly
 given_of ss entries clean d = record { clean = clean; known = d.known; choices = d.choices }
 
--- a dead ledger's are such
-pub dead_entries : (ss : List ClientSession) (ledger : Ledger) → IsDeadLedger ss ledger → AreEntries ss ledger.entries.items
-dead_entries ss ledger d = record { poly = d.poly; known = d.known; choices = d.choices; shown = d.valid.shown }
-
 -- ---- the steps of entries
-pub step_of : (ss : List ClientSession) (entries : List LedgerEntry) → IsClean (log_of ss) → AreEntries ss entries → (k : ℕ) (q : Posted) → slice_get (posts_in entries) k ≡ Some q → IsStep ss (kept_by ss entries) k q
+step_of : (ss : List ClientSession) (entries : List LedgerEntry) → IsClean (log_of ss) → AreEntries ss entries → (k : ℕ) (q : Posted) → slice_get (posts_in entries) k ≡ Some q → IsStep ss (take k (kept_by ss entries)) (order_by ss q) q
 step_of ss entries clean d k q at =
     let log = log_of ss in
     let p = d.poly in
@@ -302,29 +276,24 @@ step_of ss entries clean d k q at =
     let keeps = post_keeps ss p d.choices q q.side q.edge inside in
     let refuted : Contains (edges_in log (turned (order_by ss q))) q.edge = Contains-from_In (edges_in log (turned (order_by ss q))) q.edge (subst (In q.edge) keeps.refuses inside) in
     let start : IsBetween ss q.edge.1 = order_leads ss (turned (order_by ss q)) (turned_order log (order_by ss q) keeps.two_chains) q.edge refuted in
-    let edges = edges_after p (kept_after [] (take k posts)) in
-    let rests : LineRests ss (sides_of ss (map (order_by ss) posts)) k (q.edge.1 ∷ (sh.walk.inner ++ q.edge.0 ∷ [])) =
-    walk_rests ss (sides_of ss (map (order_by ss) posts)) k edges (edge_rests ss p g posts (take k posts) k (λ j r e. get_take posts k j r e)) sh.walk.inner q.edge.1 q.edge.0 start sh.walk.steps in
+    let before = take k posts in
+    let rests = walk_rests ss (map (order_by ss) before) (edges_after p (kept_after [] before)) (edge_rests ss p g before) sh.walk.inner q.edge.1 q.edge.0 start sh.walk.steps in
     record {
-      order = order_by ss q;
-      at = map_get (order_by ss) posts k q at;
       two_chains = keeps.two_chains;
       refuted = inl refuted;
       ends = record { inner = sh.walk.inner; shape = sh.walk.shape };
-      rests = subst (LineRests ss (sides_of ss (map (order_by ss) posts)) k) (sym sh.walk.shape) rests;
+      rests = subst (λ os. LineStands ss os [] q.walk) (sym (take-map (order_by ss) k posts)) (subst (LineStands ss (map (order_by ss) before) []) (sym sh.walk.shape) rests);
     }
+
+all_from_get : {X : Type 0} (P : X → Type 0) (xs : List X) → ((k : ℕ) (x : X) → slice_get xs k ≡ Some x → P x) → All P xs
+all_from_get P xs h k d lt = h k (get_or xs k d) (slice_get-get_or xs k d lt)
 
 pub steps_of : (ss : List ClientSession) (entries : List LedgerEntry) → IsClean (log_of ss) → AreEntries ss entries → AreSteps ss (kept_by ss entries) entries
 steps_of ss entries clean d = record {
   count = length-map (posts_in entries) (order_by ss) ∙ length_posts entries;
-  each = step_of ss entries clean d;
+  orders = all_from_get (IsOrder (log_of ss)) (kept_by ss entries) (λ k o at. (let r = get_map (order_by ss) (posts_in entries) k o at in subst (IsOrder (log_of ss)) r.1.1 (step_of ss entries clean d k r.0 r.1.0).two_chains));
+  each = λ k o q here at. subst (λ z. IsStep ss (take k (kept_by ss entries)) z q) (same_item (kept_by ss entries) k (order_by ss q) o (map_get (order_by ss) (posts_in entries) k q at) here) (step_of ss entries clean d k q at);
 }
-
-pub rested_of : (ss : List ClientSession) (kept : List ChainOrder) (entries : List LedgerEntry) → AreSteps ss kept entries → AreRested ss (sides_of ss kept) entries
-rested_of ss kept entries s = record { each = λ k q at. (s.each k q at).rests }
-
-all_from_get : {X : Type 0} (P : X → Type 0) (xs : List X) → ((k : ℕ) (x : X) → slice_get xs k ≡ Some x → P x) → All P xs
-all_from_get P xs h k d lt = h k (get_or xs k d) (slice_get-get_or xs k d lt)
 
 pub choices_within : (ss : List ClientSession) (entries : List LedgerEntry) → IsClean (log_of ss) → AreEntries ss entries → (orders : List ChainOrder) → orders ≡ orders_in (log_of ss) → All (λ q. q.choice < length orders) (posts_in entries)
 choices_within ss entries clean d orders e =
@@ -333,37 +302,22 @@ choices_within ss entries clean d orders e =
     let keeps = post_keeps ss d.poly d.choices q q.side q.edge (In-from_Contains (side_of d.poly.choices q.choice q.side) q.edge sh.within) in
     omega (arith, keeps.within, ap length e)))
 
-pub kept_orders_are : (ss : List ClientSession) (entries : List LedgerEntry) → IsClean (log_of ss) → AreEntries ss entries → All (IsOrder (log_of ss)) (kept_by ss entries)
-kept_orders_are ss entries clean d =
-    all_from_get (IsOrder (log_of ss)) (kept_by ss entries) (λ k o at.
-    (let r = get_map (order_by ss) (posts_in entries) k o at in
-    let s = step_of ss entries clean d k r.0 r.1.0 in
-    let sh = shown_at d.poly [] (posts_in entries) k r.0 d.shown r.1.0 in
-    let keeps = post_keeps ss d.poly d.choices r.0 r.0.side r.0.edge (In-from_Contains (side_of d.poly.choices r.0.choice r.0.side) r.0.edge sh.within) in
-    subst (IsOrder (log_of ss)) r.1.1 keeps.two_chains))
-
 -- ---- its cycle
-pub closed_of : (ss : List ClientSession) (entries : List LedgerEntry) → IsClean (log_of ss) → (d : AreEntries ss entries) → (line : List ℕ) → IsCycle (edges_after d.poly (kept_after [] (posts_in entries))) line → IsClosed ss (kept_by ss entries) line
-closed_of ss entries clean d line c =
+pub dead_closed : (ss : List ClientSession) (ledger : Ledger) → IsClean (log_of ss) → (d : IsDeadLedger ss ledger) → (line : List ℕ) → IsCycle (edges_after d.poly (kept_after [] (posts_in ledger.entries.items))) line → IsClosed ss (kept_by ss ledger.entries.items) line
+dead_closed ss ledger clean d line c =
     let p = d.poly in
-    let g = given_of ss entries clean d in
-    let posts = posts_in entries in
-    let K = kept_by ss entries in
+    let g : Given ss p = record { clean = clean; known = d.known; choices = d.choices } in
+    let posts = posts_in ledger.entries.items in
     let w = c.1 in
     let edges = edges_after p (kept_after [] posts) in
     let last = walk_end edges w.inner c.0 c.0 w.steps in
     let start : IsBetween ss c.0 = edge_leads ss p g posts (last.0, c.0) last.1 in
-    let many : length posts ≡ length K = sym (length-map posts (order_by ss)) in
-    let rests : LineRests ss (sides_of ss K) (length K) (c.0 ∷ (w.inner ++ c.0 ∷ [])) =
-    walk_rests ss (sides_of ss K) (length K) edges (edge_rests ss p g posts posts (length K) (λ j q e. (omega (arith, slice_get_within posts j q e, many), e))) w.inner c.0 c.0 start w.steps in
     record {
       round = record { start = c.0; ends = record { inner = w.inner; shape = w.shape } };
-      rests = subst (LineRests ss (sides_of ss K) (length K)) (sym w.shape) rests;
+      rests = subst (LineStands ss (kept_by ss ledger.entries.items) []) (sym w.shape) (walk_rests ss (kept_by ss ledger.entries.items) edges (edge_rests ss p g posts) w.inner c.0 c.0 start w.steps);
     }
 
-pub dead_closed : (ss : List ClientSession) (ledger : Ledger) → IsClean (log_of ss) → (d : IsDeadLedger ss ledger) → (line : List ℕ) → IsCycle (edges_after d.poly (kept_after [] (posts_in ledger.entries.items))) line → IsClosed ss (kept_by ss ledger.entries.items) line
-dead_closed ss ledger clean d line c = closed_of ss ledger.entries.items clean (record { poly = d.poly; known = d.known; choices = d.choices; shown = d.valid.shown }) line c
-
+-- ---- entries by place
 pub choice_within : (entries : List LedgerEntry) (orders : List ChainOrder) → All (λ q. q.choice < length orders) (posts_in entries) → (i : ℕ) (x : LedgerEntry) → i < length entries → x ≡ get_or entries i x → x.post.choice < length orders
 choice_within entries orders h i x lt is =
     let post : LedgerEntry → Posted = λ y. y.post in
@@ -378,12 +332,6 @@ post_at entries i x lt is =
     let got : slice_get entries i ≡ Some x = slice_get_read entries (length entries) i x refl lt is in
     map_get post entries i x got
 
--- ---- the same, of orders that are those that the entries keep
-pub steps_in : (ss : List ClientSession) (entries : List LedgerEntry) (kept : List ChainOrder) → IsClean (log_of ss) → AreEntries ss entries → kept ≡ kept_by ss entries → AreSteps ss kept entries
-steps_in ss entries kept clean d e = subst (λ k. AreSteps ss k entries) (sym e) (steps_of ss entries clean d)
-
-pub closed_in : (ss : List ClientSession) (entries : List LedgerEntry) (kept : List ChainOrder) (line : List ℕ) → kept ≡ kept_by ss entries → IsClosed ss (kept_by ss entries) line → IsClosed ss kept line
-closed_in ss entries kept line e c = subst (λ k. IsClosed ss k line) (sym e) c
-
+-- the orders that a ledger keeps, as they are made
 pub kept_are : (ss : List ClientSession) (entries : List LedgerEntry) (orders kept : List ChainOrder) → orders ≡ orders_in (log_of ss) → kept ≡ map (kept_order orders) (posts_in entries) → kept ≡ kept_by ss entries
 kept_are ss entries orders kept o k = k ∙ ap (λ z. map (kept_order z) (posts_in entries)) o

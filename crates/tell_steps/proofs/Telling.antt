@@ -1,12 +1,12 @@
 -- How lines and steps are told.
-use Rattle.std.proofs.Common.{◌≡◌, ℕ, zero, suc, ◌+◌, ◌-◌, ◌<◌, ◌≤◌, Bool, true, false, List, [], ◌∷◌, ◌++◌, length, get_or, drop, Some, sym, ap, ◌∙◌, subst, inl, inr, arith, append_assoc, Bor}
+use Rattle.std.proofs.Common.{◌≡◌, ℕ, zero, suc, ◌+◌, ◌-◌, ◌<◌, ◌≤◌, true, false, List, [], ◌∷◌, ◌++◌, length, get_or, drop, Some, refl, sym, ap, ◌∙◌, subst, inl, inr, arith, append_assoc, Bor}
 use Rattle.std.specs.Prelude.{slice_get}
-use Rattle.std.specs.List.{All, Contains}
-use Rattle.std.proofs.lemmas.Bool.{cases_lt, false≢true, false_from_ne_true}
+use Rattle.std.specs.List.{Contains}
+use Rattle.std.proofs.lemmas.Bool.{cases_lt, false_from_ne_true}
 use Rattle.std.proofs.lemmas.Option.{slice_get_within}
-use Rattle.std.proofs.lemmas.List.{append-nil, drop_more, drop_all, length_push, length-map}
-use Rattle.std.proofs.lemmas.List.Elements.{Contains-append_left, Contains-append_right, All-weaker}
-use Rattle.list_lemmas.proofs.Elements.{get_map, same_item, contains_at}
+use Rattle.std.proofs.lemmas.List.{append-nil, drop_more, drop_all, length_push, map-append}
+use Rattle.std.proofs.lemmas.List.Elements.{Contains-append_left, Contains-append_right, All-nil, All-push, All-weaker}
+use Rattle.list_lemmas.proofs.Elements.{same_item, contains_at}
 use Rattle.reach_laws.proofs.Walks.{Contains-here}
 use Rattle.known_graph.proofs.Listed.{In-from_Contains}
 use Rattle.session_log.specs.Text.{ClientSession}
@@ -17,25 +17,18 @@ use Rattle.reason_laws.proofs.Numbers.{node_from}
 use Rattle.reasons.specs.Given.{HaveNone}
 use Rattle.reasons.specs.Runs.{is_behind, goes_on, without_runs}
 use Rattle.reasons.proofs.Sessions.{Beside, beside_at, of_session, ends_of_session, runs_some, runs_each, runs_ends, runs_beside}
-use Rattle.prune_ledger.specs.Posted.{Posted}
-use Rattle.prune_ledger.specs.Pruned.{posts_in}
-use Rattle.prune_ledger.specs.declared.ledger.LedgerEntry.{LedgerEntry}
 use Rattle.tell_reasons.specs.declared.why.ChainOrder.{ChainOrder}
 use Rattle.tell_reasons.specs.declared.why.Why.{Why}
 use Rattle.tell_reasons.specs.declared.why.Why.TheVariants.{Known, Forced, Chosen}
 use Rattle.tell_steps.specs.declared.item.Item.{Item}
 use Rattle.tell_steps.specs.declared.item.Item.TheVariants as item
-use Rattle.tell_steps.specs.Steps.{turned, edges_in, IsOrder, Follows, IsFirstWith, IsWhy, IsLineTold, ends, goes, AreStepsTold, none, step, IsCycleTold, closes, IsNamed, IsDeadTold}
-use Rattle.tell_steps.specs.Firsts.{IsFirstIn, HasSide}
-use Rattle.tell_steps.specs.Lines.{sides_of, HasEnds, IsBetween, IsUnshown, LineRests, OneHas, Stands, LineStands, IsRound, IsNeededIn}
-use Rattle.tell_steps.specs.Marks.{is_set, IsMarked, IsCovered, AreNeeded}
+use Rattle.tell_steps.specs.declared.needed.Step.{Step}
+use Rattle.tell_steps.specs.Steps.{IsOrder, IsFirstWith, IsWhy, IsLineTold, ends, goes, AreStepsTold, none, step, IsCycleTold, closes, IsNamed, IsDeadTold}
+use Rattle.tell_steps.specs.Lines.{HasEnds, IsBetween, Stands, LineStands, IsRound, IsNeededIn, HasSteps}
 use Rattle.tell_steps.specs.Ledgers.{IsStep}
-use Rattle.tell_steps.specs.Told.{IsPut, EdgesTold, IsRoundTold, IsStepTold, IsTold, IsOfMarked, IsEdgeTold, AreEdgesTold, AreTold, HasSteps, AreToldFor}
-use Rattle.desk.proofs.Seating.{get_front, get_last}
-use Rattle.prune_ledger.proofs.Finals.{length_posts}
-use Rattle.tell_steps.proofs.Places.{get_cases}
-use Rattle.tell_steps.proofs.FirstSides.{first_below}
-use Rattle.tell_steps.proofs.Answers.{reason_not_none}
+use Rattle.tell_steps.specs.Told.{IsPut, EdgesTold, IsRoundTold, IsStepTold, IsEdgeTold, AreEdgesTold, AreTold, AreToldFor}
+use Rattle.desk.proofs.Seating.{snoc_get, get_front}
+use Rattle.tell_steps.proofs.Known.{reason_not_none}
 
 -- ---- the edges of a line
 edges_more : (ss : List ClientSession) (steps decided : List ChainOrder) (line : List ℕ) (i : ℕ) (before : List Item) (why : Why) → i + 1 < length line → EdgesTold ss steps decided line i before
@@ -114,7 +107,7 @@ why_forced ss steps decided a b r o (Forced (suc k) p) w have f =
     ap (λ n. Forced (suc n) p) e ∙ ap (λ z. Forced (suc r) z) same
 why_forced ss steps decided a b r o (Chosen p) w have f = absurd (w.1.none o (contains_at steps r o f.at) f.has)
 
-edge_named : (ss : List ClientSession) (steps decided : List ChainOrder) (a b r : ℕ) (o : ChainOrder) (items : List Item) → IsEdgeTold ss steps decided a b items → HaveNone ss a b → IsFirstWith (log_of ss) steps r o (a, b) → IsNamed items r
+pub edge_named : (ss : List ClientSession) (steps decided : List ChainOrder) (a b r : ℕ) (o : ChainOrder) (items : List Item) → IsEdgeTold ss steps decided a b items → HaveNone ss a b → IsFirstWith (log_of ss) steps r o (a, b) → IsNamed items r
 edge_named ss steps decided a b r o items t have f =
     let P : Why → Type 0 = λ why. Contains items (item.Edge a b why) in
     record { first = a; second = b; order = o; among = subst P (why_forced ss steps decided a b r o t.why t.by have f) t.among }
@@ -142,9 +135,9 @@ why_later ss steps o a b (Forced (suc k) p) w =
       record {
         at = get_front steps (o ∷ []) k p f.at;
         has = f.has;
-        before = λ j q lt at c. elim (get_cases steps o q j at) [
-          | inl before ↦ f.before j q lt before c
-          | inr last ↦ absurd (omega (arith, last.0, lt, slice_get_within steps k p f.at))
+        before = λ j q lt at c. elim (snoc_get steps j o q at) [
+          | inr before ↦ f.before j q lt before c
+          | inl last ↦ absurd (omega (arith, last.0, lt, slice_get_within steps k p f.at))
         ];
       },
     )
@@ -159,198 +152,59 @@ edges_later ss steps o line items new up h = record {
       record { why = t.why; by = why_later ss steps o a b t.why t.by; among = up (item.Edge a b t.why) t.among });
 }
 
-told_later : (kept steps : List ChainOrder) (o : ChainOrder) (k r : ℕ) → IsTold kept steps k r → IsTold kept (steps ++ o ∷ []) k r
-told_later kept steps o k r m = record {
-  order = m.order;
-  at = m.at;
-  stands = get_front steps (o ∷ []) r m.order m.stands;
-  earlier = λ s p lt at. elim (get_cases steps o p s at) [
-    | inl before ↦ m.earlier s p lt before
-    | inr last ↦ absurd (omega (arith, last.0, lt, slice_get_within steps r m.order m.stands))
-  ];
-}
-
--- ---- what lines rest on among steps
-first_with : (ss : List ClientSession) (kept steps : List ChainOrder) (e : Edge) (k r : ℕ) → IsFirstIn (sides_of ss kept) e k → (m : IsTold kept steps k r) → IsFirstWith (log_of ss) steps r m.order e
-first_with ss kept steps e k r f m =
-    let log = log_of ss in
-    let side : f.side ≡ edges_in log m.order = same_item (sides_of ss kept) k f.side (edges_in log m.order) f.at (get_map (edges_in log) kept k m.order m.at) in
-    let P : List Edge → Type 0 = λ l. Contains l e in
-    record {
-      at = m.stands;
-      has = subst P side f.within;
-      before = λ s o lt at c.
-          (let b = m.earlier s o lt at in
-          f.first b.entry (edges_in log o) b.below (get_map (edges_in log) kept b.entry o b.at) c);
-    }
-
--- a step has what a marked entry before this one keeps
-has_step : (ss : List ClientSession) (kept : List ChainOrder) (posts : List Posted) (marks : List Bool) (steps : List ChainOrder) (entries : ℕ) (items : List Item) (e : Edge) → AreTold ss kept posts marks steps entries items → IsMarked (sides_of ss kept) marks e → HasSide (sides_of ss kept) entries e → OneHas ss steps e
-has_step ss kept posts marks steps entries items e t m h =
-    let n = t.each m.entry (first_below (sides_of ss kept) entries e m.entry m.first h) m.marked in
-    record { order = n.told.order; among = contains_at steps n.step n.told.order n.told.stands; has = (first_with ss kept steps e m.entry n.step m.first n.told).has }
-
-walk_stands : (ss : List ClientSession) (kept : List ChainOrder) (posts : List Posted) (marks : List Bool) (steps : List ChainOrder) (entries : ℕ) (items : List Item) (line : List ℕ) → AreTold ss kept posts marks steps entries items → LineRests ss (sides_of ss kept) entries line
-    → IsCovered ss (sides_of ss kept) marks line (length line) → LineStands ss steps [] line
-walk_stands ss kept posts marks steps entries items line t rests covered = record {
-  some = rests.some;
-  each = λ i lt.
-      (let r = rests.each i lt in
-      let e : Edge = (get_or line i 0, get_or line (i + 1) 0) in
-      record {
-        first = r.first;
-        second = r.second;
-        has = λ have.
-            (let h = r.kept have in
-            let u : IsUnshown ss (sides_of ss kept) e.0 e.1 = record {
-              first = r.first;
-              second = r.second;
-              none = have;
-              kept = record { number = h.number; below = slice_get_within (sides_of ss kept) h.number h.side h.at; side = h.side; at = h.at; within = h.within };
-            } in
-            inl (has_step ss kept posts marks steps entries items e t (covered.each i (omega (arith, lt)) lt u) h));
-      });
-}
-
 -- ---- steps
-pub told_none : (ss : List ClientSession) (kept : List ChainOrder) (posts : List Posted) (marks : List Bool) → AreTold ss kept posts marks [] 0 []
-told_none ss kept posts marks = record {
+pub told_none : (ss : List ClientSession) → AreTold ss [] [] []
+told_none ss = record {
+  same = refl;
+  two_chains = All-nil (IsOrder (log_of ss));
   told = none;
-  each = λ k lt t. absurd (omega (arith, lt));
-  only = λ s lt. absurd (omega (arith, lt));
-  walks = λ k q lt at t. absurd (omega (arith, lt));
+  walks = All-nil (λ (s : Step). AreEdgesTold ss [] s.post.walk []);
 }
 
-of_later : (kept steps : List ChainOrder) (marks : List Bool) (i s : ℕ) → IsOfMarked kept steps marks i s → IsOfMarked kept steps marks (i + 1) s
-of_later kept steps marks i s h = record { entry = h.entry; below = omega (arith, h.below); marked = h.marked; told = h.told }
-
-pub told_skip : (ss : List ClientSession) (kept : List ChainOrder) (posts : List Posted) (marks : List Bool) (steps : List ChainOrder) (i : ℕ) (items : List Item) → is_set marks i ≡ false → AreTold ss kept posts marks steps i items → AreTold ss kept posts marks steps (i + 1) items
-told_skip ss kept posts marks steps i items f t = record {
-  told = t.told;
-  each = λ k lt m. t.each k (before k lt m) m;
-  only = λ s lt. of_later kept steps marks i s (t.only s lt);
-  walks = λ k q lt at m. t.walks k q (before k lt m) at m;
-}
-  where
-    before : (k : ℕ) → k < i + 1 → is_set marks k ≡ true → k < i
-    before k lt m = elim (cases_lt k i) [
-      | inl below ↦ below
-      | inr ge ↦ (let same : k ≡ i = omega (arith, lt, ge) in absurd (false≢true (sym f ∙ ap (λ j. get_or marks j false) (sym same) ∙ m)))
-    ]
-
--- a marked entry, told behind these steps
-pub step_stands : (ss : List ClientSession) (kept : List ChainOrder) (posts : List Posted) (marks : List Bool) (steps : List ChainOrder) (i : ℕ) (q : Posted) (items : List Item) → IsStep ss kept i q → IsCovered ss (sides_of ss kept) marks q.walk (length q.walk)
-    → AreTold ss kept posts marks steps i items → LineStands ss steps [] q.walk
-step_stands ss kept posts marks steps i q items s covered t = walk_stands ss kept posts marks steps i items q.walk t s.rests covered
-
-pub told_step : (ss : List ClientSession) (kept : List ChainOrder) (posts : List Posted) (marks : List Bool) (steps next : List ChainOrder) (i : ℕ) (o : ChainOrder) (q : Posted) (items new : List Item) → next ≡ steps ++ o ∷ [] → slice_get kept i ≡ Some o → slice_get posts i ≡ Some q → is_set marks i ≡ true
-    → IsStep ss kept i q → IsPut items new (IsStepTold ss steps o q) → AreTold ss kept posts marks steps i items → AreTold ss kept posts marks next (i + 1) new
-told_step ss kept posts marks steps next i o q items new is at here marked s more t = subst (λ os. AreTold ss kept posts marks os (i + 1) new) (sym is) made
+pub told_more : (ss : List ClientSession) (done : List Step) (s : Step) (orders next : List ChainOrder) (items new : List Item) → next ≡ orders ++ s.order ∷ [] → IsStep ss orders s.order s.post → IsPut items new (IsStepTold ss orders s.order s.post) → AreTold ss done orders items → AreTold ss (done ++ s ∷ []) next new
+told_more ss done s orders next items new more is put t = subst (λ os. AreTold ss (done ++ s ∷ []) os new) (sym more) made
   where
     later : List ChainOrder
-    later = steps ++ o ∷ []
+    later = orders ++ s.order ∷ []
 
-    h : IsStepTold ss steps o q more.items
-    h = more.kind
+    Told : List ChainOrder → List Item → Step → Type 0
+    Told os l p = AreEdgesTold ss os p.post.walk l
+
+    h : IsStepTold ss orders s.order s.post put.items
+    h = put.kind
 
     front : (x : Item) → Contains items x → Contains new x
-    front x c = subst (λ l. Contains l x) (sym more.appended) (Contains-append_left items more.items x c)
+    front x c = subst (λ l. Contains l x) (sym put.appended) (Contains-append_left items put.items x c)
 
     back : (x : Item) → Contains h.against x → Contains new x
     back x c =
         let Among : List Item → Type 0 = λ l. Contains l x in
-        let put : Among more.items = subst Among (sym h.whole) (Contains-append_right (item.Step (length steps + 1) o q.edge.0 q.edge.1 ∷ []) h.against x c) in
-        subst Among (sym more.appended) (Contains-append_right items more.items x put)
-
-    own : AreEdgesTold ss later q.walk new
-    own = edges_later ss steps o q.walk h.against new back (record { each = edge_told ss steps [] q.walk h.against h.line })
-
-    now : IsTold kept later i (length steps)
-    now = record {
-      order = o;
-      at = at;
-      stands = get_last steps o;
-      earlier = λ r p lt at'. elim (get_cases steps o p r at') [
-        | inl before ↦
-            let m = t.only r (slice_get_within steps r p before) in
-            record { entry = m.entry; below = m.below; at = subst (λ z. slice_get kept m.entry ≡ Some z) (same_item steps r m.told.order p m.told.stands before) m.told.at }
-        | inr last ↦ absurd (omega (arith, last.0, lt))
-      ];
-    }
+        let own : Among put.items = subst Among (sym h.whole) (Contains-append_right (item.Step (length orders + 1) s.order s.post.edge.0 s.post.edge.1 ∷ []) h.against x c) in
+        subst Among (sym put.appended) (Contains-append_right items put.items x own)
 
     told : AreStepsTold ss later new
     told =
-        let same : s.order ≡ o = same_item kept i s.order o s.at at in
-        let Refuted : ChainOrder → Type 0 = λ z. Follows (log_of ss) (turned z) (q.edge.0, q.edge.1) in
-        let all : AreStepsTold ss later (items ++ (item.Step (length steps + 1) o q.edge.0 q.edge.1 ∷ h.against)) =
-        step steps items t.told o (subst (IsOrder (log_of ss)) same s.two_chains) q.edge.0 q.edge.1 (subst Refuted same s.refuted) s.ends.inner h.against (subst (λ l. IsLineTold ss steps [] l h.against) s.ends.shape h.line) in
-        subst (AreStepsTold ss later) (ap (λ l. items ++ l) (sym h.whole) ∙ sym more.appended) all
+        let all : AreStepsTold ss later (items ++ (item.Step (length orders + 1) s.order s.post.edge.0 s.post.edge.1 ∷ h.against)) =
+        step orders items t.told s.order is.two_chains s.post.edge.0 s.post.edge.1 is.refuted is.ends.inner h.against (subst (λ l. IsLineTold ss orders [] l h.against) is.ends.shape h.line) in
+        subst (AreStepsTold ss later) (ap (λ l. items ++ l) (sym h.whole) ∙ sym put.appended) all
 
-    made : AreTold ss kept posts marks later (i + 1) new
+    made : AreTold ss (done ++ s ∷ []) later new
     made = record {
+      same = ap (λ os. os ++ s.order ∷ []) t.same ∙ sym (map-append (λ (p : Step). p.order) done (s ∷ []));
+      two_chains = All-push (IsOrder (log_of ss)) orders s.order t.two_chains is.two_chains;
       told = told;
-      each = λ k lt m. elim (cases_lt k i) [
-        | inl below ↦ (let n = t.each k below m in record { step = n.step; told = told_later kept steps o k n.step n.told })
-        | inr ge ↦ (let last : i ≡ k = omega (arith, lt, ge) in record { step = length steps; told = subst (λ j. IsTold kept later j (length steps)) last now })
-      ];
-      only = λ r lt. elim (cases_lt r (length steps)) [
-        | inl below ↦ (let m = t.only r below in record { entry = m.entry; below = omega (arith, m.below); marked = m.marked; told = told_later kept steps o m.entry r m.told })
-        | inr ge ↦ (let last : length steps ≡ r = omega (arith, lt, ge, length_push steps o) in record { entry = i; below = omega arith; marked = marked; told = subst (IsTold kept later i) last now })
-      ];
-      walks = λ k p lt at' m. elim (cases_lt k i) [
-        | inl below ↦ edges_later ss steps o p.walk items new front (t.walks k p below at' m)
-        | inr ge ↦ (let last : i ≡ k = omega (arith, lt, ge) in
-            let one : q ≡ p = same_item posts k q p (ap (slice_get posts) (sym last) ∙ here) at' in
-            subst (λ (z : Posted). AreEdgesTold ss later z.walk new) one own)
-      ];
+      walks = All-push (Told later new) done s (All-weaker (Told orders items) (Told later new) (λ p e. edges_later ss orders s.order p.post.walk items new front e) done t.walks)
+          (edges_later ss orders s.order s.post.walk h.against new back (record { each = edge_told ss orders [] s.post.walk h.against h.line }));
     }
 
 -- ---- what lines need
-line_steps : (ss : List ClientSession) (kept : List ChainOrder) (posts : List Posted) (marks : List Bool) (steps : List ChainOrder) (items : List Item) (line : List ℕ) → AreTold ss kept posts marks steps (length kept) items → IsCovered ss (sides_of ss kept) marks line (length line) → HasSteps ss kept steps line
-line_steps ss kept posts marks steps items line t covered = record {
-  each = λ i lt u.
-      (let e : Edge = (get_or line i 0, get_or line (i + 1) 0) in
-      let many : length (sides_of ss kept) ≡ length kept = length-map kept (edges_in (log_of ss)) in
-      has_step ss kept posts marks steps (length kept) items e t (covered.each i (omega (arith, lt)) lt u) (subst (λ n. HasSide (sides_of ss kept) n e) many u.kept));
-}
-
-pub told_for : (ss : List ClientSession) (kept : List ChainOrder) (entries : List LedgerEntry) (marks : List Bool) (steps : List ChainOrder) (items : List Item) (lines : List (Bor (List ℕ))) → length kept ≡ length entries → AreTold ss kept (posts_in entries) marks steps (length kept) items
-    → All (λ (l : Bor (List ℕ)). IsCovered ss (sides_of ss kept) marks l.now (length l.now)) lines → AreNeeded ss (sides_of ss kept) marks entries lines → AreToldFor ss kept steps items lines
-told_for ss kept entries marks steps items lines count t covered need = record {
-  told = t.told;
-  stand = All-weaker (λ (l : Bor (List ℕ)). IsCovered ss (sides_of ss kept) marks l.now (length l.now)) (λ (l : Bor (List ℕ)). HasSteps ss kept steps l.now) (λ l c. line_steps ss kept (posts_in entries) marks steps items l.now t c) lines covered;
-  needed = λ s lt.
-      (let m = t.only s lt in
-      elim (need.each m.entry m.marked) [
-        | inl n ↦ (let line = n.line.now in
-            let i = n.edge.place in
-            inr (record {
-              line = n.line;
-              among = n.among;
-              place = i;
-              within = n.edge.within;
-              none = n.edge.edge.none;
-              order = m.told.order;
-              first = first_with ss kept steps (get_or line i 0, get_or line (i + 1) 0) m.entry s n.edge.edge.first m.told;
-            }))
-        | inr w ↦ (let walk = w.post.walk in
-            let i = w.edge.place in
-            let a = get_or walk i 0 in
-            let b = get_or walk (i + 1) 0 in
-            let below : w.entry < length kept = omega (arith, slice_get_within (posts_in entries) w.entry w.post w.at, length_posts entries, count) in
-            inl (edge_named ss steps [] a b s m.told.order items ((t.walks w.entry w.post below w.at w.marked).each i w.edge.within) w.edge.edge.none (first_with ss kept steps (a, b) m.entry s w.edge.edge.first m.told)))
-      ]);
-}
-
 -- a line that rests on what the entries keep, among the steps that were told for it
-pub closed_stands : (ss : List ClientSession) (kept steps : List ChainOrder) (line : List ℕ) → LineRests ss (sides_of ss kept) (length kept) line → HasSteps ss kept steps line → LineStands ss steps [] line
+pub closed_stands : (ss : List ClientSession) (kept steps : List ChainOrder) (line : List ℕ) → LineStands ss kept [] line → HasSteps ss kept steps line → LineStands ss steps [] line
 closed_stands ss kept steps line rests has = record {
   some = rests.some;
   each = λ i lt.
       (let r = rests.each i lt in
-      let e : Edge = (get_or line i 0, get_or line (i + 1) 0) in
-      let many : length kept ≡ length (sides_of ss kept) = sym (length-map kept (edges_in (log_of ss))) in
-      record { first = r.first; second = r.second; has = λ have. inl (has.each i lt (record { first = r.first; second = r.second; none = have; kept = subst (λ n. HasSide (sides_of ss kept) n e) many (r.kept have) })) });
+      record { first = r.first; second = r.second; has = λ have. elim (r.has have) [ inl h ↦ inl (has.each i lt (record { first = r.first; second = r.second; none = have; has = h })) | inr d ↦ inr d ] });
 }
 
 -- ---- all of it: a cycle, told behind the steps
@@ -377,15 +231,6 @@ runs_lead ss u line h = let r = runs_ends ss u u h.inner in record { inner = r.0
 
 runs_round : (ss : List ClientSession) (line : List ℕ) → IsRound line → IsRound (without_runs ss line)
 runs_round ss line round = record { start = round.start; ends = runs_lead ss round.start line round.ends }
-
--- a line of known edges
-pub known_stands : (ss : List ClientSession) (line : List ℕ) → LineRests ss [] 0 line → LineStands ss [] [] line
-known_stands ss line h = record {
-  some = h.some;
-  each = λ i lt.
-      (let r = h.each i lt in
-      record { first = r.first; second = r.second; has = λ none. (let kept = r.kept none in absurd (omega (arith, kept.below))) });
-}
 
 pub round_told : (ss : List ClientSession) (steps decided : List ChainOrder) (line short : List ℕ) (old mid new : List Item) (start edges : ℕ) → LineStands ss steps decided line → IsRound line → short ≡ without_runs ss line → start ≡ get_or short 0 start → edges ≡ length short - 1
     → mid ≡ old ++ item.Cycle start edges ∷ [] → IsPut mid new (IsLineTold ss steps decided short) → IsPut old new (IsRoundTold ss steps decided line)

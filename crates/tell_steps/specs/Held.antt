@@ -1,24 +1,39 @@
--- What forced steps hold.
-use Rattle.std.specs.Prelude.{◌≡◌}
+-- What forced steps hold, and what the log was asked for.
+use Rattle.std.specs.Prelude.{◌≡◌, ◌&&◌, ℕ, Bool, nat_eq, List, Option, Some}
+use Rattle.std.specs.HashMap.{get}
+use Rattle.std.specs.List.{All}
+use Rattle.session_log.specs.Text.{ClientSession}
 use Rattle.serializability.specs.Reads.{IsClean}
 use Rattle.log_definitions.specs.Numbers.{log_of}
-use Rattle.tell_steps.specs.Lines.{AreAnswers, AreGrounds}
+use Rattle.reasons.specs.declared.reason.Reason.{Reason}
+use Rattle.tell_steps.specs.Steps.{IsOrder}
+use Rattle.tell_steps.specs.Lines.{IsAnswer}
 use Rattle.tell_steps.specs.View.{StepsView}
-use Rattle.tell_steps.specs.declared.forced.Steps.TheInside.{Inside}
+use Rattle.tell_steps.specs.declared.shown.Shown.TheInside as shown
+use Rattle.tell_steps.specs.declared.forced.Steps.TheInside as forced
+
+abbrev pub same_edge : ℕ × ℕ → ℕ × ℕ → Bool
+same_edge d e = nat_eq d.0 e.0 && nat_eq d.1 e.1
+
+abbrev pub shown_view : shown.Inside → List ClientSession
+shown_view s = s.history.now
+
+-- the log is clean, and what is known of edges is so
+pub record AreShown (s : shown.Inside) : Type 0 where
+  pub clean : IsClean (log_of s.history.now)
+  pub answers : (a b : ℕ) (answer : Option Reason) → get same_edge s.answers (a, b) ≡ Some answer
+      → IsAnswer s.history.now a b answer
 
 -- the sessions, the entries of the ledger, and the orders that the steps establish
-abbrev pub steps_view : Inside → StepsView
+abbrev pub steps_view : forced.Inside → StepsView
 steps_view s = record {
-  sessions = s.history.now;
+  sessions = s.chains.now;
   entries = s.entries.now;
   orders
-      = s.grounds.kept.items;
+      = s.orders.items;
 }
 
--- the chains are those of the sessions, of each edge the first step that has it is held, and answers
--- are right
-pub record AreForced (s : Inside) : Type 0 where
-  pub clean : IsClean (log_of s.history.now)
-  pub same : s.chains.now ≡ s.history.now
-  pub firsts : AreGrounds s.history.now s.grounds
-  pub answers : AreAnswers s.history.now s.answers.items
+-- what the log shows is asked of these sessions, and the orders are of two of their chains
+pub record AreForced (s : forced.Inside) : Type 0 where
+  pub same : s.shown ≡ s.chains.now
+  pub orders : All (IsOrder (log_of s.chains.now)) s.orders.items

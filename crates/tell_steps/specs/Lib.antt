@@ -1,9 +1,9 @@
 pub mod Steps
 pub mod Orders
 pub mod View
-pub mod Firsts
 pub mod Lines
+pub mod Held
 pub mod Marks
 pub mod Ledgers
+pub mod Needed
 pub mod Told
-pub mod Held

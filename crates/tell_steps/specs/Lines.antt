@@ -1,13 +1,12 @@
 -- Lines of nodes, and what their edges rest on.
-use Rattle.std.specs.Prelude.{◌≡◌, ◌↔◌, ◌⊎◌, ℕ, ◌+◌, ◌<◌, ◌≤◌, List, [], ◌∷◌, ◌++◌, length, map}
-use Rattle.std.specs.Prelude.{Option, None, Some, slice_index, slice_index_or}
+use Rattle.std.specs.Prelude.{◌≡◌, ◌↔◌, ◌⊎◌, ℕ, ◌+◌, ◌<◌, ◌≤◌, List, [], ◌∷◌, ◌++◌, length}
+use Rattle.std.specs.Prelude.{Option, None, Some, slice_index}
 use Rattle.std.specs.Borrow.{Bor}
 use Rattle.std.specs.List.{All, Contains}
 use Rattle.session_log.specs.Text.{ClientSession}
 use Rattle.serializability.specs.Polygraph.{Edge, Polygraph}
-use Rattle.serializability.specs.Reads.{IsClean}
+use Rattle.serializability.specs.Log.{Log}
 use Rattle.chain_laws.specs.Chains.{chain_polygraph, chain_choices}
-use Rattle.serializability.specs.declared.node.TheConstants.{MAX_NODES}
 use Rattle.log_definitions.specs.Numbers.{log_of}
 use Rattle.reasons.specs.Given.{IsReason, IsOfFirstKind, IsLeast, HaveNone}
 use Rattle.reasons.specs.declared.reason.Reason.{Reason}
@@ -15,11 +14,8 @@ use Rattle.tell_reasons.specs.declared.why.ChainOrder.{ChainOrder}
 use Rattle.prune_ledger.specs.Ledger.{edges_after, AreShown}
 use Rattle.prune_ledger.specs.Pruned.{kept_by, posts_in}
 use Rattle.prune_ledger.specs.declared.ledger.LedgerEntry.{LedgerEntry}
-use Rattle.tell_steps.specs.Steps.{IsOrder, edges_in, IsFirstWith}
+use Rattle.tell_steps.specs.Steps.{edges_in, IsFirstWith, NoStepHas}
 use Rattle.tell_steps.specs.View.{StepsView}
-use Rattle.tell_steps.specs.Firsts.{IsFirstIn, HasSide, AreFirsts, cell, cells}
-use Rattle.tell_steps.specs.declared.ground.Grounds.{Grounds}
-use Rattle.tell_steps.specs.declared.ground.LogAndGrounds.{LogAndGrounds}
 
 -- a node of the log other than node 0
 pub record IsBetween (ss : List ClientSession) (v : ℕ) : Type 0 where
@@ -105,34 +101,46 @@ pub record LineStands (ss : List ClientSession) (steps decided : List ChainOrder
   pub each : (i : ℕ) → i + 1 < length line → Stands ss steps decided (slice_index line i)
       (slice_index line (i + 1))
 
--- ---- of lines over what entries keep
--- the edges of each of these orders
-abbrev pub sides_of : List ClientSession → List ChainOrder → List (List Edge)
-sides_of ss kept = map (edges_in (log_of ss)) kept
+-- ---- what orders have of edges that the log does not show
+-- the first of the orders that has the edge, by its place
+abbrev pub IsFound : Log → List ChainOrder → Edge → Option ℕ → Type 0
+IsFound log orders e None = NoStepHas log orders e
+IsFound log orders e (Some k) = (o : ChainOrder) × IsFirstWith log orders k o e
 
--- both are nodes, and where the log shows no reason of the edge, one of the first so many sides has
--- it
-pub record Rests (ss : List ClientSession) (sides : List (List Edge)) (bound a b : ℕ) : Type 0 where
-  pub first : IsBetween ss a
-  pub second : IsBetween ss b
-  pub kept : HaveNone ss a b → HasSide sides bound (a, b)
-
--- both are nodes, the log shows no reason of the edge, and one of the sides has it
-pub record IsUnshown (ss : List ClientSession) (sides : List (List Edge)) (a b : ℕ) : Type 0 where
+-- both are nodes, the log shows no reason of the edge, and one of the orders has it
+pub record IsUnshown (ss : List ClientSession) (kept : List ChainOrder) (a b : ℕ) : Type 0 where
   pub first : IsBetween ss a
   pub second : IsBetween ss b
   pub none : HaveNone ss a b
-  pub kept : HasSide sides (length sides) (a, b)
+  pub has : OneHas ss kept (a, b)
 
--- each edge of the line, which has a node
-pub record LineRests (ss : List ClientSession) (sides : List (List Edge)) (bound : ℕ)
+-- the same, where this order, by its place, is the first that has it
+pub record IsFirstUnshown (ss : List ClientSession) (kept : List ChainOrder)
+    (a b k : ℕ) : Type 0 where
+  pub first : IsBetween ss a
+  pub second : IsBetween ss b
+  pub none : HaveNone ss a b
+  pub order : ChainOrder
+  pub by : IsFirstWith (log_of ss) kept k order (a, b)
+
+abbrev pub IsEntry : List ClientSession → List ChainOrder → ℕ → ℕ → Option ℕ → Type 0
+IsEntry ss kept a b None = IsUnshown ss kept a b → ⊥
+IsEntry ss kept a b (Some k) = IsFirstUnshown ss kept a b k
+
+-- each such edge of the line is one of a step
+pub record HasSteps (ss : List ClientSession) (kept steps : List ChainOrder)
     (line : List ℕ) : Type 0 where
-  pub some : 0 < length line
-  pub nodes : All (IsBetween ss) line
-  pub each : (i : ℕ) → i + 1 < length line → Rests ss sides bound (slice_index line i)
-      (slice_index line (i + 1))
+  pub each : (i : ℕ) → i + 1 < length line
+      → IsUnshown ss kept (slice_index line i) (slice_index line (i + 1))
+      → OneHas ss steps (slice_index line i, slice_index line (i + 1))
 
 -- ---- what is known of edges
+-- both are nodes, and the log shows a reason of the edge
+pub record IsShown (ss : List ClientSession) (a b : ℕ) : Type 0 where
+  pub first : IsBetween ss a
+  pub second : IsBetween ss b
+  pub some : HaveNone ss a b → ⊥
+
 -- the reason holds, is of the first kind that has one, and no lesser operations would do
 pub record IsGiven (ss : List ClientSession) (a b : ℕ) (r : Reason) : Type 0 where
   pub holds : IsReason ss a b r
@@ -143,35 +151,3 @@ pub record IsGiven (ss : List ClientSession) (a b : ℕ) (r : Reason) : Type 0 w
 abbrev pub IsAnswer : List ClientSession → ℕ → ℕ → Option Reason → Type 0
 IsAnswer ss a b None = HaveNone ss a b
 IsAnswer ss a b (Some r) = IsGiven ss a b r
-
-abbrev pub IsNoted : List ClientSession → ℕ → ℕ → Option (Option Reason) → Type 0
-IsNoted ss a b None = Unit {0}
-IsNoted ss a b (Some answer) = IsAnswer ss a b answer
-
--- what the table holds of edges between nodes is so
-pub record AreAnswers (ss : List ClientSession)
-    (table : List (Option (Option Reason))) : Type 0 where
-  pub count : length table ≡ cells (log_of ss).nodes
-  pub each : (a b : ℕ) → a ≤ (log_of ss).nodes → b ≤ (log_of ss).nodes
-      → IsNoted ss a b (slice_index_or table (cell (log_of ss).nodes a b) None)
-
--- the kept orders of two chains, and of each edge the first of them that has it
-pub record AreGrounds (ss : List ClientSession) (grounds : Grounds) : Type 0 where
-  pub nodes : grounds.nodes ≡ (log_of ss).nodes
-  pub few : grounds.nodes ≤ MAX_NODES
-  pub orders : All (IsOrder (log_of ss)) grounds.kept.items
-  pub firsts : AreFirsts grounds.nodes (sides_of ss grounds.kept.items) grounds.firsts.items
-
--- the log is clean, and the grounds are those of its edges
-pub record IsBasis (basis : LogAndGrounds) : Type 0 where
-  pub clean : IsClean (log_of basis.history.now)
-  pub grounds : AreGrounds basis.history.now basis.grounds.now
-
--- the edges of each kept order
-abbrev pub sides_by : LogAndGrounds → List (List Edge)
-sides_by basis = sides_of basis.history.now basis.grounds.now.kept.items
-
--- the first of the sides that has the edge, of which the log shows no reason
-abbrev pub IsEntry : List ClientSession → List (List Edge) → ℕ → ℕ → Option ℕ → Type 0
-IsEntry ss sides a b None = IsUnshown ss sides a b → ⊥
-IsEntry ss sides a b (Some k) = HaveNone ss a b × IsFirstIn sides (a, b) k

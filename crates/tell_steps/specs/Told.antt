@@ -1,18 +1,19 @@
 -- What is told of lines and steps.
-use Rattle.std.specs.Prelude.{◌≡◌, ◌⊎◌, ℕ, ◌+◌, ◌<◌, List, [], ◌∷◌, ◌++◌, length, drop, Bool, true}
-use Rattle.std.specs.Prelude.{Some, slice_get, slice_index}
+use Rattle.std.specs.Prelude.{◌≡◌, ◌⊎◌, ℕ, ◌+◌, ◌<◌, List, [], ◌∷◌, ◌++◌, length, drop, slice_index}
 use Rattle.std.specs.Borrow.{Bor}
 use Rattle.std.specs.List.{All, Contains}
 use Rattle.session_log.specs.Text.{ClientSession}
+use Rattle.log_definitions.specs.Numbers.{log_of}
 use Rattle.reasons.specs.Runs.{without_runs}
 use Rattle.prune_ledger.specs.Posted.{Posted}
 use Rattle.tell_reasons.specs.declared.why.ChainOrder.{ChainOrder}
 use Rattle.tell_reasons.specs.declared.why.Why.{Why}
 use Rattle.tell_steps.specs.declared.item.Item.{Item}
 use Rattle.tell_steps.specs.declared.item.Item.TheVariants as item
-use Rattle.tell_steps.specs.Steps.{IsWhy, IsLineTold, AreStepsTold, IsNamed}
-use Rattle.tell_steps.specs.Lines.{sides_of, IsUnshown, IsRound, LineStands, OneHas, IsNeededIn}
-use Rattle.tell_steps.specs.Marks.{is_set}
+use Rattle.tell_steps.specs.Steps.{IsOrder, IsWhy, IsLineTold, AreStepsTold, IsNamed}
+use Rattle.tell_steps.specs.Lines.{IsRound, LineStands, IsNeededIn, HasSteps}
+use Rattle.tell_steps.specs.Needed.{orders_of}
+use Rattle.tell_steps.specs.declared.needed.Step.{Step}
 
 -- items of this kind were appended
 pub record IsPut (old new : List Item) (Kind : List Item → Type 0) : Type 0 where
@@ -50,34 +51,7 @@ pub record IsStepTold (ss : List ClientSession) (steps : List ChainOrder) (o : C
   pub line : IsLineTold ss steps [] q.walk against
   pub whole : items ≡ item.Step (length steps + 1) o q.edge.0 q.edge.1 ∷ against
 
--- ---- entries and the steps that tell them
--- one of the first so many entries keeps the order
-pub record IsKeptBefore (kept : List ChainOrder) (bound : ℕ) (o : ChainOrder) : Type 0 where
-  pub entry : ℕ
-  pub below : entry < bound
-  pub at : slice_get kept entry ≡ Some o
-
--- step r tells entry k, and the steps before it tell entries before k
-pub record IsTold (kept steps : List ChainOrder) (k r : ℕ) : Type 0 where
-  pub order : ChainOrder
-  pub at : slice_get kept k ≡ Some order
-  pub stands : slice_get steps r ≡ Some order
-  pub earlier : (s : ℕ) (o : ChainOrder) → s < r → slice_get steps s ≡ Some o
-      → IsKeptBefore kept k o
-
--- a step tells entry k
-pub record HasStep (kept steps : List ChainOrder) (k : ℕ) : Type 0 where
-  pub step : ℕ
-  pub told : IsTold kept steps k step
-
--- the step tells a marked one of the first so many entries
-pub record IsOfMarked (kept steps : List ChainOrder) (marks : List Bool)
-    (entries s : ℕ) : Type 0 where
-  pub entry : ℕ
-  pub below : entry < entries
-  pub marked : is_set marks entry ≡ true
-  pub told : IsTold kept steps entry s
-
+-- ---- steps that are told
 -- the edge is one of the items, with why it stands
 pub record IsEdgeTold (ss : List ClientSession) (steps decided : List ChainOrder) (a b : ℕ)
     (items : List Item) : Type 0 where
@@ -91,23 +65,13 @@ pub record AreEdgesTold (ss : List ClientSession) (steps : List ChainOrder) (lin
   pub each : (i : ℕ) → i + 1 < length line
       → IsEdgeTold ss steps [] (slice_index line i) (slice_index line (i + 1)) items
 
--- the marked ones of the first so many entries are told, as these steps, and no others; the entries
--- have these posts
-pub record AreTold (ss : List ClientSession) (kept : List ChainOrder) (posts : List Posted)
-    (marks : List Bool) (steps : List ChainOrder) (entries : ℕ) (items : List Item) : Type 0 where
-  pub told : AreStepsTold ss steps items
-  pub each : (k : ℕ) → k < entries → is_set marks k ≡ true → HasStep kept steps k
-  pub only : (s : ℕ) → s < length steps → IsOfMarked kept steps marks entries s
-  pub walks : (k : ℕ) (q : Posted) → k < entries → slice_get posts k ≡ Some q
-      → is_set marks k ≡ true → AreEdgesTold ss steps q.walk items
-
--- ---- what lines need
--- an edge of the line of which the log shows no reason, and which one of the orders has, is one of a step
-pub record HasSteps (ss : List ClientSession) (kept steps : List ChainOrder)
-    (line : List ℕ) : Type 0 where
-  pub each : (i : ℕ) → i + 1 < length line
-      → IsUnshown ss (sides_of ss kept) (slice_index line i) (slice_index line (i + 1))
-      → OneHas ss steps (slice_index line i, slice_index line (i + 1))
+-- the items tell these steps, which establish these orders, and among them each edge of their walks
+pub record AreTold (ss : List ClientSession) (steps : List Step) (orders : List ChainOrder)
+    (items : List Item) : Type 0 where
+  pub same : orders ≡ orders_of steps
+  pub two_chains : All (IsOrder (log_of ss)) orders
+  pub told : AreStepsTold ss orders items
+  pub walks : All (λ s. AreEdgesTold ss orders s.post.walk items) steps
 
 -- the steps that the lines need of a ledger that keeps these orders, and no others
 pub record AreToldFor (ss : List ClientSession) (kept steps : List ChainOrder) (items : List Item)

@@ -1,76 +1,40 @@
 //! Whether entries are steps, and whether a line closes. What is proposed and what is shortened is
 //! taken only where these say so.
 
-ghost use Rattle.std.specs.Prelude.{◌≡◌, ◌<◌, length, IsTrue, IfOk};
+ghost use Rattle.std.specs.Prelude.{◌≡◌, ◌<◌, [], length, IsTrue, IfOk};
 ghost use Rattle.std.specs.List.{All};
-ghost use Rattle.tell_steps.specs.Lines.{HasEnds, IsBetween, Rests, LineRests, AreAnswers, IsBasis};
-ghost use Rattle.tell_steps.specs.Lines.{sides_by};
+ghost use Rattle.log_definitions.specs.Numbers.{log_of};
+ghost use Rattle.tell_steps.specs.Steps.{IsOrder};
+ghost use Rattle.tell_steps.specs.Lines.{HasEnds, LineStands};
 ghost use Rattle.tell_steps.specs.Ledgers.{IsStep, AreSteps, IsClosed};
 
 use crate::decided::follows;
-use crate::ground::{LogAndGrounds, entry_of, is_between, shows};
+use crate::ground::does_rest;
 use crate::orders::turned;
+use crate::shown::Shown;
 use prune_ledger::LedgerEntry;
 use prune_ledger::messages::Refutation;
-use reasons::Reason;
 use serializability::NodeIx;
-use session_history::History;
 use std::alloc::AllocError;
+use tell_reasons::ChainOrder;
 use write_chains::Chains;
 
-/// Whether the log shows an edge, or one of the first `bound` orders keeps it.
-fn does_rest(
-    basis: &LogAndGrounds<'_>,
-    answers: &mut [Option<Option<Reason>>],
-    a: NodeIx,
-    b: NodeIx,
-    bound: usize,
-) -> Result<bool, AllocError>
-    requires basis { IsBasis basis.now }
-    requires answers { AreAnswers basis.now.history.now answers.old }
-    requires first { IsBetween basis.now.history.now a }
-    requires second { IsBetween basis.now.history.now b }
-    ensures answers { AreAnswers basis.now.history.now answers.new }
-    ensures rests { IfOk result (λ rests. IsTrue rests
-        → Rests basis.now.history.now (sides_by basis.now) bound a b) }
-{
-    match entry_of(basis, answers, a, b)? {
-        Some(entry) => Ok(entry < bound),
-        None => shows(basis, answers, a, b),
-    }
-}
-
-/// Whether these are nodes other than node 0.
-fn are_between(history: &History, line: &[NodeIx]) -> bool
-    ensures between { IsTrue result → All (IsBetween history.now) line.now }
-{
-    for node in line {
-        if !is_between(history, *node) {
-            return false;
-        }
-    }
-    true
-}
-
-/// Whether a line rests on what the log shows and the first `bound` orders.
+/// Whether a line rests on what the log shows and on these orders.
 fn line_rests(
-    basis: &LogAndGrounds<'_>,
-    answers: &mut [Option<Option<Reason>>],
+    chains: &Chains<'_>,
+    shown: &mut Shown<'_>,
+    earlier: &[ChainOrder],
     line: &[NodeIx],
-    bound: usize,
 ) -> Result<bool, AllocError>
-    requires basis { IsBasis basis.now }
-    requires answers { AreAnswers basis.now.history.now answers.old }
+    requires same { shown.old ≡ chains.now }
+    requires orders { All (IsOrder (log_of chains.now)) earlier.now }
     requires some { 0 < length line.now }
-    ensures answers { AreAnswers basis.now.history.now answers.new }
+    ensures same { shown.new ≡ chains.now }
     ensures rests { IfOk result (λ rests. IsTrue rests
-        → LineRests basis.now.history.now (sides_by basis.now) bound line.now) }
+        → LineStands chains.now earlier.now [] line.now) }
 {
-    if !are_between(basis.history, line) {
-        return Ok(false);
-    }
     for i in 0..line.len() - 1 {
-        let rests = does_rest(basis, answers, line[i], line[i + 1], bound)?;
+        let rests = does_rest(chains, shown, earlier, line[i], line[i + 1])?;
         if !rests {
             return Ok(false);
         }
@@ -88,53 +52,50 @@ fn has_ends(line: &[NodeIx], first: NodeIx, last: NodeIx) -> bool
     line[0].get() == first.get() && line[line.len() - 1].get() == last.get()
 }
 
-/// Whether an entry is a step: the other way than its order has the edge, and the walk leads
-/// against it and rests on the entries before.
+/// Whether a post is a step that establishes the order behind these orders: the other way than the
+/// order has its edge, and its walk leads against it and rests on what is before.
 pub fn is_step(
-    basis: &LogAndGrounds<'_>,
-    answers: &mut [Option<Option<Reason>>],
     chains: &Chains<'_>,
-    entry: usize,
+    shown: &mut Shown<'_>,
+    earlier: &[ChainOrder],
+    order: &ChainOrder,
     post: &Refutation,
 ) -> Result<bool, AllocError>
-    requires basis { IsBasis basis.now }
-    requires answers { AreAnswers basis.now.history.now answers.old }
-    requires chains { chains.now ≡ basis.now.history.now }
-    requires within { entry < length basis.now.grounds.now.kept.items }
-    ensures answers { AreAnswers basis.now.history.now answers.new }
+    requires same { shown.old ≡ chains.now }
+    requires orders { All (IsOrder (log_of chains.now)) earlier.now }
+    requires order { IsOrder (log_of chains.now) order.now }
+    ensures same { shown.new ≡ chains.now }
     ensures step { IfOk result (λ step. IsTrue step
-        → IsStep basis.now.history.now basis.now.grounds.now.kept.items entry post.now) }
+        → IsStep chains.now earlier.now order.now post.now) }
 {
-    let order = turned(basis.grounds.kept[entry]);
     let (source, target) = (post.edge.source(), post.edge.target());
-    if !follows(chains, &order, source, target) {
+    if !follows(chains, &turned(*order), source, target) {
         return Ok(false);
     }
     if !has_ends(&post.walk, target, source) {
         return Ok(false);
     }
-    line_rests(basis, answers, &post.walk, entry)
+    line_rests(chains, shown, earlier, &post.walk)
 }
 
-/// Whether entries are steps.
+/// Whether entries are steps that keep these orders.
 pub fn are_steps(
-    basis: &LogAndGrounds<'_>,
-    answers: &mut [Option<Option<Reason>>],
     chains: &Chains<'_>,
+    shown: &mut Shown<'_>,
+    kept: &[ChainOrder],
     entries: &[LedgerEntry],
 ) -> Result<bool, AllocError>
-    requires basis { IsBasis basis.now }
-    requires answers { AreAnswers basis.now.history.now answers.old }
-    requires chains { chains.now ≡ basis.now.history.now }
-    ensures answers { AreAnswers basis.now.history.now answers.new }
-    ensures steps { IfOk result (λ steps. IsTrue steps → AreSteps basis.now.history.now
-        basis.now.grounds.now.kept.items entries.now) }
+    requires same { shown.old ≡ chains.now }
+    requires orders { All (IsOrder (log_of chains.now)) kept.now }
+    ensures same { shown.new ≡ chains.now }
+    ensures steps { IfOk result (λ steps. IsTrue steps
+        → AreSteps chains.now kept.now entries.now) }
 {
-    if basis.grounds.kept.len() != entries.len() {
+    if kept.len() != entries.len() {
         return Ok(false);
     }
     for (entry, found) in entries.iter().enumerate() {
-        let step = is_step(basis, answers, chains, entry, &found.post)?;
+        let step = is_step(chains, shown, &kept[..entry], &kept[entry], &found.post)?;
         if !step {
             return Ok(false);
         }
@@ -144,15 +105,16 @@ pub fn are_steps(
 
 /// Whether a line closes, and rests on what the log shows and on the orders.
 pub fn is_closed(
-    basis: &LogAndGrounds<'_>,
-    answers: &mut [Option<Option<Reason>>],
+    chains: &Chains<'_>,
+    shown: &mut Shown<'_>,
+    kept: &[ChainOrder],
     line: &[NodeIx],
 ) -> Result<bool, AllocError>
-    requires basis { IsBasis basis.now }
-    requires answers { AreAnswers basis.now.history.now answers.old }
-    ensures answers { AreAnswers basis.now.history.now answers.new }
+    requires same { shown.old ≡ chains.now }
+    requires orders { All (IsOrder (log_of chains.now)) kept.now }
+    ensures same { shown.new ≡ chains.now }
     ensures closed { IfOk result (λ closed. IsTrue closed
-        → IsClosed basis.now.history.now basis.now.grounds.now.kept.items line.now) }
+        → IsClosed chains.now kept.now line.now) }
 {
     if line.is_empty() {
         return Ok(false);
@@ -161,5 +123,5 @@ pub fn is_closed(
     if !has_ends(line, start, start) {
         return Ok(false);
     }
-    line_rests(basis, answers, line, basis.grounds.kept.len())
+    line_rests(chains, shown, kept, line)
 }

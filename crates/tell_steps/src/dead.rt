@@ -4,65 +4,56 @@ ghost use Rattle.std.specs.Prelude.{◌≡◌, IfOk};
 ghost use Rattle.serializability.specs.Reads.{IsClean};
 ghost use Rattle.log_definitions.specs.Numbers.{log_of};
 ghost use Rattle.tell_steps.specs.Steps.{IsDeadTold};
-ghost use Rattle.tell_steps.specs.Lines.{AreGrounds, AreAnswers, IsBasis};
-ghost use Rattle.tell_steps.specs.Ledgers.{IsDeadLedger, AreEntries, AreSteps, IsClosed, kept_by};
+ghost use Rattle.tell_steps.specs.Ledgers as spec;
 
-use crate::firsts::grounds_of;
-use crate::ground::{Grounds, LogAndGrounds, no_answers};
 use crate::item::Item;
 use crate::lines::put_cycle;
+use crate::needed::Walks;
 use crate::orders::{choice_orders, kept_orders};
 use crate::proposed::tell_proposed;
-use crate::shorter::{shortened, shorter_cycle};
+use crate::shorter::shorter_cycle;
+use crate::shown::Shown;
 use crate::steps::told_steps;
 use prune_ledger::{Ledger, LedgerEntry};
-use reasons::Reason;
 use serializability::NodeIx;
 use session_history::History;
 use std::alloc::{AllocError, Global};
+use tell_reasons::ChainOrder;
 use write_chains::Chains;
 
-/// What the entries of a ledger keep, with the first of them for each edge.
-pub fn grounds_in(
+/// The orders that the entries of a ledger keep.
+pub fn kept_by(
     alloc: Global,
-    history: &History,
     chains: &Chains<'_>,
     entries: &[LedgerEntry],
-) -> Result<Grounds, AllocError>
-    requires clean { IsClean (log_of history.now) }
-    requires chains { chains.now ≡ history.now }
-    requires entries { AreEntries history.now entries.now }
-    ensures grounds { IfOk result (AreGrounds history.now) }
-    ensures kept { IfOk result (λ grounds. grounds.kept.items ≡ kept_by history.now entries.now) }
+) -> Result<Vec<ChainOrder>, AllocError>
+    requires clean { IsClean (log_of chains.now) }
+    requires entries { spec.AreEntries chains.now entries.now }
+    ensures kept { IfOk result (λ kept. kept.items ≡ spec.kept_by chains.now entries.now) }
+    ensures steps { IfOk result (λ kept. spec.AreSteps chains.now kept.items entries.now) }
 {
     let orders = choice_orders(alloc, chains)?;
-    let kept = kept_orders(alloc, &orders, entries)?;
-    grounds_of(alloc, chains, &kept)
+    kept_orders(alloc, &orders, entries)
 }
 
 /// The steps that this cycle needs, which tell entries of a ledger, and the cycle.
 pub fn tell_steps(
-    basis: &LogAndGrounds<'_>,
-    answers: &mut [Option<Option<Reason>>],
     chains: &Chains<'_>,
+    shown: &mut Shown<'_>,
+    kept: &[ChainOrder],
     entries: &[LedgerEntry],
     cycle: &[NodeIx],
+    walks: Walks,
 ) -> Result<Vec<Item>, AllocError>
-    requires basis { IsBasis basis.now }
-    requires answers { AreAnswers basis.now.history.now answers.old }
-    requires chains { chains.now ≡ basis.now.history.now }
-    requires steps { AreSteps basis.now.history.now basis.now.grounds.now.kept.items entries.now }
-    requires closed { IsClosed basis.now.history.now basis.now.grounds.now.kept.items cycle.now }
-    ensures told { IfOk result (λ items. IsDeadTold basis.now.history.now items.items) }
+    requires same { shown.old ≡ chains.now }
+    requires steps { spec.AreSteps chains.now kept.now entries.now }
+    requires closed { spec.IsClosed chains.now kept.now cycle.now }
+    ensures same { shown.new ≡ chains.now }
+    ensures told { IfOk result (λ items. IsDeadTold chains.now items.items) }
 {
-    let told = told_steps(basis, answers, chains, entries, &[cycle])?;
+    let told = told_steps(chains, shown, kept, entries, &[cycle], walks)?;
     let mut items = told.items;
-    let steps = LogAndGrounds {
-        alloc: basis.alloc,
-        history: basis.history,
-        grounds: &told.grounds,
-    };
-    put_cycle(&mut items, &steps, answers, chains, &[], cycle)?;
+    put_cycle(&mut items, chains, shown, &told.orders, &[], cycle)?;
     Ok(items)
 }
 
@@ -70,29 +61,19 @@ pub fn tell_steps(
 /// log shows a shortcut with that.
 fn tell_with(
     alloc: Global,
-    history: &History,
     chains: &Chains<'_>,
     entries: &[LedgerEntry],
     cycle: &[NodeIx],
 ) -> Result<Vec<Item>, AllocError>
-    requires clean { IsClean (log_of history.now) }
-    requires chains { chains.now ≡ history.now }
-    requires entries { AreEntries history.now entries.now }
-    requires closed { IsClosed history.now (kept_by history.now entries.now) cycle.now }
-    ensures told { IfOk result (λ items. IsDeadTold history.now items.items) }
+    requires clean { IsClean (log_of chains.now) }
+    requires entries { spec.AreEntries chains.now entries.now }
+    requires closed { spec.IsClosed chains.now (spec.kept_by chains.now entries.now) cycle.now }
+    ensures told { IfOk result (λ items. IsDeadTold chains.now items.items) }
 {
-    let grounds = grounds_in(alloc, history, chains, entries)?;
-    let mut table = no_answers(alloc, history)?;
-    let answers = table.as_mut_slice();
-    let basis = LogAndGrounds {
-        alloc,
-        history,
-        grounds: &grounds,
-    };
-    let round = shorter_cycle(&basis, answers, cycle)?;
-    let line = round.as_slice();
-    let shorter = shortened(&basis, answers, chains, entries, &[line])?;
-    tell_steps(&basis, answers, chains, &shorter, line)
+    let kept = kept_by(alloc, chains, entries)?;
+    let mut shown = Shown::of(alloc, chains);
+    let round = shorter_cycle(chains, &mut shown, &kept, cycle)?;
+    tell_steps(chains, &mut shown, &kept, entries, &round, Walks::Shorter)
 }
 
 /// A dead ledger, told as forced steps, and the cycle that they end in: only the steps that the
@@ -107,13 +88,13 @@ pub fn tell_dead(
 ) -> Result<Vec<Item>, AllocError>
     requires clean { IsClean (log_of history.now) }
     requires chains { chains.now ≡ history.now }
-    requires ledger { IsDeadLedger history.now ledger.now }
+    requires ledger { spec.IsDeadLedger history.now ledger.now }
     ensures told { IfOk result (λ items. IsDeadTold history.now items.items) }
 {
     match &ledger.cycle {
-        Some(cycle) => match tell_proposed(alloc, history, chains)? {
+        Some(cycle) => match tell_proposed(alloc, chains)? {
             Some(items) => Ok(items),
-            None => tell_with(alloc, history, chains, &ledger.entries, cycle),
+            None => tell_with(alloc, chains, &ledger.entries, cycle),
         },
         None => Ok(Vec::new(alloc)),
     }

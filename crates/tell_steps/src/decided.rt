@@ -1,10 +1,11 @@
 //! Which decided order has an edge.
 
-ghost use Rattle.std.specs.Prelude.{◌≡◌, ◌<◌, ℕ, IsTrue, not, IfSome, IfNone};
+ghost use Rattle.std.specs.Prelude.{◌≡◌, ◌<◌, ℕ, IsTrue, not};
 ghost use Rattle.std.specs.List.{All, Contains};
 ghost use Rattle.chain_laws.specs.Chains.{tail, edges_to};
 ghost use Rattle.log_definitions.specs.Numbers.{log_of};
 ghost use Rattle.tell_steps.specs.Steps.{IsOrder, edges_in, Follows};
+ghost use Rattle.tell_steps.specs.Lines.{IsFound};
 
 use crate::chain::first_chain;
 use serializability::NodeIx;
@@ -60,22 +61,14 @@ pub fn follows(chains: &Chains<'_>, order: &ChainOrder, a: NodeIx, b: NodeIx) ->
     is_from_tail(chains, order, a, b)
 }
 
-/// The first of the orders that has the edge.
-pub fn order_with(
-    chains: &Chains<'_>,
-    orders: &[ChainOrder],
-    a: NodeIx,
-    b: NodeIx,
-) -> Option<ChainOrder>
+/// The first of the orders that has the edge, by its place.
+pub fn first_with(chains: &Chains<'_>, orders: &[ChainOrder], a: NodeIx, b: NodeIx) -> Option<usize>
     requires orders { All (IsOrder (log_of chains.now)) orders.now }
-    ensures among { IfSome result (Contains orders.now) }
-    ensures edge { IfSome result (λ o. Contains (edges_in (log_of chains.now) o) (a, b)) }
-    ensures none { IfNone result (All (λ o. Contains (edges_in (log_of chains.now) o) (a, b) → ⊥)
-        orders.now) }
+    ensures found { IsFound (log_of chains.now) orders.now (a, b) result }
 {
-    for order in orders {
+    for (place, order) in orders.iter().enumerate() {
         if has_edge(chains, *order, a, b) {
-            return Some(*order);
+            return Some(place);
         }
     }
     None

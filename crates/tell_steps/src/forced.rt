@@ -9,14 +9,13 @@ ghost use Rattle.tell_steps.specs.Lines.{HasLedger, IsLineOfNodes, IsCovered, Ha
 ghost use Rattle.tell_steps.specs.Lines.{IsNeededIn};
 ghost use Rattle.tell_steps.specs.Told.{IsPut, IsRoundTold};
 
-use crate::dead::grounds_in;
-use crate::ground::{Grounds, LogAndGrounds, no_answers};
+use crate::dead::kept_by;
 use crate::item::Item;
 use crate::lines::put_cycle;
-use crate::shorter::shortened;
+use crate::needed::Walks;
+use crate::shown::Shown;
 use crate::steps::told_steps;
 use prune_ledger::LedgerEntry;
-use reasons::Reason;
 use serializability::NodeIx;
 use session_history::History;
 use std::alloc::{AllocError, Global};
@@ -28,12 +27,10 @@ use write_chains::Chains;
 /// entries and the orders that the steps establish.
 #[derive(Drop)]
 pub struct Steps<'a> {
-    history: &'a History,
+    shown: Shown<'a>,
     chains: &'a Chains<'a>,
     entries: &'a [LedgerEntry],
-    grounds: Grounds,
-    /// Of each edge that was asked for, why it stands, where the log shows it.
-    answers: Vec<Option<Option<Reason>>>,
+    orders: Vec<ChainOrder>,
 }
 
 impl<'a> Model for Steps<'a> {
@@ -67,22 +64,14 @@ pub fn steps_of<'a>(
     ensures needed { IfOk result (λ made. (k : ℕ) → k < length made.0.orders
         → IsNamed made.1.items k ⊎ IsNeededIn history.now made.0.orders lines.now k) }
 {
-    let grounds = grounds_in(alloc, history, chains, entries)?;
-    let mut table = no_answers(alloc, history)?;
-    let answers = table.as_mut_slice();
-    let basis = LogAndGrounds {
-        alloc,
-        history,
-        grounds: &grounds,
-    };
-    let shorter = shortened(&basis, answers, chains, entries, lines)?;
-    let told = told_steps(&basis, answers, chains, &shorter, lines)?;
+    let kept = kept_by(alloc, chains, entries)?;
+    let mut shown = Shown::of(alloc, chains);
+    let told = told_steps(chains, &mut shown, &kept, entries, lines, Walks::Shorter)?;
     let steps = Steps {
-        history,
+        shown,
         chains,
         entries,
-        grounds: told.grounds,
-        answers: table,
+        orders: told.orders,
     };
     Ok((steps, told.items))
 }
@@ -108,12 +97,13 @@ impl<'a> Steps<'a> {
         ensures told { OnOk result (IsPut items.old.items items.new.items
             (IsRoundTold self.old.sessions self.old.orders decided.now line.now)) }
     {
-        let basis = LogAndGrounds {
-            alloc,
-            history: self.history,
-            grounds: &self.grounds,
-        };
-        let answers = self.answers.as_mut_slice();
-        put_cycle(items, &basis, answers, self.chains, decided, line)
+        put_cycle(
+            items,
+            self.chains,
+            &mut self.shown,
+            &self.orders,
+            decided,
+            line,
+        )
     }
 }

@@ -4,20 +4,20 @@
 //! Called by `tell_decision` and `tell_trees`. It knows no format, no tree and no piece.
 #![tactic(auto)]
 
-mod cell;
 mod chain;
 mod checks;
 mod dead;
 mod decided;
-mod firsts;
 mod forced;
 mod ground;
 mod item;
 mod lines;
 mod marks;
+mod needed;
 mod orders;
 mod proposed;
 mod shorter;
+mod shown;
 mod steps;
 
 pub use dead::tell_dead;

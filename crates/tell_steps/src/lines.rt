@@ -4,13 +4,13 @@ ghost use Rattle.std.specs.Prelude.{◌≡◌, IfOk, OnOk};
 ghost use Rattle.std.specs.List.{All};
 ghost use Rattle.log_definitions.specs.Numbers.{log_of};
 ghost use Rattle.tell_steps.specs.Steps.{IsOrder, IsWhy, IsLineTold};
-ghost use Rattle.tell_steps.specs.Lines.{Stands, LineStands, IsRound, AreAnswers, IsBasis};
+ghost use Rattle.tell_steps.specs.Lines.{Stands, LineStands, IsRound};
 ghost use Rattle.tell_steps.specs.Told.{IsPut, WhyPut, IsRoundTold};
 
-use crate::decided::order_with;
-use crate::ground::{LogAndGrounds, answer, entry_with, kept_order};
+use crate::decided::first_with;
 use crate::item::Item;
-use reasons::{Reason, without_runs};
+use crate::shown::Shown;
+use reasons::without_runs;
 use serializability::NodeIx;
 use std::alloc::AllocError;
 use tell_reasons::{ChainOrder, Why};
@@ -19,35 +19,29 @@ use write_chains::Chains;
 /// Why `a` stands before `b`: where the log does not show it, by the first of these steps that has
 /// the edge, and where none has, by the first of the decided orders that has it.
 fn why_of(
-    basis: &LogAndGrounds<'_>,
-    answers: &mut [Option<Option<Reason>>],
     chains: &Chains<'_>,
+    shown: &mut Shown<'_>,
+    steps: &[ChainOrder],
     decided: &[ChainOrder],
     a: NodeIx,
     b: NodeIx,
 ) -> Result<Why, AllocError>
-    requires basis { IsBasis basis.now }
-    requires chains { chains.now ≡ basis.now.history.now }
-    requires decided { All (IsOrder (log_of basis.now.history.now)) decided.now }
-    requires answers { AreAnswers basis.now.history.now answers.old }
-    requires stands { Stands basis.now.history.now basis.now.grounds.now.kept.items decided.now a
-        b }
-    ensures answers { AreAnswers basis.now.history.now answers.new }
-    ensures why { IfOk result (IsWhy basis.now.history.now basis.now.grounds.now.kept.items
-        decided.now a b) }
+    requires same { shown.old ≡ chains.now }
+    requires steps { All (IsOrder (log_of chains.now)) steps.now }
+    requires decided { All (IsOrder (log_of chains.now)) decided.now }
+    requires stands { Stands chains.now steps.now decided.now a b }
+    ensures same { shown.new ≡ chains.now }
+    ensures why { IfOk result (IsWhy chains.now steps.now decided.now a b) }
 {
-    match answer(basis.alloc, answers, basis.history, a, b)? {
+    match shown.reason(a, b)? {
         Some(reason) => Ok(Why::Known(reason)),
-        None => match entry_with(basis.grounds, a, b) {
-            Some(step) => {
-                let order = kept_order(basis.grounds, step);
-                Ok(Why::Forced {
-                    number: step + 1,
-                    order,
-                })
-            }
-            None => match order_with(chains, decided, a, b) {
-                Some(order) => Ok(Why::Chosen(order)),
+        None => match first_with(chains, steps, a, b) {
+            Some(step) => Ok(Why::Forced {
+                number: step + 1,
+                order: steps[step],
+            }),
+            None => match first_with(chains, decided, a, b) {
+                Some(place) => Ok(Why::Chosen(decided[place])),
                 None => unreachable!(),
             },
         },
@@ -57,48 +51,44 @@ fn why_of(
 /// Appends an edge, and why it stands among these steps.
 fn put_edge(
     items: &mut Vec<Item>,
-    basis: &LogAndGrounds<'_>,
-    answers: &mut [Option<Option<Reason>>],
     chains: &Chains<'_>,
+    shown: &mut Shown<'_>,
+    steps: &[ChainOrder],
     decided: &[ChainOrder],
     first: NodeIx,
     second: NodeIx,
 ) -> Result<(), AllocError>
-    requires basis { IsBasis basis.now }
-    requires chains { chains.now ≡ basis.now.history.now }
-    requires decided { All (IsOrder (log_of basis.now.history.now)) decided.now }
-    requires answers { AreAnswers basis.now.history.now answers.old }
-    requires stands { Stands basis.now.history.now basis.now.grounds.now.kept.items decided.now
-        first second }
-    ensures answers { AreAnswers basis.now.history.now answers.new }
-    ensures put { OnOk result (WhyPut basis.now.history.now basis.now.grounds.now.kept.items
-        decided.now first second items.old.items items.new.items) }
+    requires same { shown.old ≡ chains.now }
+    requires steps { All (IsOrder (log_of chains.now)) steps.now }
+    requires decided { All (IsOrder (log_of chains.now)) decided.now }
+    requires stands { Stands chains.now steps.now decided.now first second }
+    ensures same { shown.new ≡ chains.now }
+    ensures put { OnOk result (WhyPut chains.now steps.now decided.now first second
+        items.old.items items.new.items) }
 {
-    let why: Why = why_of(basis, answers, chains, decided, first, second)?;
+    let why: Why = why_of(chains, shown, steps, decided, first, second)?;
     items.extend_from_slice(&[Item::Edge { first, second, why }])
 }
 
 /// Appends the edges of a line, each with why it stands among these steps.
 pub fn put_edges(
     items: &mut Vec<Item>,
-    basis: &LogAndGrounds<'_>,
-    answers: &mut [Option<Option<Reason>>],
     chains: &Chains<'_>,
+    shown: &mut Shown<'_>,
+    steps: &[ChainOrder],
     decided: &[ChainOrder],
     line: &[NodeIx],
 ) -> Result<(), AllocError>
-    requires basis { IsBasis basis.now }
-    requires chains { chains.now ≡ basis.now.history.now }
-    requires decided { All (IsOrder (log_of basis.now.history.now)) decided.now }
-    requires answers { AreAnswers basis.now.history.now answers.old }
-    requires stands { LineStands basis.now.history.now basis.now.grounds.now.kept.items decided.now
-        line.now }
-    ensures answers { AreAnswers basis.now.history.now answers.new }
+    requires same { shown.old ≡ chains.now }
+    requires steps { All (IsOrder (log_of chains.now)) steps.now }
+    requires decided { All (IsOrder (log_of chains.now)) decided.now }
+    requires stands { LineStands chains.now steps.now decided.now line.now }
+    ensures same { shown.new ≡ chains.now }
     ensures put { OnOk result (IsPut items.old.items items.new.items
-        (IsLineTold basis.now.history.now basis.now.grounds.now.kept.items decided.now line.now)) }
+        (IsLineTold chains.now steps.now decided.now line.now)) }
 {
     for i in 0..line.len() - 1 {
-        put_edge(items, basis, answers, chains, decided, line[i], line[i + 1])?;
+        put_edge(items, chains, shown, steps, decided, line[i], line[i + 1])?;
     }
     Ok(())
 }
@@ -106,26 +96,24 @@ pub fn put_edges(
 /// Appends a cycle, and its edges, with each run of edges of one session as one edge.
 pub fn put_cycle(
     items: &mut Vec<Item>,
-    basis: &LogAndGrounds<'_>,
-    answers: &mut [Option<Option<Reason>>],
     chains: &Chains<'_>,
+    shown: &mut Shown<'_>,
+    steps: &[ChainOrder],
     decided: &[ChainOrder],
     line: &[NodeIx],
 ) -> Result<(), AllocError>
-    requires basis { IsBasis basis.now }
-    requires chains { chains.now ≡ basis.now.history.now }
-    requires decided { All (IsOrder (log_of basis.now.history.now)) decided.now }
-    requires answers { AreAnswers basis.now.history.now answers.old }
-    requires stands { LineStands basis.now.history.now basis.now.grounds.now.kept.items decided.now
-        line.now }
+    requires same { shown.old ≡ chains.now }
+    requires steps { All (IsOrder (log_of chains.now)) steps.now }
+    requires decided { All (IsOrder (log_of chains.now)) decided.now }
+    requires stands { LineStands chains.now steps.now decided.now line.now }
     requires round { IsRound line.now }
-    ensures answers { AreAnswers basis.now.history.now answers.new }
+    ensures same { shown.new ≡ chains.now }
     ensures put { OnOk result (IsPut items.old.items items.new.items
-        (IsRoundTold basis.now.history.now basis.now.grounds.now.kept.items decided.now line.now)) }
+        (IsRoundTold chains.now steps.now decided.now line.now)) }
 {
-    let line = without_runs(basis.alloc, basis.history, line)?;
+    let line = without_runs(shown.alloc(), chains.history(), line)?;
     let start = line[0];
     let edges = line.len() - 1;
     items.extend_from_slice(&[Item::Cycle { start, edges }])?;
-    put_edges(items, basis, answers, chains, decided, &line)
+    put_edges(items, chains, shown, steps, decided, &line)
 }

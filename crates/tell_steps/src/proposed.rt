@@ -9,9 +9,9 @@ ghost use Rattle.tell_steps.specs.Steps.{IsOrder, IsDeadTold};
 use crate::chain::place_of;
 use crate::checks::{are_steps, is_closed};
 use crate::dead::tell_steps;
-use crate::firsts::grounds_of;
-use crate::ground::{LogAndGrounds, no_answers};
 use crate::item::Item;
+use crate::needed::Walks;
+use crate::shown::Shown;
 use desk::seat_no::SeatNo;
 use polygraph::ChoiceIx;
 use prune_ledger::LedgerEntry;
@@ -19,7 +19,6 @@ use prune_ledger::messages::Refutation;
 use pruning_laws::Side;
 use reach_laws::Edge;
 use serializability::NodeIx;
-use session_history::History;
 use std::alloc::{AllocError, Global};
 use tell_proposals::{ProposedStep, propose};
 use tell_reasons::ChainOrder;
@@ -103,48 +102,31 @@ fn entries_of(alloc: Global, steps: Vec<ProposedStep>) -> Result<Vec<LedgerEntry
 
 /// The proposed steps that keep these orders, and the proposed cycle, where they are right.
 fn tell_right(
-    alloc: Global,
-    history: &History,
     chains: &Chains<'_>,
-    kept: Vec<ChainOrder>,
+    shown: &mut Shown<'_>,
+    kept: &[ChainOrder],
     entries: &[LedgerEntry],
     cycle: &[NodeIx],
 ) -> Result<Option<Vec<Item>>, AllocError>
-    requires clean { IsClean (log_of history.now) }
-    requires chains { chains.now ≡ history.now }
-    requires orders { All (IsOrder (log_of chains.now)) kept.items }
-    ensures told { IfOk result (λ told. IfSome told (λ items.
-        IsDeadTold history.now items.items)) }
+    requires same { shown.old ≡ chains.now }
+    requires orders { All (IsOrder (log_of chains.now)) kept.now }
+    ensures told { IfOk result (λ told. IfSome told (λ items. IsDeadTold chains.now items.items)) }
 {
-    let grounds = grounds_of(alloc, chains, &kept)?;
-    let mut table = no_answers(alloc, history)?;
-    let answers = table.as_mut_slice();
-    let basis = LogAndGrounds {
-        alloc,
-        history,
-        grounds: &grounds,
-    };
-    let steps = are_steps(&basis, answers, chains, entries)?;
+    let steps = are_steps(chains, shown, kept, entries)?;
     if !steps {
         return Ok(None);
     }
-    let closed = is_closed(&basis, answers, cycle)?;
+    let closed = is_closed(chains, shown, kept, cycle)?;
     if !closed {
         return Ok(None);
     }
-    Ok(Some(tell_steps(&basis, answers, chains, entries, cycle)?))
+    Ok(Some(tell_steps(chains, shown, kept, entries, cycle, Walks::Same)?))
 }
 
 /// A dead history, told by steps and a cycle of few words, where such are proposed and right.
-pub fn tell_proposed(
-    alloc: Global,
-    history: &History,
-    chains: &Chains<'_>,
-) -> Result<Option<Vec<Item>>, AllocError>
-    requires clean { IsClean (log_of history.now) }
-    requires chains { chains.now ≡ history.now }
-    ensures told { IfOk result (λ told. IfSome told (λ items.
-        IsDeadTold history.now items.items)) }
+pub fn tell_proposed(alloc: Global, chains: &Chains<'_>) -> Result<Option<Vec<Item>>, AllocError>
+    requires clean { IsClean (log_of chains.now) }
+    ensures told { IfOk result (λ told. IfSome told (λ items. IsDeadTold chains.now items.items)) }
 {
     let Some(proposal) = propose(alloc, chains)? else {
         return Ok(None);
@@ -153,5 +135,6 @@ pub fn tell_proposed(
         return Ok(None);
     };
     let entries = entries_of(alloc, proposal.steps)?;
-    tell_right(alloc, history, chains, kept, &entries, &proposal.cycle)
+    let mut shown = Shown::of(alloc, chains);
+    tell_right(chains, &mut shown, &kept, &entries, &proposal.cycle)
 }

@@ -1,21 +1,18 @@
 //! Shorter walks: an edge that the log shows in place of a way around. Nothing is promised of how
 //! they are found: each is taken only where it is shown to be right.
 
-ghost use Rattle.std.specs.Prelude.{◌≡◌, ◌<◌, length, IfOk};
+ghost use Rattle.std.specs.Prelude.{◌≡◌, IfOk};
+ghost use Rattle.std.specs.List.{All};
 ghost use Rattle.log_definitions.specs.Numbers.{log_of};
 ghost use Rattle.tell_steps.specs.Steps.{IsOrder};
-ghost use Rattle.tell_steps.specs.Lines.{AreAnswers, IsBasis};
-ghost use Rattle.tell_steps.specs.Ledgers.{IsStep, AreSteps, IsClosed};
+ghost use Rattle.tell_steps.specs.Ledgers.{IsStep, IsClosed};
 
 use crate::chain::first_chain;
 use crate::checks::{is_closed, is_step};
-use crate::ground::{LogAndGrounds, shows};
-use crate::marks::needed_entries;
 use crate::orders::turned;
-use prune_ledger::LedgerEntry;
+use crate::shown::Shown;
 use prune_ledger::messages::Refutation;
 use reach_laws::Edge;
-use reasons::Reason;
 use serializability::NodeIx;
 use std::alloc::{AllocError, Global};
 use tell_reasons::ChainOrder;
@@ -23,19 +20,11 @@ use write_chains::Chains;
 
 /// The place of the first of these nodes from which the log shows an edge to another; where it
 /// shows none, that of the last.
-fn earliest(
-    basis: &LogAndGrounds<'_>,
-    answers: &mut [Option<Option<Reason>>],
-    nodes: &[NodeIx],
-    end: NodeIx,
-) -> Result<usize, AllocError>
-    requires basis { IsBasis basis.now }
-    requires answers { AreAnswers basis.now.history.now answers.old }
-    ensures answers { AreAnswers basis.now.history.now answers.new }
+fn earliest(shown: &mut Shown<'_>, nodes: &[NodeIx], end: NodeIx) -> Result<usize, AllocError>
+    ensures same { shown.new ≡ shown.old }
 {
     for (place, node) in nodes.iter().enumerate() {
-        let shown = shows(basis, answers, *node, end)?;
-        if shown {
+        if shown.shows(*node, end)? {
             return Ok(place);
         }
     }
@@ -44,24 +33,17 @@ fn earliest(
 
 /// Leads along a line to another node: each node is reached from the first one that the log shows
 /// to stand before it.
-fn walk_to(
-    basis: &LogAndGrounds<'_>,
-    answers: &mut [Option<Option<Reason>>],
-    line: &[NodeIx],
-    end: NodeIx,
-) -> Result<Vec<NodeIx>, AllocError>
-    requires basis { IsBasis basis.now }
-    requires answers { AreAnswers basis.now.history.now answers.old }
-    ensures answers { AreAnswers basis.now.history.now answers.new }
+fn walk_to(shown: &mut Shown<'_>, line: &[NodeIx], end: NodeIx) -> Result<Vec<NodeIx>, AllocError>
+    ensures same { shown.new ≡ shown.old }
 {
-    let mut back = Vec::new(basis.alloc);
+    let mut back = Vec::new(shown.alloc());
     back.push(end)?;
-    let mut next = earliest(basis, answers, line, end)?;
+    let mut next = earliest(shown, line, end)?;
     for done in 0..line.len() {
         let place = line.len() - 1 - done;
         if place == next {
             back.push(line[place])?;
-            next = earliest(basis, answers, &line[..place], line[place])?;
+            next = earliest(shown, &line[..place], line[place])?;
         }
     }
     back.reverse();
@@ -69,38 +51,28 @@ fn walk_to(
 }
 
 /// A line with the same ends, of some of its nodes.
-fn shorter_line(
-    basis: &LogAndGrounds<'_>,
-    answers: &mut [Option<Option<Reason>>],
-    line: &[NodeIx],
-) -> Result<Vec<NodeIx>, AllocError>
-    requires basis { IsBasis basis.now }
-    requires answers { AreAnswers basis.now.history.now answers.old }
-    ensures answers { AreAnswers basis.now.history.now answers.new }
+fn shorter_line(shown: &mut Shown<'_>, line: &[NodeIx]) -> Result<Vec<NodeIx>, AllocError>
+    ensures same { shown.new ≡ shown.old }
 {
     let Some(end) = line.last() else {
-        return Ok(Vec::new(basis.alloc));
+        return Ok(Vec::new(shown.alloc()));
     };
-    walk_to(basis, answers, &line[..line.len().saturating_sub(1)], *end)
+    walk_to(shown, &line[..line.len().saturating_sub(1)], *end)
 }
 
 /// A walk that begins as a line does and leads to the first of these nodes that the log shows to
 /// stand behind the first place of the line, of those from which it goes on by two edges or more.
 fn walk_to_one(
-    basis: &LogAndGrounds<'_>,
-    answers: &mut [Option<Option<Reason>>],
+    shown: &mut Shown<'_>,
     line: &[NodeIx],
     ends: &[NodeIx],
 ) -> Result<Option<Vec<NodeIx>>, AllocError>
-    requires basis { IsBasis basis.now }
-    requires answers { AreAnswers basis.now.history.now answers.old }
-    ensures answers { AreAnswers basis.now.history.now answers.new }
+    ensures same { shown.new ≡ shown.old }
 {
     for place in 0..line.len().saturating_sub(2) {
         for end in ends {
-            let shown = shows(basis, answers, line[place], *end)?;
-            if shown {
-                return Ok(Some(walk_to(basis, answers, &line[..place + 1], *end)?));
+            if shown.shows(line[place], *end)? {
+                return Ok(Some(walk_to(shown, &line[..place + 1], *end)?));
             }
         }
     }
@@ -109,20 +81,17 @@ fn walk_to_one(
 
 /// A post against the same order by a shorter walk, from a nearer node where there is one.
 fn shorter_post(
-    basis: &LogAndGrounds<'_>,
-    answers: &mut [Option<Option<Reason>>],
     chains: &Chains<'_>,
+    shown: &mut Shown<'_>,
     order: ChainOrder,
     post: &Refutation,
 ) -> Result<Refutation, AllocError>
-    requires basis { IsBasis basis.now }
-    requires answers { AreAnswers basis.now.history.now answers.old }
     requires order { IsOrder (log_of chains.now) order }
-    ensures answers { AreAnswers basis.now.history.now answers.new }
+    ensures same { shown.new ≡ shown.old }
 {
-    let line = shorter_line(basis, answers, &post.walk)?;
+    let line = shorter_line(shown, &post.walk)?;
     let readers = first_chain(chains, &order).readers.as_slice();
-    let nearer = walk_to_one(basis, answers, &line, readers)?;
+    let nearer = walk_to_one(shown, &line, readers)?;
     let walk = nearer.unwrap_or(line);
     let source = walk.last().copied().unwrap_or(post.edge.source());
     Ok(Refutation {
@@ -134,7 +103,7 @@ fn shorter_post(
 }
 
 /// The same post.
-fn same_post(alloc: Global, post: &Refutation) -> Result<Refutation, AllocError>
+pub fn same_post(alloc: Global, post: &Refutation) -> Result<Refutation, AllocError>
     ensures same { IfOk result (λ made. made ≡ post.now) }
 {
     let mut walk = Vec::new(alloc);
@@ -147,103 +116,47 @@ fn same_post(alloc: Global, post: &Refutation) -> Result<Refutation, AllocError>
     })
 }
 
-/// A step that keeps the same order: where it is to be told, by a shorter walk if that is right.
-fn shorter_step(
-    basis: &LogAndGrounds<'_>,
-    answers: &mut [Option<Option<Reason>>],
+/// A step that establishes the same order, by a shorter walk if that is right.
+pub fn shorter_step(
     chains: &Chains<'_>,
-    entry: usize,
+    shown: &mut Shown<'_>,
+    earlier: &[ChainOrder],
+    order: &ChainOrder,
     post: &Refutation,
-    is_told: bool,
 ) -> Result<Refutation, AllocError>
-    requires basis { IsBasis basis.now }
-    requires answers { AreAnswers basis.now.history.now answers.old }
-    requires chains { chains.now ≡ basis.now.history.now }
-    requires within { entry < length basis.now.grounds.now.kept.items }
-    requires step { IsStep basis.now.history.now basis.now.grounds.now.kept.items entry post.now }
-    ensures answers { AreAnswers basis.now.history.now answers.new }
-    ensures step { IfOk result (IsStep basis.now.history.now basis.now.grounds.now.kept.items
-        entry) }
+    requires same { shown.old ≡ chains.now }
+    requires orders { All (IsOrder (log_of chains.now)) earlier.now }
+    requires step { IsStep chains.now earlier.now order.now post.now }
+    ensures same { shown.new ≡ chains.now }
+    ensures step { IfOk result (IsStep chains.now earlier.now order.now) }
 {
-    if !is_told {
-        return same_post(basis.alloc, post);
-    }
-    let order = turned(basis.grounds.kept[entry]);
-    let made = shorter_post(basis, answers, chains, order, post)?;
-    let right = is_step(basis, answers, chains, entry, &made)?;
+    let made = shorter_post(chains, shown, turned(*order), post)?;
+    let right = is_step(chains, shown, earlier, order, &made)?;
     if right {
         return Ok(made);
     }
-    same_post(basis.alloc, post)
-}
-
-/// The entries of a ledger, of which the marked ones have shorter walks.
-fn shorter_entries(
-    basis: &LogAndGrounds<'_>,
-    answers: &mut [Option<Option<Reason>>],
-    chains: &Chains<'_>,
-    marks: &[bool],
-    entries: &[LedgerEntry],
-) -> Result<Vec<LedgerEntry>, AllocError>
-    requires basis { IsBasis basis.now }
-    requires answers { AreAnswers basis.now.history.now answers.old }
-    requires chains { chains.now ≡ basis.now.history.now }
-    requires marks { length marks.now ≡ length basis.now.grounds.now.kept.items }
-    requires steps { AreSteps basis.now.history.now basis.now.grounds.now.kept.items entries.now }
-    ensures answers { AreAnswers basis.now.history.now answers.new }
-    ensures steps { IfOk result (λ made. AreSteps basis.now.history.now
-        basis.now.grounds.now.kept.items made.items) }
-{
-    let mut made = Vec::with_capacity(basis.alloc, entries.len())?;
-    for (entry, found) in entries.iter().enumerate() {
-        let post = shorter_step(basis, answers, chains, entry, &found.post, marks[entry])?;
-        made.push(LedgerEntry {
-            seat: found.seat,
-            post,
-        })?;
-    }
-    Ok(made)
-}
-
-/// The entries of a ledger, of which those that these lines need have shorter walks.
-pub fn shortened(
-    basis: &LogAndGrounds<'_>,
-    answers: &mut [Option<Option<Reason>>],
-    chains: &Chains<'_>,
-    entries: &[LedgerEntry],
-    lines: &[&[NodeIx]],
-) -> Result<Vec<LedgerEntry>, AllocError>
-    requires basis { IsBasis basis.now }
-    requires answers { AreAnswers basis.now.history.now answers.old }
-    requires chains { chains.now ≡ basis.now.history.now }
-    requires steps { AreSteps basis.now.history.now basis.now.grounds.now.kept.items entries.now }
-    ensures answers { AreAnswers basis.now.history.now answers.new }
-    ensures steps { IfOk result (λ made. AreSteps basis.now.history.now
-        basis.now.grounds.now.kept.items made.items) }
-{
-    let marks = needed_entries(basis, answers, entries, lines)?;
-    shorter_entries(basis, answers, chains, &marks, entries)
+    same_post(shown.alloc(), post)
 }
 
 /// A cycle of some nodes of this one, if that is right, and else this one.
 pub fn shorter_cycle(
-    basis: &LogAndGrounds<'_>,
-    answers: &mut [Option<Option<Reason>>],
+    chains: &Chains<'_>,
+    shown: &mut Shown<'_>,
+    kept: &[ChainOrder],
     cycle: &[NodeIx],
 ) -> Result<Vec<NodeIx>, AllocError>
-    requires basis { IsBasis basis.now }
-    requires answers { AreAnswers basis.now.history.now answers.old }
-    requires closed { IsClosed basis.now.history.now basis.now.grounds.now.kept.items cycle.now }
-    ensures answers { AreAnswers basis.now.history.now answers.new }
-    ensures closed { IfOk result (λ made. IsClosed basis.now.history.now
-        basis.now.grounds.now.kept.items made.items) }
+    requires same { shown.old ≡ chains.now }
+    requires orders { All (IsOrder (log_of chains.now)) kept.now }
+    requires closed { IsClosed chains.now kept.now cycle.now }
+    ensures same { shown.new ≡ chains.now }
+    ensures closed { IfOk result (λ made. IsClosed chains.now kept.now made.items) }
 {
-    let made = shorter_line(basis, answers, cycle)?;
-    let right = is_closed(basis, answers, &made)?;
+    let made = shorter_line(shown, cycle)?;
+    let right = is_closed(chains, shown, kept, &made)?;
     if right {
         return Ok(made);
     }
-    let mut same = Vec::new(basis.alloc);
+    let mut same = Vec::new(shown.alloc());
     same.extend_from_slice(cycle)?;
     Ok(same)
 }

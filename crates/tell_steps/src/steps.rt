@@ -1,116 +1,88 @@
-//! The steps of a ledger that some lines need: its needed entries, one behind the other.
+//! Steps, told one behind the other.
 
-ghost use Rattle.std.specs.Prelude.{◌≡◌, [], length, IfOk, OnOk};
-ghost use Rattle.prune_ledger.specs.Pruned.{posts_in};
-ghost use Rattle.tell_steps.specs.Lines.{sides_by, LineStands, AreAnswers, AreGrounds, IsBasis};
-ghost use Rattle.tell_steps.specs.Marks.{AreCovered};
+ghost use Rattle.std.specs.Prelude.{◌≡◌, [], IfOk, OnOk};
+ghost use Rattle.std.specs.List.{All};
+ghost use Rattle.log_definitions.specs.Numbers.{log_of};
+ghost use Rattle.tell_steps.specs.Steps.{IsOrder};
+ghost use Rattle.tell_steps.specs.Lines.{LineStands};
 ghost use Rattle.tell_steps.specs.Ledgers.{AreSteps};
+ghost use Rattle.tell_steps.specs.Needed.{AreBuilt};
 ghost use Rattle.tell_steps.specs.Told as spec;
 
-use crate::firsts::{keep, no_grounds};
-use crate::ground::{Grounds, LogAndGrounds};
 use crate::item::Item;
 use crate::lines::put_edges;
-use crate::marks::needed_entries;
+use crate::needed::{Step, Walks, needed_steps};
+use crate::shown::Shown;
 use prune_ledger::LedgerEntry;
-use prune_ledger::messages::Refutation;
-use reasons::Reason;
 use serializability::NodeIx;
 use std::alloc::AllocError;
 use tell_reasons::ChainOrder;
 use write_chains::Chains;
 
-/// Steps that tell entries of a ledger: the orders that they establish, and the items.
+/// Steps that are told: the orders that they establish, and the items.
 #[derive(Drop)]
 pub struct Told {
-    pub grounds: Grounds,
+    pub orders: Vec<ChainOrder>,
     pub items: Vec<Item>,
 }
 
-/// Appends a step behind those of the basis, and the edges of its walk.
+/// Appends a step behind those that establish these orders, and the edges of its walk.
 fn put_step(
     items: &mut Vec<Item>,
-    basis: &LogAndGrounds<'_>,
-    answers: &mut [Option<Option<Reason>>],
     chains: &Chains<'_>,
-    order: &ChainOrder,
-    post: &Refutation,
+    shown: &mut Shown<'_>,
+    orders: &[ChainOrder],
+    step: &Step,
 ) -> Result<(), AllocError>
-    requires basis { IsBasis basis.now }
-    requires answers { AreAnswers basis.now.history.now answers.old }
-    requires chains { chains.now ≡ basis.now.history.now }
-    requires stands { LineStands basis.now.history.now basis.now.grounds.now.kept.items []
-        post.now.walk }
-    ensures answers { AreAnswers basis.now.history.now answers.new }
+    requires same { shown.old ≡ chains.now }
+    requires orders { All (IsOrder (log_of chains.now)) orders.now }
+    requires stands { LineStands chains.now orders.now [] step.now.post.walk }
+    ensures same { shown.new ≡ chains.now }
     ensures put { OnOk result (spec.IsPut items.old.items items.new.items
-        (spec.IsStepTold basis.now.history.now basis.now.grounds.now.kept.items order.now post.now)) }
+        (spec.IsStepTold chains.now orders.now step.now.order step.now.post)) }
 {
     items.extend_from_slice(&[Item::Step {
-        number: basis.grounds.kept.len() + 1,
-        order: *order,
-        source: post.edge.source(),
-        target: post.edge.target(),
+        number: orders.len() + 1,
+        order: step.order,
+        source: step.post.edge.source(),
+        target: step.post.edge.target(),
     }])?;
-    put_edges(items, basis, answers, chains, &[], &post.walk)
+    put_edges(items, chains, shown, orders, &[], &step.post.walk)
 }
 
-/// The steps that tell the marked entries.
-fn marked_steps(
-    basis: &LogAndGrounds<'_>,
-    answers: &mut [Option<Option<Reason>>],
-    chains: &Chains<'_>,
-    marks: &[bool],
-    entries: &[LedgerEntry],
-) -> Result<Told, AllocError>
-    requires basis { IsBasis basis.now }
-    requires answers { AreAnswers basis.now.history.now answers.old }
-    requires chains { chains.now ≡ basis.now.history.now }
-    requires marks { length marks.now ≡ length basis.now.grounds.now.kept.items }
-    requires steps { AreSteps basis.now.history.now basis.now.grounds.now.kept.items entries.now }
-    requires covered { AreCovered basis.now.history.now (sides_by basis.now)
-        marks.now entries.now (length entries.now) }
-    ensures answers { AreAnswers basis.now.history.now answers.new }
-    ensures grounds { IfOk result (λ told. AreGrounds basis.now.history.now told.grounds) }
-    ensures told { IfOk result (λ told. spec.AreTold basis.now.history.now
-        basis.now.grounds.now.kept.items (posts_in entries.now) marks.now told.grounds.kept.items
-        (length basis.now.grounds.now.kept.items) told.items.items) }
+/// Tells these steps.
+fn tell_all(chains: &Chains<'_>, shown: &mut Shown<'_>, steps: &[Step]) -> Result<Told, AllocError>
+    requires same { shown.old ≡ chains.now }
+    requires built { AreBuilt chains.now [] steps.now }
+    ensures same { shown.new ≡ chains.now }
+    ensures told { IfOk result (λ told. spec.AreTold chains.now steps.now told.orders.items
+        told.items.items) }
 {
-    let mut items: Vec<Item> = Vec::new(basis.alloc);
-    let mut grounds = no_grounds(basis.alloc, chains)?;
-    for (entry, found) in entries.iter().enumerate() {
-        let needed = marks[entry];
-        if !needed {
-            continue;
-        }
-        let order = basis.grounds.kept[entry];
-        let steps = LogAndGrounds {
-            alloc: basis.alloc,
-            history: basis.history,
-            grounds: &grounds,
-        };
-        put_step(&mut items, &steps, answers, chains, &order, &found.post)?;
-        keep(&mut grounds, chains, order)?;
+    let mut items = Vec::new(shown.alloc());
+    let mut orders = Vec::with_capacity(shown.alloc(), steps.len())?;
+    for step in steps {
+        put_step(&mut items, chains, shown, &orders, step)?;
+        orders.push(step.order)?;
     }
-    Ok(Told { grounds, items })
+    Ok(Told { orders, items })
 }
 
 /// The steps that these lines need, each of which rests on what the log shows and on earlier steps.
 pub fn told_steps(
-    basis: &LogAndGrounds<'_>,
-    answers: &mut [Option<Option<Reason>>],
     chains: &Chains<'_>,
+    shown: &mut Shown<'_>,
+    kept: &[ChainOrder],
     entries: &[LedgerEntry],
     lines: &[&[NodeIx]],
+    walks: Walks,
 ) -> Result<Told, AllocError>
-    requires basis { IsBasis basis.now }
-    requires answers { AreAnswers basis.now.history.now answers.old }
-    requires chains { chains.now ≡ basis.now.history.now }
-    requires steps { AreSteps basis.now.history.now basis.now.grounds.now.kept.items entries.now }
-    ensures answers { AreAnswers basis.now.history.now answers.new }
-    ensures grounds { IfOk result (λ told. AreGrounds basis.now.history.now told.grounds) }
-    ensures told { IfOk result (λ told. spec.AreToldFor basis.now.history.now
-        basis.now.grounds.now.kept.items told.grounds.kept.items told.items.items lines.now) }
+    requires same { shown.old ≡ chains.now }
+    requires steps { AreSteps chains.now kept.now entries.now }
+    ensures same { shown.new ≡ chains.now }
+    ensures orders { IfOk result (λ told. All (IsOrder (log_of chains.now)) told.orders.items) }
+    ensures told { IfOk result (λ told. spec.AreToldFor chains.now kept.now told.orders.items
+        told.items.items lines.now) }
 {
-    let marks = needed_entries(basis, answers, entries, lines)?;
-    marked_steps(basis, answers, chains, &marks, entries)
+    let steps = needed_steps(chains, shown, kept, entries, lines, walks)?;
+    tell_all(chains, shown, &steps)
 }

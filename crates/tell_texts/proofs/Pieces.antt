@@ -1,5 +1,5 @@
 -- Texts of what stands in a list or a range, one piece more.
-use Rattle.std.proofs.Common.{◌≡◌, ℕ, zero, suc, ◌+◌, ◌*◌, ◌<◌, ◌≤◌, Bool, true, false, cond, List, [], ◌∷◌, ◌++◌, length, get_or, take, refl, sym, ap, ◌∙◌, arith, append_assoc}
+use Rattle.std.proofs.Common.{◌≡◌, ℕ, ◌+◌, ◌*◌, ◌<◌, Bool, true, false, cond, List, [], ◌∷◌, ◌++◌, length, get_or, take, refl, sym, ap, ◌∙◌, arith}
 use Rattle.std.specs.Prelude.{if◌then◌else◌, replicate}
 use Rattle.std.specs.List.{filter, flat_map, range_with_len}
 use Rattle.std.proofs.lemmas.List.{append-nil, map-id, take_more, replicate-append-replicate}
@@ -22,14 +22,6 @@ passed_more f p a k n e =
     ap (filter p) (sym (map-id (range_with_len a (k + 1)))) ∙ filter_of_map_range_with_len_more p (λ x. x) a k n e ∙ ap (λ l. filter p l ++ one) (map-id (range_with_len a k)) in
     ap (flat_map f) last ∙ flat_map-append f front one ∙ ap (λ l. flat_map f front ++ l) (of_one f n (p n))
 
--- two tests that agree on a range
-pub filter_range_same : (p q : ℕ → Bool) (a n : ℕ) → ((i : ℕ) → a ≤ i → i < a + n → p i ≡ q i) → filter p (range_with_len a n) ≡ filter q (range_with_len a n)
-filter_range_same p q a zero h = refl
-filter_range_same p q a (suc n) h =
-    let here : p a ≡ q a = h a (omega arith) (omega arith) in
-    let rest : filter p (range_with_len (a + 1) n) ≡ filter q (range_with_len (a + 1) n) = filter_range_same p q (a + 1) n (λ i lo hi. h i (omega arith) (omega arith)) in
-    rw (here, rest) refl
-
 -- ---- lists
 pub mapped_more : {X A : Type 0} (f : X → List A) (xs : List X) (i : ℕ) (d : X) → i < length xs → flat_map f (take (i + 1) xs) ≡ flat_map f (take i xs) ++ f (get_or xs i d)
 mapped_more f xs i d lt =
@@ -42,11 +34,3 @@ pub indent_more : (k : ℕ) → indent (k + 1) ≡ indent k ++ 32 ∷ 32 ∷ []
 indent_more k =
     let e : 2 * (k + 1) ≡ 2 * k + 2 = omega arith in
     ap (λ n. replicate n 32) e ∙ sym (replicate-append-replicate (2 * k) 2 32)
-
--- a text to which a piece is appended
-pub appended : {X : Type 0} (old now new piece next : List X) (all : List X) → now ≡ old ++ all → new ≡ now ++ piece → next ≡ all ++ piece → new ≡ old ++ next
-appended old now new piece next all h p e = grind (arith, append_assoc)
-
--- nothing is written yet
-pub begun : (old none : List ℕ) → none ≡ [] → old ≡ old ++ none
-begun old none e = sym (append-nil old) ∙ ap (λ l. old ++ l) (sym e)

@@ -1,12 +1,9 @@
 -- An explanation as a graph in the language of Graphviz: a box for each transaction that takes
 -- part, with those of its operations that reasons name, in their lines, and an arrow for each edge,
 -- labelled and coloured by its kind.
-use Rattle.std.specs.Prelude.{◌≡◌, ℕ, ◌<◌, ◌==◌, ◌&&◌, ◌||◌, Bool, false, List, [], ◌∷◌, ◌++◌}
-use Rattle.std.specs.Prelude.{length, codes, decimal, slice_get, unwrap_or, Vec}
+use Rattle.std.specs.Prelude.{ℕ, ◌==◌, ◌&&◌, ◌||◌, Bool, false, List, [], ◌∷◌, ◌++◌}
+use Rattle.std.specs.Prelude.{length, codes, decimal}
 use Rattle.std.specs.List.{filter, flat_map, list_any, range_with_len}
-use Rattle.std.specs.Option.{option_map}
-use Rattle.std.specs.declared.alloc.Global.{Global}
-use Rattle.session_log.specs.Text.{ClientSession}
 use Rattle.log_definitions.specs.Serial.{ops_of}
 use Rattle.log_definitions.specs.Numbers.{log_of}
 use Rattle.log_lines.specs.declared.placed.PlacedHistory.{PlacedHistory}
@@ -46,34 +43,9 @@ is_named named v i = list_any (λ x. (x.0 == v) && (x.1 == i)) named
 abbrev pub names : List Item → ℕ → ℕ → Bool
 names items v i = is_named (flat_map item_names items) v i
 
--- whether the operation is marked
-abbrev pub is_marked : List Bool → ℕ → Bool
-is_marked marks i = unwrap_or (slice_get marks i) false
-
--- so many marks, which are set where the test holds
-pub record AreMarks (count : ℕ) (test : ℕ → Bool) (marks : List Bool) : Type 0 where
-  pub long : length marks ≡ count
-  pub each : (i : ℕ) → i < count → is_marked marks i ≡ test i
-
--- where the test holds, marks are set besides
-pub record AddsMarks (test : ℕ → Bool) (old new : List Bool) : Type 0 where
-  pub long : length new ≡ length old
-  pub each : (i : ℕ) → i < length old → is_marked new i ≡ (is_marked old i || test i)
-
--- the marks of the operations of a node, in a table of such marks
-abbrev pub row : List (Vec Bool Global) → ℕ → List Bool
-row table v = unwrap_or (option_map (λ marks. marks.items) (slice_get table v)) []
-
--- these operations are marked besides
-pub record AddsNamed (named : List (ℕ × ℕ)) (old new : List (Vec Bool Global)) : Type 0 where
-  pub each : (v : ℕ) → AddsMarks (is_named named v) (row old v) (row new v)
-
--- a mark for each operation of the nodes below a number, set where the test holds of the node and
--- the operation
-pub record AreRows (ss : List ClientSession) (count : ℕ) (test : ℕ → ℕ → Bool)
-    (table : List (Vec Bool Global)) : Type 0 where
-  pub long : length table ≡ count
-  pub each : (v : ℕ) → v < count → AreMarks (length (ops_of ss v)) (test v) (row table v)
+-- whether one of these items does
+abbrev pub one_names : List Item → ℕ → ℕ → Bool
+one_names items v i = list_any (λ x. is_named (item_names x) v i) items
 
 -- whether some item is an edge of the node
 abbrev pub is_edge_of : ℕ → Item → Bool

@@ -3,9 +3,10 @@
 
 ghost use Rattle.std.specs.Prelude.{◌≡◌, ◌++◌, length, OnOk, if◌then◌else◌, []};
 ghost use Rattle.log_definitions.specs.Numbers.{log_of};
+ghost use Rattle.log_definitions.specs.Serial.{ops_of};
 ghost use Rattle.tell_texts.specs.Graphs as spec;
 
-use crate::marks::marks_of;
+use crate::marks::{edges_of, one_names};
 use log_lines::PlacedHistory;
 use serializability::NodeIx;
 use serializability::numbers::node as node_of;
@@ -64,44 +65,45 @@ fn put_where_marked(
     Ok(())
 }
 
-/// Appends the labels of the marked operations of a node.
+/// Appends the labels of the operations of a node that these items name.
 #[tactic(auto, using(std::proofs::lemmas::Grind::common_steps, crate::proofs::Drawn::label_steps))]
 fn put_op_labels(
     out: &mut Vec<u8>,
     look: Look,
     log: &PlacedHistory<'_>,
     node: NodeIx,
-    marks: &[bool],
+    items: &[Item],
 ) -> Result<(), AllocError>
-    ensures text { OnOk result (out.new.items ≡ out.old.items
-        ++ spec.op_labels look log.now node (spec.is_marked marks.now) (length marks.now)) }
+    ensures text { OnOk result (out.new.items ≡ out.old.items ++ spec.op_labels look log.now node
+        (spec.one_names items.now node) (length (ops_of log.now.history.now node))) }
 {
-    for (op, marked) in marks.iter().enumerate() {
-        put_where_marked(out, look, log, node, op, *marked)?;
+    for op in 0..log.history.events_of(node).len() {
+        put_where_marked(out, look, log, node, op, one_names(items, (node, op)))?;
     }
     Ok(())
 }
 
-/// Appends the box of a node, of whose operations these are marked.
+/// Appends the box of a node, with those of its operations that these items name.
 fn put_box(
     out: &mut Vec<u8>,
     look: Look,
     log: &PlacedHistory<'_>,
     node: NodeIx,
-    marks: &[bool],
+    items: &[Item],
 ) -> Result<(), AllocError>
     ensures text { OnOk result (out.new.items ≡ out.old.items ++ spec.box_with look log.now node
-        (spec.op_labels look log.now node (spec.is_marked marks.now) (length marks.now))) }
+        (spec.op_labels look log.now node (spec.one_names items.now node)
+        (length (ops_of log.now.history.now node)))) }
 {
     match look {
         Look::Box => {
             say!(out, log; Text(b"\""), Node(node), Text(b"\" [label=\""), Node(node))?;
-            put_op_labels(out, look, log, node, marks)?;
+            put_op_labels(out, look, log, node, items)?;
             say!(out, log; Text(b"\"];\n"))
         }
         Look::Line => {
             say!(out, log; Text(b"    "), Node(node))?;
-            put_op_labels(out, look, log, node, marks)?;
+            put_op_labels(out, look, log, node, items)?;
             say!(out, log; Text(b"\n"))
         }
     }
@@ -109,24 +111,26 @@ fn put_box(
 
 /// Appends the box of a node, where it takes part.
 fn put_where_part(
+    alloc: Global,
     out: &mut Vec<u8>,
     look: Look,
     log: &PlacedHistory<'_>,
     node: NodeIx,
-    takes_part: bool,
-    marks: &[bool],
+    items: &[Item],
 ) -> Result<(), AllocError>
-    ensures text { OnOk result (out.new.items ≡ out.old.items ++ (if takes_part
-        then spec.box_with look log.now node (spec.op_labels look log.now node (spec.is_marked marks.now)
-        (length marks.now)) else [])) }
+    ensures text { OnOk result (out.new.items ≡ out.old.items
+        ++ (if spec.takes_part items.now node then spec.box look log.now items.now node else [])) }
 {
-    if takes_part {
-        put_box(out, look, log, node, marks)?;
+    let edges = edges_of(alloc, items, node)?;
+    if edges.is_empty() {
+        Ok(())
+    } else {
+        put_box(out, look, log, node, &edges)
     }
-    Ok(())
 }
 
 /// Appends the boxes of the nodes that take part.
+#[tactic(auto, using(std::proofs::lemmas::Grind::common_steps, crate::proofs::Drawn::boxes_none))]
 pub fn put_boxes(
     alloc: Global,
     out: &mut Vec<u8>,
@@ -137,11 +141,8 @@ pub fn put_boxes(
     ensures text { OnOk result (out.new.items ≡ out.old.items
         ++ spec.boxes look log.now items.now (log_of log.now.history.now).nodes) }
 {
-    let marks = marks_of(alloc, log.history, items)?;
-    for number in 1..log.history.committed() + 1 {
-        let takes_part = marks.nodes[number];
-        let operations = &marks.operations[number];
-        put_where_part(out, look, log, node_of(number), takes_part, operations)?;
+    for before in 0..log.history.committed() {
+        put_where_part(alloc, out, look, log, node_of(before + 1), items)?;
     }
     Ok(())
 }

@@ -1,218 +1,177 @@
 -- A tree that is told depth first has its leaves told, up to the greatest number.
-use Rattle.std.proofs.Common.{◌≡◌, ◌⊎◌, ℕ, zero, suc, ◌+◌, ◌<◌, ◌≤◌, cond, eqb, ltb, List, [], ◌∷◌, ◌++◌, length, Some, refl, sym, ap, ◌∙◌, subst, inl, inr, append_assoc, arith}
-use Rattle.std.specs.Prelude.{slice_get, is_some}
+use Rattle.std.proofs.Common.{◌≡◌, ℕ, zero, suc, ◌+◌, ◌<◌, ◌≤◌, Bool, cond, eqb, List, [], ◌∷◌, length, min, Option, None, Some, refl, sym, ap, ◌∙◌, subst, inl, inr, arith}
+use Rattle.std.specs.Prelude.{slice_get, is_some, count_by}
+use Rattle.std.specs.Option.{option_map_or}
 use Rattle.std.proofs.lemmas.Bool.{cases_eq}
 use Rattle.std.proofs.lemmas.Bool.Decides.{nat_tests}
-use Rattle.std.proofs.lemmas.List.{length-append, length_push}
 use Rattle.std.proofs.lemmas.List.Sums.{sum_by-cons}
 use Rattle.std.proofs.lemmas.Option.{same_Some}
+use Rattle.list_lemmas.proofs.Elements.{same_item, some_at}
 use Rattle.serializability.specs.Polygraph.{Polygraph}
+use Rattle.pruning_laws.specs.declared.side.Side.TheVariants.{One, Two}
 use Rattle.cube_laws.specs.declared.tree.CubeDecision.{CubeDecision}
 use Rattle.cube_laws.specs.declared.tree.Growth.{Growth}
 use Rattle.cube_laws.specs.declared.tree.Growth.TheVariants.{Leaf, Inner}
 use Rattle.cube_laws.specs.declared.tree.TreeNode.{TreeNode}
-use Rattle.cube_laws.specs.Trees.{IsRefutationTree}
-use Rattle.cube_laws.proofs.Lists.{within, append_at}
-use Rattle.pruning_laws.specs.declared.side.Side.TheVariants.{One, Two}
+use Rattle.cube_laws.specs.Trees.{IsSplit, IsRefutationTree}
 use Rattle.tell_trees.specs.declared.visits.Visit.{Visit}
 use Rattle.tell_trees.specs.declared.TheConstants.{MAX_LEAVES}
 use Rattle.tell_trees.specs.Trees.{told_leaves}
-use Rattle.tell_trees.specs.Visits.{cycle_in, leaf_count, IsVisited}
+use Rattle.tell_trees.specs.Visits.{cycle_in, leaf_count, IsGrown, IsVisited}
 use Rattle.tell_trees.specs.Visits as visited
 
--- 1 for a leaf
-abbrev one_where_leaf : Growth → ℕ
-one_where_leaf g = cond (is_some (cycle_in g)) 1 0
+-- the sum over the children
+abbrev pub over_children : Growth → (ℕ → ℕ) → ℕ
+over_children (Leaf line) f = 0
+over_children (Inner c first second) f = f first + f second
 
--- the leaves below a node, by those below others
-abbrev grown : Growth → (ℕ → ℕ) → ℕ
-grown (Leaf line) f = 1
-grown (Inner c first second) f = f first + f second
+-- ---- sums over those of some nodes, which are numbered from k, that pass a test
+module _ (test : TreeNode → Bool) where
+  abbrev sum_of : (ℕ → ℕ) → ℕ → List TreeNode → ℕ
+  sum_of f k [] = 0
+  sum_of f k (x ∷ xs) = cond (test x) (f k) 0 + sum_of f (suc k) xs
 
--- how many leaves are below each of these nodes, numbered from k
-abbrev below : List TreeNode → ℕ → ℕ → ℕ
-below [] k i = 0
-below (x ∷ xs) k i = cond (eqb k i) (grown x.growth (below xs (suc k))) (below xs (suc k) i)
+  sum_both : (f g h : ℕ → ℕ) (k : ℕ) (xs : List TreeNode) → ((j : ℕ) → j < k + length xs → f j ≡ g j + h j) → sum_of f k xs ≡ sum_of g k xs + sum_of h k xs
+  sum_both f g h k [] same = refl
+  sum_both f g h k (x ∷ xs) same = grind (arith, same k (omega arith), sum_both f g h (suc k) xs (λ j lt. same j (omega (arith, lt))))
 
-below_other : (x : TreeNode) (xs : List TreeNode) (k i : ℕ) → k < i → below (x ∷ xs) k i ≡ below xs (suc k) i
-below_other x xs k i lt = grind (arith, nat_tests)
+  sum_none : (f : ℕ → ℕ) (k : ℕ) (xs : List TreeNode) → ((j : ℕ) → k ≤ j → f j ≡ 0) → sum_of f k xs ≡ 0
+  sum_none f k [] none = refl
+  sum_none f k (x ∷ xs) none = grind (arith, none k (omega arith), sum_none f (suc k) xs (λ j le. none j (omega (arith, le))))
 
--- the children of a node stand behind it
-abbrev AreLater : ℕ → Growth → Type 0
-AreLater k (Leaf line) = Unit {0}
-AreLater k (Inner c first second) = (k < first) × (k < second)
+  sum_ones : (f : ℕ → ℕ) (k : ℕ) (xs : List TreeNode) → ((j : ℕ) → j < k + length xs → f j ≡ 1) → sum_of f k xs ≡ count_by test xs
+  sum_ones f k [] one = refl
+  sum_ones f k (x ∷ xs) one =
+      let rest = sum_ones f (suc k) xs (λ j lt. one j (omega (arith, lt))) in
+      grind (arith, one k (omega arith), rest, sum_by-cons (λ (z : TreeNode). cond (test z) 1 0) x xs)
 
-grown_same : (g : Growth) (k : ℕ) (f h : ℕ → ℕ) → AreLater k g → ((i : ℕ) → k < i → f i ≡ h i) → grown g f ≡ grown g h
-grown_same (Leaf line) k f h later same = refl
-grown_same (Inner c first second) k f h later same = omega (arith, same first later.0, same second later.1)
+  sum_one : (i j k : ℕ) (xs : List TreeNode) (x : TreeNode) → i ≡ k + j → slice_get xs j ≡ Some x → sum_of (λ n. cond (eqb i n) 1 0) k xs ≡ cond (test x) 1 0
+  sum_one i j k [] x e at = absurd (cc)
+  sum_one i zero k (y ∷ ys) x e at =
+      let none = sum_none (λ n. cond (eqb i n) 1 0) (suc k) ys (λ n le. grind (arith, nat_tests)) in
+      grind (arith, nat_tests, none, ap test (same_Some y x at))
+  sum_one i (suc j) k (y ∷ ys) x e at = grind (arith, nat_tests, sum_one i j (suc k) ys x (omega (arith, e)) at)
 
-later_less : (g : Growth) (k j : ℕ) → k ≤ j → AreLater j g → AreLater k g
-later_less (Leaf line) k j le later = tt
-later_less (Inner c first second) k j le later = (omega (arith, le, later.0), omega (arith, le, later.1))
+  sum_children : (g : Growth) (f : ℕ → ℕ → ℕ) (k : ℕ) (xs : List TreeNode) → sum_of (λ j. over_children g (λ i. f i j)) k xs ≡ over_children g (λ i. sum_of (f i) k xs)
+  sum_children (Leaf line) f k xs = sum_none (λ j. 0) k xs (λ j le. refl)
+  sum_children (Inner c first second) f k xs = sum_both (λ j. f first j + f second j) (f first) (f second) k xs (λ j lt. refl)
 
-below_at : (xs : List TreeNode) (k j : ℕ) (x : TreeNode) → slice_get xs j ≡ Some x → AreLater (k + j) x.growth → below xs k (k + j) ≡ grown x.growth (below xs k)
-below_at [] k j x at later = absurd (cc)
-below_at (y ∷ ys) k zero x at later =
-    let here : below (y ∷ ys) k (k + 0) ≡ grown y.growth (below ys (suc k)) = grind (arith, nat_tests) in
-    here
-    ∙ ap (λ (z : TreeNode). grown z.growth (below ys (suc k))) (same_Some y x at)
-    ∙ grown_same x.growth k (below ys (suc k)) (below (y ∷ ys) k) (later_less x.growth k (k + 0) (omega arith) later) (λ i lt. sym (below_other y ys k i lt))
-below_at (y ∷ ys) k (suc j) x at later =
-    let n : k + suc j ≡ suc k + j = omega arith in
-    below_other y ys k (k + suc j) (omega arith)
-    ∙ ap (below ys (suc k)) n
-    ∙ below_at ys (suc k) j x at (subst (λ z. AreLater z x.growth) n later)
-    ∙ grown_same x.growth k (below ys (suc k)) (below (y ∷ ys) k) (later_less x.growth k (k + suc j) (omega arith) later) (λ i lt. sym (below_other y ys k i lt))
+-- ---- of the nodes of a tree
+module _ (nodes : List TreeNode) where
+  -- the parent of a node; node 0 has itself
+  abbrev up : ℕ → ℕ
+  up zero = 0
+  up (suc j) = option_map_or (λ (x : TreeNode). x.parent) (slice_get nodes (suc j)) 0
 
--- ---- sums over nodes by their parents
-module _ (f : ℕ → ℕ) where
-  -- over those whose parent is node i, where these are numbered from k
-  abbrev of_parent : ℕ → ℕ → List TreeNode → ℕ
-  of_parent i k [] = 0
-  of_parent i k (x ∷ xs) = cond (eqb x.parent i) (f k) 0 + of_parent i (suc k) xs
+  -- 1 where node j is node i, or stands below it by less than so many steps
+  abbrev above : ℕ → ℕ → ℕ → ℕ
+  above zero i j = 0
+  above (suc n) i j = cond (eqb i j) 1 (above n i (up j))
 
-  -- over those whose parent stands before node i
-  abbrev of_before : ℕ → ℕ → List TreeNode → ℕ
-  of_before i k [] = 0
-  of_before i k (x ∷ xs) = cond (ltb x.parent i) (f k) 0 + of_before i (suc k) xs
+  -- so many nodes that pass a test stand below a node, or are it
+  abbrev pub count_under : (TreeNode → Bool) → ℕ → ℕ
+  count_under test i = sum_of test (above (length nodes) i) 0 nodes
 
-  one_more : (p i v : ℕ) → cond (ltb p (suc i)) v 0 ≡ cond (ltb p i) v 0 + cond (eqb p i) v 0
-  one_more p i v = grind (arith, nat_tests)
+  module _ (p : Polygraph) (t : IsRefutationTree p nodes) where
+    up_lower : (j : ℕ) (o : Option TreeNode) → slice_get nodes (suc j) ≡ o → option_map_or (λ (x : TreeNode). x.parent) o 0 ≤ j
+    up_lower j None at = omega arith
+    up_lower j (Some x) at = let b = t.below (suc j) x (omega arith) at in let before = b.before in omega (arith, before)
 
-  before_more : (i k : ℕ) (xs : List TreeNode) → of_before (suc i) k xs ≡ of_before i k xs + of_parent i k xs
-  before_more i k [] = refl
-  before_more i k (x ∷ xs) = omega (arith, one_more x.parent i (f k), before_more i (suc k) xs)
+    none_above : (n i j : ℕ) → j < i → above n i j ≡ 0
+    none_above zero i j lt = refl
+    none_above (suc n) i zero lt = grind (arith, nat_tests, none_above n i 0 lt)
+    none_above (suc n) i (suc j) lt = grind (arith, nat_tests, none_above n i (up (suc j)) (omega (arith, lt, up_lower j (slice_get nodes (suc j)) refl)))
 
-  before_none : (k : ℕ) (xs : List TreeNode) → of_before 0 k xs ≡ 0
-  before_none k [] = refl
-  before_none k (x ∷ xs) = grind (arith, nat_tests, before_none (suc k) xs)
+    root_above : (n j : ℕ) → j < n → above n 0 j ≡ 1
+    root_above zero j lt = absurd (omega (arith, lt))
+    root_above (suc n) zero lt = refl
+    root_above (suc n) (suc j) lt = grind (arith, nat_tests, root_above n (up (suc j)) (omega (arith, lt, up_lower j (slice_get nodes (suc j)) refl)))
 
-  none_of : (i k : ℕ) (xs : List TreeNode) → ((j : ℕ) (x : TreeNode) → slice_get xs j ≡ Some x → x.parent ≡ i → ⊥) → of_parent i k xs ≡ 0
-  none_of i k [] none = refl
-  none_of i k (x ∷ xs) none = grind (arith, nat_tests, none 0 x refl, none_of i (suc k) xs (λ j y at. none (suc j) y at))
+    -- the children of a node stand behind it
+    none_later : (i : ℕ) (g : Growth) → IsGrown nodes i g → (n j : ℕ) → j ≤ i → over_children g (λ k. above n k j) ≡ 0
+    none_later i (Leaf line) h n j le = refl
+    none_later i (Inner c first second) h n j le =
+        let s = t.inner i h.node c first second h.here h.is in
+        omega (arith, none_above n first j (let later = s.one.later in omega (arith, le, later)), none_above n second j (let later = s.two.later in omega (arith, le, later)))
 
-  -- what a node adds, where it is numbered k or later
-  abbrev from_on : ℕ → ℕ → ℕ
-  from_on k a = cond (ltb a k) 0 (f a)
-
-  -- two nodes alone have this parent
-  two_of : (i a b k : ℕ) (xs : List TreeNode) → (a ≡ b → ⊥) → a < k + length xs → b < k + length xs
-      → ((j : ℕ) (x : TreeNode) → slice_get xs j ≡ Some x → x.parent ≡ i → (k + j ≡ a) ⊎ (k + j ≡ b))
-      → ((j : ℕ) (x : TreeNode) → slice_get xs j ≡ Some x → (k + j ≡ a) ⊎ (k + j ≡ b) → x.parent ≡ i)
-      → of_parent i k xs ≡ from_on k a + from_on k b
-  two_of i a b k [] apart la lb only both = grind (arith, nat_tests)
-  two_of i a b k (x ∷ xs) apart la lb only both =
-      let next : (j : ℕ) → suc k + j ≡ k + suc j = λ j. omega arith in
-      let start : k + 0 ≡ k = omega arith in
-      let rest : of_parent i (suc k) xs ≡ from_on (suc k) a + from_on (suc k) b = two_of i a b (suc k) xs apart (omega (arith, la)) (omega (arith, lb))
-      (λ j y at e. elim (only (suc j) y at e) [ inl p ↦ inl (next j ∙ p) | inr p ↦ inr (next j ∙ p) ])
-      (λ j y at e. both (suc j) y at (elim e [ inl p ↦ inl (sym (next j) ∙ p) | inr p ↦ inr (sym (next j) ∙ p) ])) in
-      elim (cases_eq k a) [
-        | inl ka ↦ grind (arith, nat_tests, rest, both 0 x refl (inl (start ∙ ka)))
-        | inr na ↦ elim (cases_eq k b) [
-          | inl kb ↦ grind (arith, nat_tests, rest, both 0 x refl (inr (start ∙ kb)))
-          | inr nb ↦ (
-              let other : x.parent ≡ i → ⊥ = λ e. elim (only 0 x refl e) [ inl p ↦ na (sym start ∙ p) | inr p ↦ nb (sym start ∙ p) ] in
-              grind (arith, nat_tests, rest, other))
-        ]
-      ]
-
--- ---- of a refutation tree
-module _ (p : Polygraph) (nodes : List TreeNode) (t : IsRefutationTree p nodes) where
-  abbrev f : ℕ → ℕ
-  f = below nodes 0
-
-  later_at : (i : ℕ) (x : TreeNode) → slice_get nodes i ≡ Some x → (g : Growth) → x.growth ≡ g → AreLater i g
-  later_at i x at (Leaf line) is = tt
-  later_at i x at (Inner c first second) is = (let s = t.inner i x c first second at is in (s.one.later, s.two.later))
-
-  leaves_at : (i : ℕ) (x : TreeNode) → slice_get nodes i ≡ Some x → f i ≡ grown x.growth f
-  leaves_at i x at =
-      let n : 0 + i ≡ i = omega arith in
-      ap f (sym n) ∙ below_at nodes 0 i x at (subst (λ k. AreLater k x.growth) (sym n) (later_at i x at x.growth refl))
-
-  -- the nodes behind node i
-  module _ (front : List TreeNode) (x : TreeNode) (xs : List TreeNode) (whole : front ++ x ∷ xs ≡ nodes) where
-    abbrev i : ℕ
-    i = length front
-
-    here : slice_get nodes i ≡ Some x
-    here = subst (λ l. slice_get l i ≡ Some x) whole (append_at front (x ∷ xs) i 0 (omega arith))
-
-    there_at : (j : ℕ) → slice_get nodes (suc i + j) ≡ slice_get xs j
-    there_at j = subst (λ l. slice_get l (suc i + j) ≡ slice_get xs j) whole (append_at front (x ∷ xs) (suc i + j) (suc j) (omega arith))
-
-    size : length nodes ≡ suc i + length xs
-    size = ap length (sym whole) ∙ length-append front (x ∷ xs) ∙ omega arith
-
-    children : (g : Growth) → x.growth ≡ g → grown g f ≡ one_where_leaf g + of_parent f i (suc i) xs
-    children (Leaf line) is =
-        let none = none_of f i (suc i) xs (λ j y at e. (
-        let b = t.below (suc i + j) y (omega arith) (there_at j ∙ at) in
-        let parent_is = same_Some b.parent x (sym b.here ∙ ap (slice_get nodes) e ∙ here) in
-        let inner = sym (ap (λ (z : TreeNode). z.growth) parent_is) ∙ b.split in
-        let leaf = sym is ∙ inner in
-        absurd (cc))) in
-        omega (arith, none)
-    children (Inner c first second) is =
-        let s = t.inner i x c first second here is in
-        let apart : first ≡ second → ⊥ = λ e. (
-        let same = same_Some s.one.node s.two.node (sym s.one.here ∙ ap (slice_get nodes) e ∙ s.two.here) in
-        let sides = sym s.one.decision ∙ ap (λ (z : TreeNode). z.decision) same ∙ s.two.decision in
-        let one : One ≡ Two = ap (λ (d : CubeDecision). d.side) (same_Some (record { choice = c; side = One }) (record { choice = c; side = Two }) sides) in
+    -- one of the two children is a node where its parent is theirs
+    one_child : (i c first second : ℕ) → IsSplit p nodes i c first second → (j : ℕ) (x : TreeNode) → 0 < j → slice_get nodes j ≡ Some x → cond (eqb first j) 1 0 + cond (eqb second j) 1 0 ≡ cond (eqb i x.parent) 1 0
+    one_child i c first second s j x low at =
+        let one : first ≡ j → (x.parent ≡ i) × (x.decision ≡ Some (record { choice = c; side = One })) = λ e.
+        let same = same_item nodes j x s.one.node at (ap (slice_get nodes) (sym e) ∙ s.one.here) in
+        (ap (λ (z : TreeNode). z.parent) same ∙ s.one.parent, ap (λ (z : TreeNode). z.decision) same ∙ s.one.decision) in
+        let two : second ≡ j → (x.parent ≡ i) × (x.decision ≡ Some (record { choice = c; side = Two })) = λ e.
+        let same = same_item nodes j x s.two.node at (ap (slice_get nodes) (sym e) ∙ s.two.here) in
+        (ap (λ (z : TreeNode). z.parent) same ∙ s.two.parent, ap (λ (z : TreeNode). z.decision) same ∙ s.two.decision) in
+        let apart : first ≡ j → second ≡ j → ⊥ = λ e f. (
+        let sides : One ≡ Two = ap (λ (d : CubeDecision). d.side) (same_Some (record { choice = c; side = One }) (record { choice = c; side = Two }) (sym (one e).1 ∙ (two f).1)) in
         absurd (cc)) in
-        let la = within nodes first s.one.node s.one.here in let lb = within nodes second s.two.node s.two.here in
-        let two = two_of f i first second (suc i) xs apart (omega (arith, la, size)) (omega (arith, lb, size))
-        (λ j y at e. s.only (suc i + j) y (omega arith) (there_at j ∙ at) e)
-        (λ j y at e. elim e [
-          | inl k ↦ ap (λ (z : TreeNode). z.parent) (same_Some y s.one.node (sym at ∙ sym (there_at j) ∙ ap (slice_get nodes) k ∙ s.one.here)) ∙ s.one.parent
-          | inr k ↦ ap (λ (z : TreeNode). z.parent) (same_Some y s.two.node (sym at ∙ sym (there_at j) ∙ ap (slice_get nodes) k ∙ s.two.here)) ∙ s.two.parent
-        ]) in
-        grind (arith, nat_tests, two, s.one.later, s.two.later)
-
-    own : f i ≡ one_where_leaf x.growth + of_parent f i (suc i) xs
-    own = leaves_at i x here ∙ children x.growth refl
-
-  count_cons : (x : TreeNode) (xs : List TreeNode) → leaf_count (x ∷ xs) ≡ one_where_leaf x.growth + leaf_count xs
-  count_cons x xs = sum_by-cons (λ (z : TreeNode). cond (is_some (cycle_in z.growth)) 1 0) x xs
-
-  behind : (front xs : List TreeNode) (n : ℕ) → n ≡ length front → front ++ xs ≡ nodes → 0 < n → of_before f n n xs ≡ leaf_count xs
-  behind front [] n is whole low = refl
-  behind front (x ∷ xs) n is whole low =
-      let i = length front in
-      let at = here front x xs whole in
-      let b = t.below i x (omega (arith, is, low)) at in
-      let more : suc n ≡ length (front ++ x ∷ []) = omega (arith, is, length_push front x) in
-      let rest = behind (front ++ x ∷ []) xs (suc n) more (append_assoc front (x ∷ []) xs ∙ whole) (omega arith) in
-      let split = before_more f n (suc n) xs in
-      let mine : f n ≡ one_where_leaf x.growth + of_parent f n (suc n) xs = subst (λ k. f k ≡ one_where_leaf x.growth + of_parent f k (suc k) xs) (sym is) (own front x xs whole) in
-      grind (arith, nat_tests, rest, split, mine, is, b.before, count_cons x xs)
-
-  root_leaves : (xs : List TreeNode) → xs ≡ nodes → f 0 ≡ leaf_count xs
-  root_leaves [] is = absurd (omega (arith, within nodes 0 t.root.node t.root.here, ap length is))
-  root_leaves (x ∷ xs) is = omega (arith, behind (x ∷ []) xs 1 refl is (omega arith), before_more f 0 1 xs, before_none f 1 xs, own [] x xs is, count_cons x xs)
-
-  -- ---- so many are told
-  told_below : {i n k : ℕ} {vs : List Visit} → IsVisited nodes i n k vs → n ≤ MAX_LEAVES → ((k ≡ n + f i) × (n + f i ≤ MAX_LEAVES)) ⊎ ((k ≡ MAX_LEAVES) × (MAX_LEAVES ≤ n + f i))
-  told_below (visited.leaf v n x line lt of is) le =
-      let one : f v.node ≡ 1 = leaves_at v.node x of.here ∙ ap (λ g. grown g f) is in
-      inl (omega (arith, one), omega (arith, one, lt))
-  told_below (visited.split v n m k x c first second one two of is a b) le =
-      let both : f v.node ≡ f first + f second = leaves_at v.node x of.here ∙ ap (λ g. grown g f) is in
-      elim (told_below a le) [
-        | inl p ↦ elim (told_below b (omega (arith, p.0, p.1))) [
-          | inl q ↦ inl (omega (arith, both, p.0, q.0), omega (arith, both, p.0, q.1))
-          | inr q ↦ inr (q.0, omega (arith, both, p.0, q.1))
+        elim (cases_eq first j) [
+          | inl e ↦ grind (arith, nat_tests, (one e).0, apart e)
+          | inr ne ↦ elim (cases_eq second j) [
+            | inl e ↦ grind (arith, nat_tests, (two e).0)
+            | inr other ↦ grind (arith, nat_tests, s.only j x low at)
+          ]
         ]
-        | inr p ↦ elim (told_below b (omega (arith, p.0))) [
-          | inl q ↦ inr (omega (arith, p.0, q.0, q.1), omega (arith, both, p.1))
-          | inr q ↦ inr (q.0, omega (arith, both, p.1))
-        ]
-      ]
-  told_below (visited.left_out v x of) le = inr (refl, omega arith)
 
-  pub told_count : (last : ℕ) (vs : List Visit) → IsVisited nodes 0 0 last vs → last ≡ told_leaves (leaf_count nodes)
-  told_count last vs v = elim (told_below v (omega arith)) [
-    | inl p ↦ grind (arith, nat_tests, root_leaves nodes refl, p.0, p.1)
-    | inr p ↦ grind (arith, nat_tests, root_leaves nodes refl, p.0, p.1)
-  ]
+    -- a node other than node i stands below it if it stands below one of its children, or is it
+    one_up : (n i j : ℕ) (x : TreeNode) (g : Growth) → IsGrown nodes i g → slice_get nodes (suc j) ≡ Some x → above n i x.parent ≡ cond (eqb i x.parent) 1 0 + over_children g (λ k. above n k x.parent)
+        → above n i x.parent ≡ over_children g (λ k. cond (eqb k (suc j)) 1 (above n k x.parent))
+    one_up n i j x (Leaf line) h at rest =
+        let b = t.below (suc j) x (omega arith) at in
+        let other : i ≡ x.parent → ⊥ = λ e. (
+        let same = same_item nodes x.parent h.node b.parent (ap (slice_get nodes) (sym e) ∙ h.here) b.here in
+        let inner : Leaf line ≡ Inner b.choice b.first b.second = sym h.is ∙ ap (λ (z : TreeNode). z.growth) same ∙ b.split in
+        absurd (cc)) in
+        grind (arith, nat_tests, rest, other)
+    one_up n i j x (Inner c first second) h at rest =
+        let s = t.inner i h.node c first second h.here h.is in
+        let b = t.below (suc j) x (omega arith) at in
+        let before = b.before in
+        grind (arith, nat_tests, rest, one_child i c first second s (suc j) x (omega arith) at, none_above n first x.parent, none_above n second x.parent, before)
+
+    split_above : (n i j : ℕ) (g : Growth) → IsGrown nodes i g → j < length nodes → j < n → above n i j ≡ cond (eqb i j) 1 0 + over_children g (λ k. above n k j)
+    split_above zero i j g h within lt = absurd (omega (arith, lt))
+    split_above (suc n) i zero g h within lt = elim (cases_eq i 0) [
+      | inl e ↦ grind (arith, nat_tests, none_later i g h (suc n) 0 (omega arith))
+      | inr ne ↦ grind (arith, nat_tests, none_above (suc n) i 0 (omega (arith, ne)), none_later i g h (suc n) 0 (omega arith))
+    ]
+    split_above (suc n) i (suc j) g h within lt = elim (cases_eq i (suc j)) [
+      | inl e ↦ grind (arith, nat_tests, none_later i g h (suc n) (suc j) (omega (arith, e)))
+      | inr ne ↦
+          let r = some_at nodes (suc j) within in
+          let low = up_lower j (Some r.0) r.1 in
+          let step = one_up n i j r.0 g h r.1 (split_above n i r.0.parent g h (omega (arith, within, low)) (omega (arith, lt, low))) in
+          let P : Option TreeNode → Type 0 = λ o.
+          let above_of : ℕ → ℕ = λ k. cond (eqb k (suc j)) 1 (above n k (option_map_or (λ (z : TreeNode). z.parent) o 0)) in
+          above_of i ≡ cond (eqb i (suc j)) 1 0 + over_children g above_of in
+          let found : P (Some r.0) = grind (arith, nat_tests, step) in
+          subst P (sym r.1) found
+    ]
+
+    -- ---- so many stand below a node, or are it
+    module _ (test : TreeNode → Bool) where
+      pub under_is : (i : ℕ) (g : Growth) (h : IsGrown nodes i g) → count_under test i ≡ cond (test h.node) 1 0 + over_children g (count_under test)
+      under_is i g h =
+          sum_both test (above (length nodes) i) (λ j. cond (eqb i j) 1 0) (λ j. over_children g (λ k. above (length nodes) k j)) 0 nodes (λ j lt. split_above (length nodes) i j g h (omega (arith, lt)) (omega (arith, lt)))
+          ∙ (λ z. sum_one test i i 0 nodes h.node (omega arith) h.here z + sum_children test g (above (length nodes)) 0 nodes z)
+
+      pub root_under : count_under test 0 ≡ count_by test nodes
+      root_under = sum_ones test (above (length nodes) 0) 0 nodes (λ j lt. root_above (length nodes) j (omega (arith, lt)))
+
+    -- ---- so many are told
+    abbrev leaves : ℕ → ℕ
+    leaves = count_under (λ (x : TreeNode). is_some (cycle_in x.growth))
+
+    leaves_are : (i : ℕ) (g : Growth) (h : IsGrown nodes i g) → leaves i ≡ cond (is_some (cycle_in g)) 1 0 + over_children g leaves
+    leaves_are i g h = under_is (λ (x : TreeNode). is_some (cycle_in x.growth)) i g h ∙ ap (λ (z : Growth). cond (is_some (cycle_in z)) 1 0 + over_children g leaves) h.is
+
+    told_below : {i n k : ℕ} {vs : List Visit} → IsVisited nodes i n k vs → n ≤ MAX_LEAVES → k ≡ min MAX_LEAVES (n + leaves i)
+    told_below (visited.leaf i n line lt h) le = omega (arith, lt, leaves_are i (Leaf line.now) h)
+    told_below (visited.split i n m k c first second one two h a b) le =
+        let front = told_below a le in
+        omega (arith, front, told_below b (omega (arith, front)), leaves_are i (Inner c first second) h)
+    told_below (visited.left_out i) le = omega arith
+
+    pub told_count : (last : ℕ) (vs : List Visit) → IsVisited nodes 0 0 last vs → last ≡ told_leaves (leaf_count nodes)
+    told_count last vs v = grind (arith, nat_tests, told_below v (omega arith), root_under (λ (x : TreeNode). is_some (cycle_in x.growth)))

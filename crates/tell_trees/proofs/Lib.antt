@@ -1,9 +1,7 @@
+pub mod Counted
 pub mod Edges
 pub mod Facts
-pub mod Counted
 pub mod Left
-pub mod Lines
 pub mod Opened
-pub mod Pending
-pub mod Puts
 pub mod Tellings
+pub mod Walk

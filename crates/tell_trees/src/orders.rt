@@ -1,32 +1,28 @@
 //! The orders of chains that a search decides.
 
 ghost use Rattle.std.specs.Prelude.{◌≡◌, length, IfOk};
-ghost use Rattle.serializability.specs.Reads.{IsClean};
-ghost use Rattle.pruning_laws.specs.Forced.{open_from};
-ghost use Rattle.pruning_laws.specs.Ledger.{sides_in};
-ghost use Rattle.chain_laws.specs.Chains.{chain_choices};
 ghost use Rattle.log_definitions.specs.Numbers.{log_of};
-ghost use Rattle.prune_ledger.specs.Pruned.{kept_by};
+ghost use Rattle.reduction.specs.Outcome.{IsOpenHistory};
 ghost use Rattle.tell_trees.specs.Orders.{AreOrdersOf, AreFlags, unsettled_from};
 
-use prune_ledger::LedgerEntry;
+use prune_ledger::{LedgerEntry, Reduced};
 use std::alloc::{AllocError, Global};
 use tell_reasons::ChainOrder;
 use tell_steps::choice_orders;
 use write_chains::Chains;
 
-/// Of each choice of which a ledger keeps no side the order of chains that is its side one.
+/// Of each choice that pruning left open the order of chains that is its side one.
 pub fn open_orders(
     alloc: Global,
     chains: &Chains<'_>,
-    entries: &[LedgerEntry],
+    reduced: &Reduced,
 ) -> Result<Vec<ChainOrder>, AllocError>
-    requires clean { IsClean (log_of chains.now) }
-    ensures orders { IfOk result (λ orders. AreOrdersOf (log_of chains.now)
-        (open_from (sides_in (kept_by entries.now)) 0 (chain_choices (log_of chains.now))) orders.items) }
+    requires left { IsOpenHistory chains.now reduced.now }
+    ensures orders { IfOk result (λ orders.
+        AreOrdersOf (log_of chains.now) reduced.now.poly.choices orders.items) }
 {
     let orders = choice_orders(alloc, chains)?;
-    let flags = settled(alloc, orders.len(), entries)?;
+    let flags = settled(alloc, orders.len(), &reduced.ledger().entries)?;
     unsettled(alloc, &orders, &flags)
 }
 

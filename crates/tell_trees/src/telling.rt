@@ -40,7 +40,7 @@ pub fn tell_tree(
         items.items) }
 {
     let entries = reduced.ledger().entries.as_slice();
-    let orders = open_orders(alloc, chains, entries)?;
+    let orders = open_orders(alloc, chains, reduced)?;
     tell_nodes(alloc, history, chains, entries, &orders, tree.nodes())
 }
 
@@ -53,7 +53,6 @@ fn tell_nodes(
     orders: &[ChainOrder],
     nodes: &[TreeNode],
 ) -> Result<Vec<Item>, AllocError>
-    requires clean { IsClean (log_of history.now) }
     requires chains { chains.now ≡ history.now }
     requires ledger { HasLedger history.now entries.now }
     requires searched { IsSearched history.now entries.now orders.now nodes.now }
@@ -61,10 +60,9 @@ fn tell_nodes(
         → IfOk result (λ items. IsTreeTold history.now choices nodes.now items.items) }
 {
     let visits = visits(alloc, nodes)?;
-    let leaves = count_leaves(nodes);
-    let lines = told_lines(alloc, nodes, &visits, leaves)?;
+    let lines = told_lines(alloc, &visits)?;
     let (mut steps, mut items) = steps_of(alloc, history, chains, entries, &lines)?;
-    put_leaves(&mut items, leaves)?;
+    put_leaves(&mut items, count_leaves(nodes))?;
     put_visits(alloc, &mut items, &mut steps, orders, nodes, &visits)?;
     Ok(items)
 }

@@ -154,6 +154,7 @@ fn explained(rt: HostRuntime) {
             LOST_UPDATE,
             1,
             "not serializable: A7 lost update of x from 0.0 by 1.1 and 2.1\n\
+            in short: 1.1 and 2.1 read one version of x and both overwrote it; neither saw the other's\n\
             1.1 reads x 0 (line 3), the initial value\n1.1 overwrites it with 1 (line 4)\n\
             2.1 reads x 0 (line 8), the initial value\n2.1 overwrites it with 2 (line 9)\n",
         ),

@@ -1,8 +1,10 @@
 use Rattle.std.proofs.Common.{◌≡◌, ◌+◌, ◌-◌, ◌^◌, min, length, take}
 use Rattle.std.specs.List.{sum_by}
 use Rattle.log_definitions.specs.Numbers.{log_of}
+use Rattle.std.specs.Prelude.{map}
+use Rattle.write_chains.proofs.Gathered.{pair_of}
 use Rattle.reasons.proofs.Looks.{looks_by}
 use Rattle.reasons.proofs.crossed.add_looks.Given as goal
 
 abbrev pub invariant-loop-read : goal.invariant-loop-read
-invariant-loop-read l = l.looks ≡ min (l.before + sum_by (looks_by (log_of l.history) (length l.reads)) (take l.read-index l.reads)) (2 ^ 64 - 1)
+invariant-loop-read l = l.looks ≡ min (l.before + sum_by (looks_by (log_of l.history) (length l.reads)) (map pair_of (take l.read-index l.reads))) (2 ^ 64 - 1)

@@ -11,7 +11,7 @@ use Rattle.reasons.proofs.crossings.square_at.Goals as goal
 pub returns-in-Some-clause-square : goal.returns-in-Some-clause-square
 returns-in-Some-clause-square c =
     let log = log_of c.args.history.now in
-    let u = c.version-item.result in
+    let u = c.get.result in
     let s = c.in-Some.square in
     let found = rw c.in-Some.is at c.in_ok-square.ensures.square in
     square_from log c.args.key (log.nodes + 1) u c.in_ok-pairs.pairs.items s c.in_ok-pairs.ensures.pairs found.0 (subst (λ l. IsSquareOf l u s) c.deref.ensures.value found.1)
@@ -21,7 +21,7 @@ loop-version-preserved c =
     let writers = c.writers_of-writers.result.now in
     let i = c.loop-version.version-index in
     let v = c.version-item.result in
-    let none = rw c.in_default.is at c.in_ok-square.ensures.none in
+    let none = subst (NoSquareOf c.deref.result.now) c.get.ensures.value (rw c.in_default.is at c.in_ok-square.ensures.none) in
     λ u has. elim (Contains-push_cases (take i writers) v u (subst (λ l. Contains l u) (front_more writers i v c.loop-version-test.true c.version-item.is) has)) [
       | inl before ↦ c.loop-version.invariant u before
       | inr same ↦ subst (NoSquareOf c.in_ok-pairs.pairs.items) same (subst (λ l. NoSquareOf l v) c.deref.ensures.value none)

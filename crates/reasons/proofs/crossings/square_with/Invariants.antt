@@ -1,7 +1,9 @@
-use Rattle.std.proofs.Common.{take}
+use Rattle.std.proofs.Common.{◌≡◌, take, None}
 use Rattle.std.specs.BTreeMap.{get}
-use Rattle.reasons.specs.Squares.{AreShared, pair_cmp}
+use Rattle.std.specs.List.{Contains}
+use Rattle.reasons.specs.declared.crossings.Pair.{Pair}
+use Rattle.reasons.specs.Squares.{square_of, pair_cmp}
 use Rattle.reasons.proofs.crossings.square_with.Given as goal
 
 abbrev pub invariant-loop-pair : goal.invariant-loop-pair
-invariant-loop-pair l = AreShared l.pairs (take l.pair-index l.pairs) l.version (get pair_cmp l.beside) (get pair_cmp l.shared)
+invariant-loop-pair l = (p : Pair) → Contains (take l.pair-index l.pairs) p → square_of l.key (get pair_cmp l.beside) (get pair_cmp l.met) p ≡ None

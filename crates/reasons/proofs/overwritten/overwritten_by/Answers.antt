@@ -1,34 +1,23 @@
-use Rattle.log_definitions.specs.Numbers.{log_of}
-use Rattle.reasons.specs.Events.{reads_alike, is_read_of}
-use Rattle.reasons.proofs.Positions.{first_at, none_passes}
-use Rattle.reasons.proofs.Least.{none_least, some_least}
-use Rattle.reasons.proofs.Overwrites.{none_overwritten, some_read, overwritten, least_overwrite}
+use Rattle.std.proofs.Common.{refl}
+use Rattle.reasons.proofs.Overwrites.{none_overwritten, overwritten, least_overwrite}
 use Rattle.reasons.proofs.overwritten.overwritten_by.Goals as goal
 
 pub returns-in_default-clause-none : goal.returns-in_default-clause-none
 returns-in_default-clause-none c =
-    let ss = c.args.history.now in
-    none_overwritten ss c.requires.clean c.args.a c.args.b (none_least (reads_alike (log_of ss) c.args.a c.args.b) ((log_of ss).ops c.args.b) c.in_default.ensures)
+    let none = rw c.in_default.is at c.least_write.ensures in
+    none_overwritten c.args.history.now c.requires.clean c.args.a c.args.b none
 
-pub returns-in_default-first_read-clause-none : goal.returns-in_default-first_read-clause-none
-returns-in_default-first_read-clause-none c =
-    let ss = c.args.history.now in
-    let o = c.in-Some.write in
-    let l = some_least (reads_alike (log_of ss) c.args.a c.args.b) ((log_of ss).ops c.args.b) o c.in-Some.ensures in
-    absurd (some_read ss c.requires.clean c.args.a c.args.b o c.requires.first c.requires.second l (none_passes (is_read_of o.key) ((log_of ss).ops c.args.a) c.in_default-first_read.ensures))
+pub read_of-requires-clause-reads : goal.read_of-requires-clause-reads
+read_of-requires-clause-reads c =
+    let s = (c.in-Some.ensures.own c.in-Some.write refl).1.alike in
+    (s.from, s.first)
 
 pub returns-clause-is : goal.returns-clause-is
 returns-clause-is c =
-    let ss = c.args.history.now in
-    let o = c.in-Some.write in
-    let read = c.in-Some-first_read.read in
-    let l = some_least (reads_alike (log_of ss) c.args.a c.args.b) ((log_of ss).ops c.args.b) o c.in-Some.ensures in
-    overwritten ss c.requires.clean c.args.a c.args.b read o c.requires.first c.requires.second c.requires.apart l (first_at (is_read_of o.key) ((log_of ss).ops c.args.a) read c.in-Some-first_read.ensures)
+    let own = c.in-Some.ensures.own c.in-Some.write refl in
+    overwritten c.args.history.now c.requires.clean c.args.a c.args.b c.read_of.result c.in-Some.write c.requires.first c.requires.second c.requires.apart own.1 c.read_of.ensures.first
 
 pub returns-clause-least : goal.returns-clause-least
 returns-clause-least c =
-    let ss = c.args.history.now in
-    let o = c.in-Some.write in
-    let read = c.in-Some-first_read.read in
-    let l = some_least (reads_alike (log_of ss) c.args.a c.args.b) ((log_of ss).ops c.args.b) o c.in-Some.ensures in
-    least_overwrite ss c.requires.clean c.args.a c.args.b read o l (first_at (is_read_of o.key) ((log_of ss).ops c.args.a) read c.in-Some-first_read.ensures)
+    let own = c.in-Some.ensures.own c.in-Some.write refl in
+    least_overwrite c.args.history.now c.requires.clean c.args.a c.args.b c.read_of.result c.in-Some.write own.1 c.in-Some.ensures c.read_of.ensures.first

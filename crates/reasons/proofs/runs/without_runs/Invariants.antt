@@ -1,6 +1,9 @@
-use Rattle.std.proofs.Common.{◌≡◌, ◌++◌, drop}
-use Rattle.reasons.specs.Runs.{runs_from}
+use Rattle.std.proofs.Common.{◌≡◌, ◌++◌, length}
+use Rattle.reasons.specs.Runs.{told_behind, without_runs}
 use Rattle.reasons.proofs.runs.without_runs.Given as goal
 
-abbrev pub invariant-loop-next : goal.invariant-loop-next
-invariant-loop-next l = l.made.items ++ runs_from l.history l.from l.to (drop l.next-index l.behind) ≡ runs_from l.history l.initial.from l.initial.to l.behind
+abbrev pub invariant-loop-node : goal.invariant-loop-node
+invariant-loop-node l = l.made.items ++ told_behind l.history l.last l.rest ≡ without_runs l.history l.line
+
+abbrev pub decreases-loop-node : goal.decreases-loop-node
+decreases-loop-node l = length l.rest

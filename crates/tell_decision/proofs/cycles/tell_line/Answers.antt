@@ -2,7 +2,6 @@ use Rattle.std.proofs.Common.{◌≡◌, ◌+◌, ◌<◌, ◌++◌, [], length,
 use Rattle.std.proofs.lemmas.List.{get_or_read}
 use Rattle.tell_reasons.specs.declared.why.Why.TheVariants.{Known}
 use Rattle.tell_steps.specs.Steps.{IsLineTold}
-use Rattle.tell_steps.specs.Told.{WhyPut}
 use Rattle.tell_steps.proofs.Telling.{put_none, put_more, put_all}
 use Rattle.tell_decision.proofs.cycles.tell_line.Goals as goal
 
@@ -20,10 +19,7 @@ loop-i-preserved c =
     let here : i < length line = omega (arith, within) in
     let a : c.index-line-i.result ≡ get_or line i 0 = get_or_read line i c.index-line-i.result here c.index-line-i.is 0 in
     let b : c.index-line-i-in-loop-i.result ≡ get_or line (i + 1) 0 = get_or_read line (i + 1) c.index-line-i-in-loop-i.result within c.index-line-i-in-loop-i.is 0 in
-    let put : WhyPut ss [] [] c.index-line-i.result c.index-line-i-in-loop-i.result old new = record { why = Known c.in_ok-shown.shown; by = c.in_ok-shown.ensures.why; appended = c.in_ok-push.ensures.items } in
-    let edge : WhyPut ss [] [] (get_or line i 0) (get_or line (i + 1) 0) old new =
-    subst (λ u. WhyPut ss [] [] u (get_or line (i + 1) 0) old new) a (subst (λ v. WhyPut ss [] [] c.index-line-i.result v old new) b put) in
-    put_more ss [] [] line i edge.why c.in_ok-items.items.items old new within c.loop-i.invariant edge.by edge.appended
+    put_more ss [] [] line i (Known c.in_ok-shown.shown) c.in_ok-items.items.items old new within c.loop-i.invariant (rw (← a, ← b) c.in_ok-shown.ensures.why) (rw (← a, ← b) c.in_ok-push.ensures.items)
 
 pub returns : goal.returns
 returns c =

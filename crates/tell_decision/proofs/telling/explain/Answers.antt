@@ -1,7 +1,7 @@
-use Rattle.std.proofs.Common.{◌≡◌, sym, ap, ◌∙◌, subst}
+use Rattle.std.proofs.Common.{sym, ap, ◌∙◌, subst}
 use Rattle.std.proofs.lemmas.Result.{IfOk-weaker}
 use Rattle.session_log.specs.Version.{first_line}
-use Rattle.log_lines.specs.Rows.{Table, Fits, own_places, rows_of}
+use Rattle.log_lines.specs.Rows.{Fits, own_places}
 use Rattle.log_lines.proofs.Own.{own_fits}
 use Rattle.deciding.specs.Decides.{IsDecided}
 use Rattle.tell_decision.proofs.telling.explain.Goals as goal
@@ -10,8 +10,7 @@ pub of-requires : goal.of-requires
 of-requires c =
     let ss = c.args.history.now in
     let first = first_line c.args.version in
-    let own : rows_of c.in_ok-places.places ≡ own_places first ss = c.in_ok-places.ensures.own ∙ ap (own_places first) c.sessions.ensures.sessions in
-    record { fits = subst (λ (table : Table). Fits ss table) (sym own) (own_fits first ss) }
+    record { fits = subst (Fits ss) (sym (c.in_ok-places.ensures.own ∙ ap (own_places first) c.sessions.ensures.sessions)) (own_fits first ss) }
 
 pub explain_placed-requires : goal.explain_placed-requires
 explain_placed-requires c = record { decided = subst (λ ss. IsDecided ss c.args.decision.now) (sym c.in_ok-log.ensures.history) c.requires.decided }

@@ -1,21 +1,23 @@
 use Rattle.std.proofs.Common.{sym, subst}
 use Rattle.reduction.specs.Outcome.{IsCyclicHistory}
+use Rattle.headline.proofs.Answered.{clean_log}
 use Rattle.tell_decision.proofs.telling.explain_placed.Goals as goal
 
 pub explain_anomaly-requires : goal.explain_anomaly-requires
 explain_anomaly-requires c = record { reported = (rw c.in-Anomalous.is at c.requires.decided.decides).1 }
 
-pub explain_cycle-requires-clause-none : goal.explain_cycle-requires-clause-none
-explain_cycle-requires-clause-none c = (rw c.in-Cyclic.is at c.requires.decided.decides).1.none
-
-pub explain_cycle-requires-clause-cyclic : goal.explain_cycle-requires-clause-cyclic
-explain_cycle-requires-clause-cyclic c = subst (IsCyclicHistory c.args.log.now.history.now) (sym c.deref.ensures.value) (rw c.in-Cyclic.is at c.requires.decided.decides).1.cyclic
+pub explain_cycle-requires : goal.explain_cycle-requires
+explain_cycle-requires c =
+    let ss = c.args.log.now.history.now in
+    let cycle = (rw c.in-Cyclic.is at c.requires.decided.decides).1 in
+    record { clean = clean_log ss c.committed-invariant.ensures.well_formed cycle.none; cyclic = subst (IsCyclicHistory ss) (sym c.deref.ensures.value) cycle.cyclic }
 
 pub explain_dead-requires : goal.explain_dead-requires
-explain_dead-requires c = record { dead = (rw c.in-Dead.is at c.requires.decided.decides).1 }
+explain_dead-requires c =
+    let dead = (rw c.in-Dead.is at c.requires.decided.decides).1 in
+    record { clean = clean_log c.args.log.now.history.now c.committed-invariant.ensures.well_formed dead.unpruned.coalesced.anomaly; dead = dead }
 
-pub explain_tree-requires-clause-left : goal.explain_tree-requires-clause-left
-explain_tree-requires-clause-left c = (rw c.in-Refuted.is at c.requires.decided.decides).1.history
-
-pub explain_tree-requires-clause-refutes : goal.explain_tree-requires-clause-refutes
-explain_tree-requires-clause-refutes c = (rw c.in-Refuted.is at c.requires.decided.decides).1.refutes
+pub explain_tree-requires : goal.explain_tree-requires
+explain_tree-requires c =
+    let refuted = (rw c.in-Refuted.is at c.requires.decided.decides).1 in
+    record { clean = clean_log c.args.log.now.history.now c.committed-invariant.ensures.well_formed refuted.history.unpruned.coalesced.anomaly; left = refuted.history; refutes = refuted.refutes }

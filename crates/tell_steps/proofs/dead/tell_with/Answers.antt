@@ -1,16 +1,16 @@
-use Rattle.std.proofs.Common.{sym, subst}
+use Rattle.std.proofs.Common.{List, sym, subst, ◌∙◌}
+use Rattle.tell_reasons.specs.declared.why.ChainOrder.{ChainOrder}
 use Rattle.tell_steps.specs.Ledgers.{AreSteps, IsClosed}
-use Rattle.tell_steps.proofs.Ledgers.{steps_in, closed_in}
 use Rattle.tell_steps.proofs.dead.tell_with.Goals as goal
 
 pub shorter_cycle-requires-clause-closed : goal.shorter_cycle-requires-clause-closed
-shorter_cycle-requires-clause-closed c = closed_in c.args.history.now c.args.entries.now c.in_ok-grounds.grounds.kept.items c.args.cycle.now c.in_ok-grounds.ensures.kept c.requires.closed
+shorter_cycle-requires-clause-closed c = subst (λ (os : List ChainOrder). IsClosed c.args.chains.now os c.args.cycle.now) (sym (c.deref.ensures.value ∙ c.in_ok-kept.ensures.kept)) c.requires.closed
 
-pub shortened-requires-clause-steps : goal.shortened-requires-clause-steps
-shortened-requires-clause-steps c = steps_in c.args.history.now c.args.entries.now c.in_ok-grounds.grounds.kept.items c.requires.clean c.requires.entries c.in_ok-grounds.ensures.kept
-
-pub tell_steps-requires-clause-steps : goal.tell_steps-requires-clause-steps
-tell_steps-requires-clause-steps c = subst (AreSteps c.args.history.now c.in_ok-grounds.grounds.kept.items) (sym c.deref.ensures.value) c.in_ok-shorter.ensures.steps
-
-pub tell_steps-requires-clause-closed : goal.tell_steps-requires-clause-closed
-tell_steps-requires-clause-closed c = subst (IsClosed c.args.history.now c.in_ok-grounds.grounds.kept.items) (sym c.as_slice-line.ensures.value) c.in_ok-round.ensures.closed
+pub tell_steps-requires : goal.tell_steps-requires
+tell_steps-requires c =
+    let ss = c.args.chains.now in
+    record {
+      same = c.in_ok-round.ensures.same;
+      steps = subst (λ (os : List ChainOrder). AreSteps ss os c.args.entries.now) (sym c.deref-2.ensures.value) c.in_ok-kept.ensures.steps;
+      closed = subst (IsClosed ss c.deref-2.result.now) (sym c.deref-3.ensures.value) (subst (λ (os : List ChainOrder). IsClosed ss os c.in_ok-round.round.items) (c.deref.ensures.value ∙ sym c.deref-2.ensures.value) c.in_ok-round.ensures.closed);
+    }

@@ -1,30 +1,43 @@
-use Rattle.std.proofs.Common.{List, ℕ, sym, subst, Bor}
+use Rattle.std.proofs.Common.{◌⊎◌, ◌<◌, List, ℕ, length, get_or, refl, sym, subst, ◌∙◌, Bor}
 use Rattle.std.proofs.lemmas.List.Elements.{All-weaker}
+use Rattle.session_log.specs.Text.{ClientSession}
+use Rattle.serializability.specs.Reads.{IsClean}
+use Rattle.log_definitions.specs.Numbers.{log_of}
+use Rattle.tell_reasons.specs.declared.why.ChainOrder.{ChainOrder}
 use Rattle.tell_steps.specs.View.{StepsView}
-use Rattle.tell_steps.specs.Lines.{IsCovered}
-use Rattle.tell_steps.specs.Ledgers.{AreSteps}
-use Rattle.tell_steps.specs.Told.{HasSteps}
-use Rattle.tell_steps.proofs.Ledgers.{steps_in}
+use Rattle.tell_steps.specs.Steps.{AreStepsTold, IsNamed}
+use Rattle.tell_steps.specs.Lines.{HasSteps, IsCovered, IsNeededIn}
+use Rattle.tell_steps.specs.Ledgers.{AreEntries, AreSteps, kept_by}
 use Rattle.tell_steps.proofs.Covering.{ledger_entries, line_covered}
 use Rattle.tell_steps.proofs.forced.steps_of.Goals as goal
 
-pub grounds_in-requires-clause-entries : goal.grounds_in-requires-clause-entries
-grounds_in-requires-clause-entries c = ledger_entries c.args.history.now c.args.entries.now c.requires.ledger
-
-pub shortened-requires-clause-steps : goal.shortened-requires-clause-steps
-shortened-requires-clause-steps c =
-    let ss = c.args.history.now in
-    steps_in ss c.args.entries.now c.in_ok-grounds.grounds.kept.items c.requires.clean (ledger_entries ss c.args.entries.now c.requires.ledger) c.in_ok-grounds.ensures.kept
+pub kept_by-requires : goal.kept_by-requires
+kept_by-requires c =
+    let back = sym c.requires.chains in
+    record {
+      clean = subst (λ (s : List ClientSession). IsClean (log_of s)) back c.requires.clean;
+      entries = subst (λ (s : List ClientSession). AreEntries s c.args.entries.now) back (ledger_entries c.args.history.now c.args.entries.now c.requires.ledger);
+    }
 
 pub told_steps-requires-clause-steps : goal.told_steps-requires-clause-steps
-told_steps-requires-clause-steps c = subst (AreSteps c.args.history.now c.in_ok-grounds.grounds.kept.items) (sym c.deref.ensures.value) c.in_ok-shorter.ensures.steps
+told_steps-requires-clause-steps c = subst (λ (os : List ChainOrder). AreSteps c.args.chains.now os c.args.entries.now) (sym c.deref.ensures.value) c.in_ok-kept.ensures.steps
 
-pub returns-clause-covered : goal.returns-clause-covered
-returns-clause-covered c =
-    let ss = c.args.history.now in
+pub returns : goal.returns
+returns c =
+    let ss = c.args.chains.now in
     let entries = c.args.entries.now in
-    let kept = c.in_ok-grounds.grounds.kept.items in
-    let steps = c.in_ok-told.told.grounds.kept.items in
-    let view : StepsView = record { sessions = ss; entries = entries; orders = steps } in
-    All-weaker (λ (l : Bor (List ℕ)). HasSteps ss kept steps l.now) (λ (l : Bor (List ℕ)). IsCovered view l.now)
-    (λ l h. line_covered ss entries kept steps c.requires.clean c.in_ok-grounds.ensures.kept l.now h) c.args.lines.now c.in_ok-told.ensures.told.stand
+    let orders = c.in_ok-told.told.orders.items in
+    let items = c.in_ok-told.told.items.items in
+    let lines = c.args.lines.now in
+    let told = c.in_ok-told.ensures.told in
+    let same = c.requires.chains in
+    let clean = subst (λ (s : List ClientSession). IsClean (log_of s)) (sym same) c.requires.clean in
+    let view : StepsView = record { sessions = ss; entries = entries; orders = orders } in
+    let stand = subst (λ (os : List ChainOrder). (k : ℕ) (d : Bor (List ℕ)) → k < length lines → HasSteps ss os orders (get_or lines k d).now) (c.deref.ensures.value ∙ c.in_ok-kept.ensures.kept) told.stand in
+    record {
+      sessions = same;
+      entries = refl;
+      told = subst (λ (s : List ClientSession). AreStepsTold s orders items) same told.told;
+      covered = All-weaker (λ (l : Bor (List ℕ)). HasSteps ss (kept_by ss entries) orders l.now) (λ (l : Bor (List ℕ)). IsCovered view l.now) (λ l h. line_covered ss entries orders clean l.now h) lines stand;
+      needed = subst (λ (s : List ClientSession). (k : ℕ) → k < length orders → IsNamed items k ⊎ IsNeededIn s orders lines k) same told.needed;
+    }

@@ -5,12 +5,12 @@ use Rattle.tell_steps.proofs.Telling.{put_none, put_more, put_all}
 use Rattle.tell_steps.proofs.lines.put_edges.Goals as goal
 
 pub loop-i-init : goal.loop-i-init
-loop-i-init c = (c.requires.answers, put_none c.args.basis.now.history.now c.args.basis.now.grounds.now.kept.items c.args.decided.now c.args.line.now c.args.items.now.items)
+loop-i-init c = record { same = c.requires.same; put = put_none c.args.chains.now c.args.steps.now c.args.decided.now c.args.line.now c.args.items.now.items }
 
 pub loop-i-preserved : goal.loop-i-preserved
 loop-i-preserved c =
-    let ss = c.args.basis.now.history.now in
-    let steps = c.args.basis.now.grounds.now.kept.items in
+    let ss = c.args.chains.now in
+    let steps = c.args.steps.now in
     let decided = c.args.decided.now in
     let line = c.args.line.now in
     let i = c.loop-i.i in
@@ -23,11 +23,11 @@ loop-i-preserved c =
     let edge : WhyPut ss steps decided (get_or line i 0) (get_or line (i + 1) 0) old new =
     subst (λ u. WhyPut ss steps decided u (get_or line (i + 1) 0) old new) a
     (subst (λ v. WhyPut ss steps decided c.index-line-i.result v old new) b c.in_ok-put_edge.ensures.put) in
-    (c.in_ok-put_edge.ensures.answers, put_more ss steps decided line i edge.why c.args.items.now.items old new within c.loop-i.invariant.1 edge.by edge.appended)
+    record { same = c.in_ok-put_edge.ensures.same; put = put_more ss steps decided line i edge.why c.args.items.now.items old new within c.loop-i.invariant.put edge.by edge.appended }
 
 pub returns-clause-put : goal.returns-clause-put
 returns-clause-put c =
     let line = c.args.line.now in
     let some : 0 < length line = omega arith in
-    put_all c.args.basis.now.history.now c.args.basis.now.grounds.now.kept.items c.args.decided.now line c.loop-i.i c.args.items.now.items c.loop-i.items.items some
-    (omega (arith, c.loop-i-test.false)) (omega (arith, c.loop-i.auto.i-end, some)) c.loop-i.invariant.1
+    put_all c.args.chains.now c.args.steps.now c.args.decided.now line c.loop-i.i c.args.items.now.items c.loop-i.items.items some
+    (omega (arith, c.loop-i-test.false)) (omega (arith, c.loop-i.auto.i-end, some)) c.loop-i.invariant.put

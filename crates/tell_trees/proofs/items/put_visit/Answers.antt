@@ -1,15 +1,15 @@
-use Rattle.std.proofs.Common.{length}
-use Rattle.tell_trees.proofs.Opened.{if_ok}
-use Rattle.tell_trees.proofs.Puts.{decides_below, visit_put}
+use Rattle.tell_trees.proofs.Edges.{are_orders, visit_line}
 use Rattle.tell_trees.proofs.items.put_visit.Goals as goal
 
-pub put_decision-requires : goal.put_decision-requires
-put_decision-requires c = record {
-  choice = decides_below c.args.nodes.now (length c.args.orders.now) c.args.visit.node c.decision_at-decision.result c.requires.choices c.requires.node c.decision_at-decision.ensures.decision;
-}
+pub put_cycle-requires-clause-line : goal.put_cycle-requires-clause-line
+put_cycle-requires-clause-line c = (visit_line c.args.steps.now c.args.orders.now c.args.nodes.now c.requires.searched c.args.visit.now c.in-Some.line c.in-Some.is c.requires.ready).0
 
-pub returns-clause-told : goal.returns-clause-told
-returns-clause-told c =
-    if_ok c.put_leaf.result c.put_leaf.ensures.told (λ _ a.
-    visit_put c.args.steps.now c.args.orders.now c.args.nodes.now c.args.visit c.decision_at-decision.result c.args.items.now.items c.put_decision.new.items.items c.put_leaf.new.items.items c.requires.node
-    c.decision_at-decision.ensures.decision c.in_ok-put_decision.ensures.added a)
+pub put_cycle-requires-clause-decided : goal.put_cycle-requires-clause-decided
+put_cycle-requires-clause-decided c = rw (c.deref-in-Some.ensures.value, c.in_ok-decided.ensures.orders) (are_orders c.args.steps.now c.args.orders.now c.args.nodes.now c.requires.searched c.args.visit.now.node)
+
+pub put_cycle-requires-clause-edges : goal.put_cycle-requires-clause-edges
+put_cycle-requires-clause-edges c =
+    rw (c.deref-in-Some.ensures.value, c.in_ok-decided.ensures.orders) (visit_line c.args.steps.now c.args.orders.now c.args.nodes.now c.requires.searched c.args.visit.now c.in-Some.line c.in-Some.is c.requires.ready).1
+
+pub put_cycle-requires-clause-round : goal.put_cycle-requires-clause-round
+put_cycle-requires-clause-round c = (visit_line c.args.steps.now c.args.orders.now c.args.nodes.now c.requires.searched c.args.visit.now c.in-Some.line c.in-Some.is c.requires.ready).2

@@ -1,44 +1,30 @@
-use Rattle.std.proofs.Common.{List, [], ◌∷◌, ◌++◌, ◌∙◌, sym, ap}
-use Rattle.std.proofs.lemmas.List.{nil_from_length}
-use Rattle.tell_trees.specs.declared.visits.Waiting.{Waiting}
-use Rattle.tell_trees.proofs.Pending.{begun, above, told_next, left_next, told_lighter, left_lighter, finished}
+use Rattle.std.proofs.Common.{◌∙◌, sym, ap}
+use Rattle.cube_laws.specs.declared.tree.Growth.TheVariants.{Leaf}
+use Rattle.tell_trees.proofs.Walk.{grown_at, leaf_next, split_next, left_next, less_left, less_split}
 use Rattle.tell_trees.proofs.visits.visits.Goals as goal
-use Rattle.tell_trees.proofs.visits.visits.Goals.{then-is_told+in_ok-leaves, else-is_told}
+use Rattle.tell_trees.proofs.visits.visits.Goals.{then-is_told+in-Leaf, then-is_told+in-Inner+in_ok-push-in-Inner+in_ok-push-in-Inner-2, else-is_told}
 
-pub loop-place-init : goal.loop-place-init
-loop-place-init c =
-    begun c.args.nodes.now c.requires.tree c.push.new.self.items c.new-visits.result.items
-    (c.in_ok-push.ensures.items ∙ ap (λ (l : List Waiting). l ++ record { node = 0; depth = 0 } ∷ []) c.new-waiting.ensures.items) c.new-visits.ensures.items
+pub loop-node-smaller : goal.loop-node-smaller
+loop-node-smaller c =
+    let nodes = c.args.nodes.now in let t = c.requires.tree in let i = c.in-Some.node in let rest = c.pop.new.self.items in let popped = c.in-Some.ensures.items in let u = c.loop-node.invariant in
+    elim c.if-is_told.branch [
+      | then-is_told+in-Leaf w ↦ rw w.waiting-is (less_left nodes t rest i popped u)
+      | then-is_told+in-Inner+in_ok-push-in-Inner+in_ok-push-in-Inner-2 w ↦
+          let grown = grown_at nodes t rest i popped u w.index-nodes-node.result _ w.in-Inner.is in
+          rw (w.waiting-is, w.in_ok-push-in-Inner-2.ensures.items, w.in_ok-push-in-Inner.ensures.items) (less_split nodes t rest i popped u w.in-Inner.choice w.in-Inner.first w.in-Inner.second grown)
+      | else-is_told w ↦ rw w.waiting-is (less_left nodes t rest i popped u)
+    ]
 
-pub enter-requires : goal.enter-requires
-enter-requires c = record {
-  depth = above c.args.nodes.now c.requires.tree c.loop-place.waiting.items c.pop.new.self.items c.in-Some.place c.loop-place.leaves c.loop-place.visits.items c.in-Some.ensures.items c.loop-place.invariant c.index-nodes-place.result;
-}
-
-pub loop-place-preserved : goal.loop-place-preserved
-loop-place-preserved c = elim c.if-is_told.branch [
-  | then-is_told+in_ok-leaves w ↦
-      told_next c.args.nodes.now c.requires.tree c.loop-place.waiting.items c.pop.new.self.items c.in-Some.place c.loop-place.leaves c.loop-place.visits.items c.in-Some.ensures.items c.loop-place.invariant w.index-nodes-place.result
-      c.if-is_told.waiting.items w.in_ok-leaves.field-0 c.if-is_told.leaves c.push-in-Some.new.self.items w.if-is_told.true (ap (λ v. v.items) w.waiting-is ∙ w.in_ok-leaves.ensures.waiting) w.in_ok-leaves.ensures.leaves w.leaves-is c.in_ok-push-2.ensures.items
-  | else-is_told w ↦
-      left_next c.args.nodes.now c.requires.tree c.loop-place.waiting.items c.pop.new.self.items c.in-Some.place c.loop-place.leaves c.loop-place.visits.items c.in-Some.ensures.items c.loop-place.invariant
-      c.if-is_told.waiting.items c.if-is_told.leaves c.push-in-Some.new.self.items w.if-is_told.false (ap (λ v. v.items) w.waiting-is) w.leaves-is c.in_ok-push-2.ensures.items
-]
-
-pub loop-place-smaller : goal.loop-place-smaller
-loop-place-smaller c = elim c.if-is_told.branch [
-  | then-is_told+in_ok-leaves w ↦
-      told_lighter c.args.nodes.now c.requires.tree c.loop-place.waiting.items c.pop.new.self.items c.in-Some.place c.loop-place.leaves c.loop-place.visits.items c.in-Some.ensures.items c.loop-place.invariant w.index-nodes-place.result
-      c.if-is_told.waiting.items (ap (λ v. v.items) w.waiting-is ∙ w.in_ok-leaves.ensures.waiting)
-  | else-is_told w ↦
-      left_lighter c.args.nodes.now c.requires.tree c.loop-place.waiting.items c.pop.new.self.items c.if-is_told.waiting.items c.in-Some.place c.in-Some.ensures.items (ap (λ v. v.items) w.waiting-is)
-]
-
-pub returns : goal.returns
-returns c = record {
-  visited = (
-    c.loop-place.leaves,
-    finished c.args.nodes.now c.loop-place.leaves c.loop-place.waiting.items c.loop-place.visits.items
-        (nil_from_length c.loop-place.waiting.items (sym c.loop-place.waiting.ok.0 ∙ c.in_default.ensures.cases.0)) c.loop-place.invariant,
-  );
-}
+pub loop-node-preserved : goal.loop-node-preserved
+loop-node-preserved c =
+    let nodes = c.args.nodes.now in let t = c.requires.tree in let i = c.in-Some.node in let rest = c.pop.new.self.items in let popped = c.in-Some.ensures.items in let u = c.loop-node.invariant in
+    elim c.if-is_told.branch [
+      | then-is_told+in-Leaf w ↦
+          let grown = grown_at nodes t rest i popped u w.index-nodes-node.result (Leaf w.nodes.result.now) (w.in-Leaf.is ∙ ap Leaf (sym w.nodes.ensures.nodes)) in
+          rw (c.in_ok-push-2.ensures.items, w.line-is, w.waiting-is, w.leaves-is) (leaf_next nodes t rest i popped u w.nodes.result w.if-is_told.true grown)
+      | then-is_told+in-Inner+in_ok-push-in-Inner+in_ok-push-in-Inner-2 w ↦
+          let grown = grown_at nodes t rest i popped u w.index-nodes-node.result _ w.in-Inner.is in
+          rw (c.in_ok-push-2.ensures.items, w.line-is, w.leaves-is, w.waiting-is, w.in_ok-push-in-Inner-2.ensures.items, w.in_ok-push-in-Inner.ensures.items)
+          (split_next nodes t rest i popped u w.in-Inner.choice w.in-Inner.first w.in-Inner.second grown)
+      | else-is_told w ↦ rw (c.in_ok-push-2.ensures.items, w.line-is, w.waiting-is, w.leaves-is) (left_next nodes t rest i popped u w.if-is_told.false)
+    ]

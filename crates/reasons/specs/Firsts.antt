@@ -1,0 +1,29 @@
+-- The first read of a key in a node.
+use Rattle.std.specs.Prelude.{◌≡◌, ℕ, ◌≤◌, List, Some}
+use Rattle.session_log.specs.Text.{ClientSession}
+use Rattle.session_log.specs.declared.session.Op.TheVariants.{Read}
+use Rattle.serializability.specs.Log.{Log}
+use Rattle.serializability.specs.Reads.{IsFinal}
+use Rattle.serializability.specs.Polygraph.{source}
+use Rattle.log_definitions.specs.WellFormed.{keys_in}
+use Rattle.log_definitions.specs.Numbers.{number_in, log_of}
+use Rattle.reason_laws.specs.Reasons.{IsOpAt, ReadsAt}
+use Rattle.reason_laws.specs.declared.crossing.PairRead.{PairRead}
+
+-- the node reads the key before any own write of it
+abbrev pub HasSource : Log → ℕ → ℕ → Type 0
+HasSource log v x = (u : ℕ) × (source log v x ≡ Some u)
+
+-- operation i of node v reads the key of this number as the node does that v reads it from, and no
+-- earlier one reads the key
+pub record IsFirstRead (ss : List ClientSession) (v x i : ℕ) : Type 0 where
+  pub reads : (key : List ℕ) (u w : ℕ) → number_in (keys_in ss) key ≡ x
+      → source (log_of ss) v x ≡ Some u → IsFinal (log_of ss) u x w → ReadsAt ss v i key w
+  pub first : (key : List ℕ) (j w : ℕ) → number_in (keys_in ss) key ≡ x
+      → IsOpAt ss v j (Read key w) → i ≤ j
+
+-- the node's first reads of the keys of these numbers
+pub record IsPairOf (ss : List ClientSession) (v x y : ℕ) (p : PairRead) : Type 0 where
+  pub node : p.node ≡ v
+  pub first : IsFirstRead ss v x p.first
+  pub second : IsFirstRead ss v y p.second

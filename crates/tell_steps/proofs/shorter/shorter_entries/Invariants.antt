@@ -1,9 +1,0 @@
-use Rattle.tell_steps.specs.Lines.{AreAnswers}
-use Rattle.tell_steps.proofs.Checked.{AreFrontSteps}
-use Rattle.tell_steps.proofs.shorter.shorter_entries.Given as goal
-
-abbrev pub invariant-loop-entry : goal.invariant-loop-entry
-invariant-loop-entry l = record {
-  answers : AreAnswers l.basis.history.now l.answers;
-  front : AreFrontSteps l.basis.history.now l.basis.grounds.now.kept.items l.entry l.made.items;
-}
