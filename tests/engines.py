@@ -63,7 +63,7 @@ class Checks:
             self.expect((audit.returncode, verdict) == (0, 'serializable'), '%s: audit says %s' % (name, verdict))
             return
         self.expect((audit.returncode, verdict) == (1, 'not serializable'), '%s: audit says %s' % (name, verdict))
-        self.expect(re.match(r'shown by [1-9] transactions?: ', rest), '%s: audit says %s' % (name, rest.partition('\n')[0]))
+        self.expect(re.search(r'^shown by [1-9] transactions?: ', rest, re.M), '%s: audit says %s' % (name, rest))
         # as soon as one is refused no other one is begun
         status, answers = self.judge(name + ', until one is refused', pieces, '--halt', 'soon,fail=1')
         self.expect(status != 0 and len(answers) < len(pieces), '%s: parallel ends with %d and %d answers' % (name, status, len(answers)))

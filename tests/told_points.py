@@ -92,7 +92,7 @@ class Telling:
 
     def __init__(self, log, names, lines, level):
         self.log, self.names, self.left, self.level = log, names, list(lines), level
-        self.steps, self.named, self.met, self.told, self.sides = {}, set(), set(), [], []
+        self.steps, self.named, self.met, self.told, self.sides, self.alone = {}, set(), set(), [], [], []
         if FORCED in self.left:  # told last, and read first
             at = self.left.index(FORCED)
             self.left = self.left[at + 1:] + self.left[:at]
@@ -204,6 +204,8 @@ class Telling:
         if not found:
             first, last = self.way('    ')
             self.sides.append([self.words(*edge) for edge in self.told])
+            # of each side that is one edge: a read of a version that its reader and the other one overwrite
+            self.alone += [OVERWRITES.fullmatch(reason) for _, _, reason in self.told if len(self.told) == 1]
             must(self.leads((other, 'snapshot'), first) and self.leads(last, (node, 'commit')), 'this leads from %s to %s' % (first, last))
             return
         self.left.pop(0)
@@ -238,7 +240,7 @@ class Telling:
 
     def all(self):
         self.told_steps()
-        short, self.sides = self.left.pop(0) if self.left[0].startswith(SHORT) else None, []
+        short, self.sides, self.alone = self.left.pop(0) if self.left[0].startswith(SHORT) else None, [], []
         if found := NEITHER.fullmatch(self.left[0]):
             self.left.pop(0)
             one, other, key, at, at_other = found.groups()
@@ -249,9 +251,8 @@ class Telling:
                 self.not_first(node, against)
             both = [self.sentences('%s came first, ' % node, side, False) for node, side in zip((one, other), self.sides)]
             right = ['%sif %s. If %s' % (SHORT, *it) for it in itertools.product(*both)] or [None]
-            missed = [OVERWRITES.fullmatch(reason) for _, _, reason in self.told]
-            if len(missed) == 2 and all(missed) and len({it.group(2, 3) for it in missed}) == 1 and all(len(side) == 1 for side in self.sides):
-                right = [SHORT + LOST % (one, other, missed[0][2])]
+            if len(self.alone) == 2 and all(self.alone) and len({it.group(2, 3) for it in self.alone}) == 1:
+                right = [SHORT + LOST % (one, other, self.alone[0][2])]
             self.met.add('neither')
         else:
             self.told = []
