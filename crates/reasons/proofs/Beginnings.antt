@@ -30,7 +30,7 @@ use Rattle.reasons.specs.Initials.{IsBackIn, IsOfInitial, FollowsInitial, IsBegu
 use Rattle.reasons.specs.Given.{IsLeastInitial, NoneInitial}
 use Rattle.reasons.proofs.Positions.{not_before}
 use Rattle.reasons.proofs.Walked.{one_on}
-use Rattle.reasons.proofs.Ops.{event_at, write_at}
+use Rattle.reasons.proofs.Ops.{event_at, op_at}
 
 -- ---- links, one after the other
 trail_at_zero : (ss : List ClientSession) (key : List ℕ) (u y : ℕ) → u ≡ 0 → IsFinal (log_of ss) u (number_in (keys_in ss) key) y → Trail ss key y
@@ -60,7 +60,7 @@ apart_where log a b x u none e same = let bad : None ≡ Some u = sym none ∙ a
 
 pub initial_is : (ss : List ClientSession) → IsClean (log_of ss) → (a b read : ℕ) (o : KeyWrite) → IsNode ss a → IsNode ss b → BeginsAt (log_of ss) a b o → IsFirstRead ss a o.key read → IsOfInitialBefore ss a read b o.place
 initial_is ss clean a b read o first second g r =
-    let write = write_at ss b o.place o.key g.wid g.stands in
+    let write = op_at ss b o.place (event.Write o.key g.wid) g.stands in
     let x = number_in (keys_in ss) write.key in
     let begun = subst (IsBegun (log_of ss) a b) {y = x} (sym write.number) g.begun in
     let f = begun.1 in

@@ -17,7 +17,7 @@ use Rattle.reason_laws.proofs.Numbers.{within, before_at, reads_after, none_befo
 use Rattle.reasons.specs.Events.{is_read_of}
 use Rattle.reasons.specs.Firsts.{IsFirstRead}
 use Rattle.reasons.proofs.Positions.{FirstAt, take_fewer}
-use Rattle.reasons.proofs.Ops.{event_at, read_at, same_key}
+use Rattle.reasons.proofs.Ops.{event_at, op_at, same_key}
 
 -- a node that reads a key from another has a read of it
 pub some_read : (ss : List ClientSession) → IsClean (log_of ss) → (v x u : ℕ) → IsNode ss v → source (log_of ss) v x ≡ Some u → ((k : ℕ) (e : Event) → slice_get ((log_of ss).ops v) k ≡ Some e → is_read_of x e ≡ true → ⊥) → ⊥
@@ -51,7 +51,7 @@ first_is ss clean v x i node r = record {
     reads : (key : List ℕ) (u w : ℕ) → number_in (keys_in ss) key ≡ x → source (log_of ss) v x ≡ Some u → IsFinal (log_of ss) u x w → ReadsAt ss v i key w
     reads key u w n from final =
         let e = read_event x r.item r.passes in
-        let at = read_at ss v i x e.wid (r.stands ∙ ap Some e.is) in
+        let at = op_at ss v i (event.Read x e.wid) (r.stands ∙ ap Some e.is) in
         let named : at.key ≡ key = same_key ss v i (Read at.key e.wid) key at.stands (at.number ∙ sym n) in
         let f = source_is (log_of ss) clean v x u node.0 (within ss v node) from in
         let k = reads_key ss v x f.w key f.before n f.reads f.external in

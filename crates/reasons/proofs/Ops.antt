@@ -42,35 +42,23 @@ event_at ss v i o h = ap (λ es. slice_get es i) (ops_is ss v) ∙ event_in (key
 pub op_of : (ss : List ClientSession) (v i : ℕ) (e : Event) → slice_get ((log_of ss).ops v) i ≡ Some e → OpIn (keys_in ss) (ops_of ss v) i e
 op_of ss v i e h = op_in (keys_in ss) (ops_of ss v) i e (ap (λ es. slice_get es i) (sym (ops_is ss v)) ∙ h)
 
-pub record ReadIn (ss : List ClientSession) (v i x w : ℕ) : Type 0 where
+-- an operation like the event, of this key
+abbrev pub op_like : List ℕ → Event → Op
+op_like key (event.Read x w) = Read key w
+op_like key (event.Write x w) = Write key w
+
+-- the operation that has this event, by its key
+pub record OpAt (ss : List ClientSession) (v i : ℕ) (e : Event) : Type 0 where
   pub key : List ℕ
-  pub number : number_in (keys_in ss) key ≡ x
-  pub stands : IsOpAt ss v i (Read key w)
+  pub number : number_in (keys_in ss) key ≡ event_key e
+  pub stands : IsOpAt ss v i (op_like key e)
 
-read_of : (ss : List ClientSession) (v i x w : ℕ) (o : Op) → IsOpAt ss v i o → event_of (keys_in ss) o ≡ event.Read x w → ReadIn ss v i x w
-read_of ss v i x w (Read key u) h e =
-    let n : number_in (keys_in ss) key ≡ x = cc in
-    let same : u ≡ w = cc in
-    record { key = key; number = n; stands = subst (λ y. IsOpAt ss v i (Read key y)) same h }
-read_of ss v i x w (Write key u) h e = cc
+op_is : (ss : List ClientSession) (v i : ℕ) (e : Event) (o : Op) → IsOpAt ss v i o → event_of (keys_in ss) o ≡ e → OpAt ss v i e
+op_is ss v i e (Read key w) h is = subst (OpAt ss v i) is (record { key = key; number = refl; stands = h })
+op_is ss v i e (Write key w) h is = subst (OpAt ss v i) is (record { key = key; number = refl; stands = h })
 
-pub read_at : (ss : List ClientSession) (v i x w : ℕ) → slice_get ((log_of ss).ops v) i ≡ Some (event.Read x w) → ReadIn ss v i x w
-read_at ss v i x w h = let o = op_of ss v i (event.Read x w) h in read_of ss v i x w o.op o.stands o.event
-
-pub record WriteIn (ss : List ClientSession) (v i x w : ℕ) : Type 0 where
-  pub key : List ℕ
-  pub number : number_in (keys_in ss) key ≡ x
-  pub stands : IsOpAt ss v i (Write key w)
-
-write_of : (ss : List ClientSession) (v i x w : ℕ) (o : Op) → IsOpAt ss v i o → event_of (keys_in ss) o ≡ event.Write x w → WriteIn ss v i x w
-write_of ss v i x w (Read key u) h e = cc
-write_of ss v i x w (Write key u) h e =
-    let n : number_in (keys_in ss) key ≡ x = cc in
-    let same : u ≡ w = cc in
-    record { key = key; number = n; stands = subst (λ y. IsOpAt ss v i (Write key y)) same h }
-
-pub write_at : (ss : List ClientSession) (v i x w : ℕ) → slice_get ((log_of ss).ops v) i ≡ Some (event.Write x w) → WriteIn ss v i x w
-write_at ss v i x w h = let o = op_of ss v i (event.Write x w) h in write_of ss v i x w o.op o.stands o.event
+pub op_at : (ss : List ClientSession) (v i : ℕ) (e : Event) → slice_get ((log_of ss).ops v) i ≡ Some e → OpAt ss v i e
+op_at ss v i e h = let o = op_of ss v i e h in op_is ss v i e o.op o.stands o.event
 
 -- keys of one number are one key
 pub same_key : (ss : List ClientSession) (v i : ℕ) (o : Op) (key : List ℕ) → IsOpAt ss v i o → number_in (keys_in ss) (key_of o) ≡ number_in (keys_in ss) key → key_of o ≡ key

@@ -14,7 +14,7 @@ use Rattle.reasons.specs.declared.operations.KeyWrite.{KeyWrite}
 use Rattle.reasons.specs.Firsts.{IsFirstRead}
 use Rattle.reasons.specs.Overwrites.{ReadsAlike, IsAlikeWrite, IsUpTo, IsLeastWrite}
 use Rattle.reasons.specs.Given.{IsLeastOverwrite, NoneOverwritten}
-use Rattle.reasons.proofs.Ops.{event_at, write_at}
+use Rattle.reasons.proofs.Ops.{event_at, op_at}
 
 -- ---- from the sessions
 alike_where : (ss : List ClientSession) → IsClean (log_of ss) → (a b i j : ℕ) (r : IsOverwrittenBy ss a i b j) → ReadsAlike (log_of ss) a b (number_in (keys_in ss) r.key)
@@ -33,7 +33,7 @@ none_overwritten ss clean a b l i j r = up_to ss clean a b i j None l r
 -- ---- from the log
 pub overwritten : (ss : List ClientSession) → IsClean (log_of ss) → (a b read : ℕ) (o : KeyWrite) → IsNode ss a → IsNode ss b → a ≢ b → IsAlikeWrite (log_of ss) a b o → IsFirstRead ss a o.key read → IsOverwrittenBy ss a read b o.place
 overwritten ss clean a b read o first second apart l r =
-    let w = write_at ss b o.place o.key l.wid l.stands in
+    let w = op_at ss b o.place (event.Write o.key l.wid) l.stands in
     let s = l.alike in
     let f = source_is (log_of ss) clean a o.key s.from first.0 (within ss a first) s.first in
     let g = source_is (log_of ss) clean b o.key s.from second.0 (within ss b second) s.second in
@@ -53,7 +53,7 @@ overwritten ss clean a b read o first second apart l r =
 
 pub least_overwrite : (ss : List ClientSession) → IsClean (log_of ss) → (a b read : ℕ) (o : KeyWrite) → IsAlikeWrite (log_of ss) a b o → IsLeastWrite (log_of ss) a b (length ((log_of ss).ops b)) (Some o) → IsFirstRead ss a o.key read → IsLeastOverwrite ss a read b o.place
 least_overwrite ss clean a b read o own l r =
-    let w = write_at ss b o.place o.key own.wid own.stands in
+    let w = op_at ss b o.place (event.Write o.key own.wid) own.stands in
     record {
       key = w.key;
       wid = own.wid;

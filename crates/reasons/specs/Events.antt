@@ -2,19 +2,17 @@
 use Rattle.std.specs.Prelude.{◌≡◌, ℕ, ◌<◌, ◌==◌, Bool, false, List, slice_get, Some}
 use Rattle.serializability.specs.declared.event.Event.{Event}
 use Rattle.serializability.specs.declared.event.Event.TheVariants as event
-use Rattle.serializability.specs.Log.{Log}
-use Rattle.serializability.specs.Polygraph.{source}
-use Rattle.serializability.specs.Anomalies.{is_write_of}
+use Rattle.serializability.specs.Anomalies.{is_write_of, writes_as}
 
 -- the first is a read that names the second, which is a write
 abbrev pub names : Event → Event → Bool
 names (event.Read x w) e = is_write_of x w e
 names (event.Write x w) e = false
 
--- the operation reads a key that b reads from a
-abbrev pub IsFrom : Log → ℕ → ℕ → Event → Type 0
-IsFrom log a b (event.Read x w) = source log b x ≡ Some a
-IsFrom log a b (event.Write x w) = ⊥
+-- the operation is a read that names one of these
+abbrev pub names_one : List Event → Event → Bool
+names_one writes (event.Read x w) = writes_as x w writes
+names_one writes (event.Write x w) = false
 
 abbrev pub is_read_of : ℕ → Event → Bool
 is_read_of x (event.Read k w) = k == x
@@ -23,9 +21,3 @@ is_read_of x (event.Write k w) = false
 -- none of the operations before place n is such
 pub record NoneBefore (P : Event → Type 0) (ops : List Event) (n : ℕ) : Type 0 where
   pub none : (k : ℕ) (e : Event) → k < n → slice_get ops k ≡ Some e → P e → ⊥
-
--- this one of b is the first that reads a key that b reads from a
-pub record IsFirstFrom (log : Log) (a b n : ℕ) (e : Event) : Type 0 where
-  pub stands : slice_get (log.ops b) n ≡ Some e
-  pub from : IsFrom log a b e
-  pub first : NoneBefore (IsFrom log a b) (log.ops b) n

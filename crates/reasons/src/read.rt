@@ -1,18 +1,17 @@
 //! Reads of a node that name writes of another.
 
-ghost use Rattle.std.specs.Prelude.{◌≡◌, ◌≢◌, ◌<◌, ◌↔◌, IsTrue, length, IfSome, IfNone, position};
+ghost use Rattle.std.specs.Prelude.{◌≡◌, ◌≢◌, IfSome, IfNone, position, ◌==◌, ◌&&◌};
 ghost use Rattle.serializability.specs.Reads.{IsClean};
+ghost use Rattle.serializability.specs.Anomalies.{writes_as};
 ghost use Rattle.log_definitions.specs.Numbers.{IsWellFormedList, log_of};
 ghost use Rattle.reason_laws.specs.Reasons.{IsNode, IsReadBy};
-ghost use Rattle.serializability.specs.Events.{event_key};
 ghost use Rattle.reasons.specs.Events as spec;
-ghost use Rattle.reasons.specs.Events.{IsFrom, NoneBefore, IsFirstFrom};
 ghost use Rattle.reasons.specs.Given.{IsLeastRead, NoneRead};
 ghost use Rattle.reasons.specs.Firsts.{HasSource, IsFirstRead};
 
 use crate::operations::Operations;
 use serializability::{Event, NodeIx};
-use session_history::History;
+use session_history::{History, Written};
 
 /// Whether an operation is a read of the key.
 fn is_read_of(key: usize, event: Event) -> bool
@@ -57,30 +56,48 @@ fn names(read: Event, write: Event) -> bool
     }
 }
 
-/// Whether an operation of `b` reads a key that `b` reads from `a`.
-fn reads_from(history: &History, a: NodeIx, b: NodeIx, event: Event) -> bool
-    requires key { event_key event < (log_of history.now).keys }
-    ensures { IsTrue result ↔ IsFrom (log_of history.now) a b event }
+/// Whether a write is of the node and of the key.
+fn is_of(write: Written, node: NodeIx, key: usize) -> bool
+    ensures { result ≡ ((write.key == key) && (write.node == node)) }
+{
+    write.key == key && write.node == node
+}
+
+/// Whether a node writes the key with this identity.
+fn writes_as(history: &History, node: NodeIx, key: usize, wid: u64) -> bool
+    requires well_formed { IsWellFormedList history.now }
+    requires node { IsNode history.now node }
+    ensures { result ≡ writes_as key wid ((log_of history.now).ops node) }
+{
+    match history.written(wid) {
+        Some(write) => is_of(write, node, key),
+        None => false,
+    }
+}
+
+/// Whether an operation is a read that names a write of the node.
+fn names_one(history: &History, node: NodeIx, event: Event) -> bool
+    requires well_formed { IsWellFormedList history.now }
+    requires node { IsNode history.now node }
+    ensures { result ≡ spec.names_one ((log_of history.now).ops node) event }
 {
     match event {
-        Event::Read { key, .. } => history.source_of(b, key) == Some(a),
+        Event::Read { key, wid } => writes_as(history, node, key, wid),
         Event::Write { .. } => false,
     }
 }
 
-/// The first read of `b` of a key that `b` reads from `a`, which names a write of `a`.
-#[tactic(auto, using(crate::proofs::Ops::key_below_at))]
-fn first_from(history: &History, a: NodeIx, b: NodeIx) -> Option<(usize, Event)>
-    ensures first { IfSome result (λ r. IsFirstFrom (log_of history.now) a b r.0 r.1) }
-    ensures none { let log = log_of history.now in
-        IfNone result (NoneBefore (IsFrom log a b) (log.ops b) (length (log.ops b))) }
+/// The first read of `b` that names a write of `a`.
+fn first_reading(history: &History, a: NodeIx, b: NodeIx) -> Option<usize>
+    requires well_formed { IsWellFormedList history.now }
+    requires node { IsNode history.now a }
+    ensures { result
+        ≡ position (spec.names_one ((log_of history.now).ops a)) ((log_of history.now).ops b) }
 {
-    for (place, event) in history.events_of(b).iter().enumerate() {
-        if reads_from(history, a, b, *event) {
-            return Some((place, *event));
-        }
-    }
-    None
+    history
+        .events_of(b)
+        .iter()
+        .position(|event| names_one(history, a, *event))
 }
 
 /// The first write of the node that this operation, a read, names.
@@ -96,7 +113,6 @@ fn first_named(history: &History, node: NodeIx, read: Event) -> Option<usize>
 /// The first read of `b` that names a write of `a`, and that write.
 pub fn read_by(history: &History, a: NodeIx, b: NodeIx) -> Option<Operations>
     requires well_formed { IsWellFormedList history.now }
-    requires clean { IsClean (log_of history.now) }
     requires first { IsNode history.now a }
     requires second { IsNode history.now b }
     requires apart { a ≢ b }
@@ -104,9 +120,10 @@ pub fn read_by(history: &History, a: NodeIx, b: NodeIx) -> Option<Operations>
     ensures least { IfSome result (λ o. IsLeastRead history.now a o.first b o.second) }
     ensures none { IfNone result (NoneRead history.now a b) }
 {
-    let Some((read, event)) = first_from(history, a, b) else {
+    let Some(read) = first_reading(history, a, b) else {
         return None;
     };
+    let event = history.events_of(b)[read];
     let Some(written) = first_named(history, a, event) else {
         return None;
     };
