@@ -1,10 +1,11 @@
 -- The first item of a list that passes.
-use Rattle.std.proofs.Common.{◌≡◌, ℕ, zero, suc, ◌<◌, ◌≤◌, Bool, true, not, List, [], ◌∷◌, length, None, Some, sym, ap, ◌∙◌, inl, inr, arith, ◌+◌, subst, get_or, lt-ltb, take}
-use Rattle.std.specs.Prelude.{slice_get, nat_lt, position}
+use Rattle.std.proofs.Common.{◌≡◌, ℕ, zero, suc, ◌<◌, ◌≤◌, Bool, true, not, List, [], ◌∷◌, length, Option, None, Some, refl, sym, ap, ◌∙◌, inl, inr, arith, ◌+◌, subst, get_or, lt-ltb, take}
+use Rattle.std.specs.Prelude.{slice_get, nat_lt, position, is_some}
 use Rattle.std.specs.List.{position_or_len, AllByRecursion}
-use Rattle.std.proofs.lemmas.Bool.{false≢true, cond-true, cases_lt, cases_eq, not-false}
+use Rattle.std.proofs.lemmas.Bool.{false≢true, cond-true, cases_lt, cases_eq, not-false, true_from_ne_false}
 use Rattle.std.proofs.lemmas.List.Sums.{prefix_len_passes, prefix_len_stops}
 use Rattle.std.proofs.lemmas.Option.{slice_get_within, slice_get_cases, get_or_from_slice_get}
+use Rattle.list_lemmas.proofs.Options.{none_of}
 use Rattle.session_log.proofs.Lines.{position_some}
 use Rattle.serializability.specs.declared.event.Event.{Event}
 use Rattle.reasons.specs.Events.{NoneBefore}
@@ -46,6 +47,16 @@ none_passes p xs e k y at t =
     let s : position p xs ≡ Some n = cond-true (nat_lt n (length xs)) (Some n) None (lt-ltb n (length xs) lt) in
     let bad : None ≡ Some n = e ∙ s in
     cc
+
+pub some_passes : {X : Type 0} (p : X → Bool) (xs : List X) (k : ℕ) (y : X) → slice_get xs k ≡ Some y → p y ≡ true → is_some (position p xs) ≡ true
+some_passes p xs k y at t = true_from_ne_false (is_some (position p xs)) (λ none. none_passes p xs (sym (none_of (position p xs) none)) k y at t)
+
+pub never_passes : {X : Type 0} (p : X → Bool) (xs : List X) → ((k : ℕ) (y : X) → slice_get xs k ≡ Some y → p y ≡ true → ⊥) → position p xs ≡ None
+never_passes p xs none = go (position p xs) refl
+  where
+    go : (o : Option ℕ) → position p xs ≡ o → o ≡ None
+    go None e = refl
+    go (Some i) e = let f = first_at p xs i (sym e) in absurd (none i f.item f.stands f.passes)
 
 -- ---- a loop that looks for the first operation of a kind
 pub none_yet : (P : Event → Type 0) (ops : List Event) → NoneBefore P ops 0

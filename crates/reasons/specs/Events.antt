@@ -2,17 +2,12 @@
 use Rattle.std.specs.Prelude.{◌≡◌, ℕ, ◌<◌, ◌==◌, Bool, false, List, slice_get, Some}
 use Rattle.serializability.specs.declared.event.Event.{Event}
 use Rattle.serializability.specs.declared.event.Event.TheVariants as event
-use Rattle.serializability.specs.Anomalies.{is_write_of, writes_as}
+use Rattle.serializability.specs.Anomalies.{is_write_of}
 
 -- the first is a read that names the second, which is a write
 abbrev pub names : Event → Event → Bool
 names (event.Read x w) e = is_write_of x w e
 names (event.Write x w) e = false
-
--- the operation is a read that names one of these
-abbrev pub names_one : List Event → Event → Bool
-names_one writes (event.Read x w) = writes_as x w writes
-names_one writes (event.Write x w) = false
 
 abbrev pub is_read_of : ℕ → Event → Bool
 is_read_of x (event.Read k w) = k == x

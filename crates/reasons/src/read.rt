@@ -1,6 +1,6 @@
 //! Reads of a node that name writes of another.
 
-ghost use Rattle.std.specs.Prelude.{◌≡◌, ◌≢◌, IfSome, IfNone, position, ◌==◌, ◌&&◌};
+ghost use Rattle.std.specs.Prelude.{IsTrue, not, None, is_some, ◌≡◌, ◌≢◌, IfSome, IfNone, position, ◌==◌, ◌&&◌};
 ghost use Rattle.serializability.specs.Reads.{IsClean};
 ghost use Rattle.serializability.specs.Anomalies.{writes_as};
 ghost use Rattle.log_definitions.specs.Numbers.{IsWellFormedList, log_of};
@@ -56,58 +56,48 @@ fn names(read: Event, write: Event) -> bool
     }
 }
 
-/// Whether a write is of the node and of the key.
-fn is_of(write: Written, node: NodeIx, key: usize) -> bool
-    ensures { result ≡ ((write.key == key) && (write.node == node)) }
-{
-    write.key == key && write.node == node
-}
-
-/// Whether a node writes the key with this identity.
-fn writes_as(history: &History, node: NodeIx, key: usize, wid: u64) -> bool
+/// Whether an operation is a read that may name a write of the node.
+fn may_name(history: &History, node: NodeIx, event: Event) -> bool
     requires well_formed { IsWellFormedList history.now }
     requires node { IsNode history.now node }
-    ensures { result ≡ writes_as key wid ((log_of history.now).ops node) }
-{
-    match history.written(wid) {
-        Some(write) => is_of(write, node, key),
-        None => false,
-    }
-}
-
-/// Whether an operation is a read that names a write of the node.
-fn names_one(history: &History, node: NodeIx, event: Event) -> bool
-    requires well_formed { IsWellFormedList history.now }
-    requires node { IsNode history.now node }
-    ensures { result ≡ spec.names_one ((log_of history.now).ops node) event }
+    ensures { IsTrue (not result) →
+        position (spec.names event) ((log_of history.now).ops node) ≡ None }
 {
     match event {
-        Event::Read { key, wid } => writes_as(history, node, key, wid),
+        Event::Read { wid, .. } => match history.written(wid) {
+            Some(write) => write.node == node,
+            None => false,
+        },
         Event::Write { .. } => false,
     }
+}
+
+/// The first write of the node that this operation, a read, names.
+fn first_named(history: &History, node: NodeIx, read: Event) -> Option<usize>
+    requires well_formed { IsWellFormedList history.now }
+    requires node { IsNode history.now node }
+    ensures { result ≡ position (spec.names read) ((log_of history.now).ops node) }
+{
+    if !may_name(history, node, read) {
+        return None;
+    }
+    history
+        .events_of(node)
+        .iter()
+        .position(|write| names(read, *write))
 }
 
 /// The first read of `b` that names a write of `a`.
 fn first_reading(history: &History, a: NodeIx, b: NodeIx) -> Option<usize>
     requires well_formed { IsWellFormedList history.now }
     requires node { IsNode history.now a }
-    ensures { result
-        ≡ position (spec.names_one ((log_of history.now).ops a)) ((log_of history.now).ops b) }
+    ensures { let log = log_of history.now in result
+        ≡ position (λ e. is_some (position (spec.names e) (log.ops a))) (log.ops b) }
 {
     history
         .events_of(b)
         .iter()
-        .position(|event| names_one(history, a, *event))
-}
-
-/// The first write of the node that this operation, a read, names.
-fn first_named(history: &History, node: NodeIx, read: Event) -> Option<usize>
-    ensures { result ≡ position (spec.names read) ((log_of history.now).ops node) }
-{
-    history
-        .events_of(node)
-        .iter()
-        .position(|write| names(read, *write))
+        .position(|event| first_named(history, a, *event).is_some())
 }
 
 /// The first read of `b` that names a write of `a`, and that write.

@@ -8,7 +8,7 @@ pub returns-in_default-first_named-clause-none : goal.returns-in_default-first_n
 returns-in_default-first_named-clause-none c = absurd (some_named c.args.history.now c.args.a c.args.b c.in-Some.read c.events_of.result.now c.events_of.ensures.events c.in-Some.ensures c.in_default-first_named.ensures)
 
 pub returns-clause-is : goal.returns-clause-is
-returns-clause-is c = is_read c.args.history.now c.args.a c.args.b c.in-Some.read c.events_of.result.now c.events_of.ensures.events c.in-Some.ensures c.in-Some-first_named.written c.requires.first c.requires.second c.requires.apart c.in-Some-first_named.ensures
+returns-clause-is c = is_read c.args.history.now c.args.a c.args.b c.in-Some.read c.events_of.result.now c.events_of.ensures.events c.in-Some.ensures c.in-Some-first_named.written c.in-Some-first_named.ensures c.requires.first c.requires.second c.requires.apart
 
 pub returns-clause-least : goal.returns-clause-least
 returns-clause-least c = least_read c.args.history.now c.args.a c.args.b c.in-Some.read c.events_of.result.now c.events_of.ensures.events c.in-Some.ensures c.in-Some-first_named.written c.in-Some-first_named.ensures
