@@ -26,10 +26,9 @@ use Rattle.reason_laws.proofs.Numbers.{wrote, source_of_read, within, node_from,
 use Rattle.reasons.specs.declared.operations.KeyWrite.{KeyWrite}
 use Rattle.reasons.specs.Firsts.{IsFirstRead}
 use Rattle.reasons.specs.Events.{NoneBefore}
-use Rattle.reasons.specs.Initials.{IsBackIn, IsOfInitial, FollowsInitial, IsBegun, IsBeginning, BeginsAt, ArePlain}
+use Rattle.reasons.specs.Initials.{IsBackIn, FollowsInitial, IsBegun, IsBeginning, BeginsAt, ArePlain}
 use Rattle.reasons.specs.Given.{IsLeastInitial, NoneInitial}
 use Rattle.reasons.proofs.Positions.{not_before}
-use Rattle.reasons.proofs.Walked.{one_on}
 use Rattle.reasons.proofs.Ops.{event_at, op_at}
 
 -- ---- links, one after the other
@@ -64,46 +63,42 @@ initial_is ss clean a b read o first second g r =
     let x = number_in (keys_in ss) write.key in
     let begun = subst (IsBegun (log_of ss) a b) {y = x} (sym write.number) g.begun in
     let f = begun.1 in
-    let from = source_is (log_of ss) clean a x f.from first.0 (within ss a first) f.reads in
-    let t = trail ss clean write.key f.initial.steps f.from from.w (source_within (log_of ss) a x f.from f.reads) from.final f.initial.back in
+    let u = f.back.0 in
+    let reads = f.back.1.0 in
+    let from = source_is (log_of ss) clean a x u first.0 (within ss a first) reads in
+    let t = trail ss clean write.key f.steps u from.w (source_within (log_of ss) a x u reads) from.final f.back.1.1 in
     record {
       first = first;
       second = second;
-      apart = apart_where (log_of ss) a b x f.from begun.0 f.reads;
+      apart = apart_where (log_of ss) a b x u begun.0 reads;
       key = write.key;
       wid = g.wid;
       links = t.links;
       linked = t.linked;
-      reads = subst (ReadsAt ss a read write.key) (sym t.left) ((subst (λ n. IsFirstRead ss a n read) {y = x} (sym write.number) r).reads write.key f.from from.w refl f.reads from.final);
+      reads = subst (ReadsAt ss a read write.key) (sym t.left) ((subst (λ n. IsFirstRead ss a n read) {y = x} (sym write.number) r).reads write.key u from.w refl reads from.final);
       writes = write.stands;
       unread = λ i v r. read_some ss clean b i write.key v second r begun.0;
     }
 
 -- ---- from the sessions
-follows_read : (ss : List ClientSession) → IsClean (log_of ss) → (key : List ℕ) (v i wid u : ℕ) → IsNode ss v → ReadsAt ss v i key wid → IsFinal (log_of ss) u (number_in (keys_in ss) key) wid → IsOfInitial (log_of ss) (number_in (keys_in ss) key) u → FollowsInitial (log_of ss) (number_in (keys_in ss) key) v
-follows_read ss clean key v i wid u node r final h = record { from = u; reads = source_of_read ss clean v i key wid u node r final; initial = h }
-
 link_final : (ss : List ClientSession) (key : List ℕ) (wid : ℕ) (l : Link) (ls : List Link) → AreLinked ss key wid (l ∷ ls) → IsFinal (log_of ss) l.node (number_in (keys_in ss) key) l.wid
 link_final ss key wid l ls linked = inr (linked.0.0, within ss l.node linked.0, final_at ss l.node l.write key l.wid linked.1.1.0)
 
 record EndsIn (log : Log) (x wid : ℕ) : Type 0 where
   pub node : ℕ
   pub final : IsFinal log node x wid
-  pub initial : IsOfInitial log x node
+  pub steps : ℕ
+  pub back : IsBackIn log x steps node
 
-end_of : (ss : List ClientSession) → IsClean (log_of ss) → (key : List ℕ) (wid u : ℕ) (links : List Link) → AreLinked ss key wid links → IsFinal (log_of ss) u (number_in (keys_in ss) key) wid → IsOfInitial (log_of ss) (number_in (keys_in ss) key) u → EndsIn (log_of ss) (number_in (keys_in ss) key) (left_by wid links)
-end_of ss clean key wid u [] linked final h = record { node = u; final = final; initial = h }
-end_of ss clean key wid u (l ∷ ls) linked final h =
-    end_of ss clean key l.wid l.node ls linked.1.1.1 (link_final ss key wid l ls linked)
-    (one_on (log_of ss) (number_in (keys_in ss) key) l.node u (source_of_read ss clean l.node l.read key wid u linked.0 linked.1.0 final) h)
+end_of : (ss : List ClientSession) → IsClean (log_of ss) → (key : List ℕ) (wid : ℕ) (links : List Link) → AreLinked ss key wid links → EndsIn (log_of ss) (number_in (keys_in ss) key) wid → EndsIn (log_of ss) (number_in (keys_in ss) key) (left_by wid links)
+end_of ss clean key wid [] linked h = h
+end_of ss clean key wid (l ∷ ls) linked h =
+    end_of ss clean key l.wid ls linked.1.1.1 (record { node = l.node; final = link_final ss key wid l ls linked; steps = suc h.steps; back = (h.node, (source_of_read ss clean l.node l.read key wid h.node linked.0 linked.1.0 h.final, h.back)) })
 
 follows_links : (ss : List ClientSession) → IsClean (log_of ss) → (a i b j : ℕ) (r : IsOfInitialBefore ss a i b j) → FollowsInitial (log_of ss) (number_in (keys_in ss) r.key) a
 follows_links ss clean a i b j r =
-    let x = number_in (keys_in ss) r.key in
-    let zero_final : IsFinal (log_of ss) 0 x 0 = inl (refl, refl) in
-    let zero_initial : IsOfInitial (log_of ss) x 0 = record { steps = 0; back = refl } in
-    let t = end_of ss clean r.key 0 0 r.links r.linked zero_final zero_initial in
-    follows_read ss clean r.key a i (left_by 0 r.links) t.node r.first r.reads t.final t.initial
+    let t = end_of ss clean r.key 0 r.links r.linked (record { node = 0; final = inl (refl, refl); steps = 0; back = refl }) in
+    record { steps = t.steps; back = (t.node, (source_of_read ss clean a i r.key (left_by 0 r.links) t.node r.first r.reads t.final, t.back)) }
 
 begun : (ss : List ClientSession) → IsClean (log_of ss) → (a i b j : ℕ) (r : IsOfInitialBefore ss a i b j) → IsBegun (log_of ss) a b (number_in (keys_in ss) r.key)
 begun ss clean a i b j r = (unread_source ss clean b r.key r.second.0 (within ss b r.second) r.unread, follows_links ss clean a i b j r)

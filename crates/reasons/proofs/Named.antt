@@ -1,5 +1,5 @@
 -- A read that names a write.
-use Rattle.std.proofs.Common.{◌≡◌, ◌≢◌, ◌<◌, ◌≤◌, ℕ, true, false, eqb, ◌&&◌, List, ◌∷◌, ◌++◌, Option, Some, None, refl, sym, ap, ◌∙◌, subst, inl, inr, eqb-true, eq-eqb, arith, get_or}
+use Rattle.std.proofs.Common.{◌≡◌, ◌≢◌, ◌<◌, ◌≤◌, ℕ, true, false, List, Option, Some, None, sym, ap, ◌∙◌, subst, inl, inr, get_or}
 use Rattle.std.specs.Prelude.{slice_get, position, is_some}
 use Rattle.std.proofs.lemmas.Option.{get_or_from_slice_get}
 use Rattle.std.proofs.lemmas.Bool.{false≢true}
@@ -13,7 +13,6 @@ use Rattle.serializability.specs.Log.{Log}
 use Rattle.serializability.specs.Reads.{WritesAfter, IsNumbered}
 use Rattle.log_definitions.proofs.Numbered.{numbered}
 use Rattle.reason_laws.proofs.Numbers.{within}
-use Rattle.serializability.specs.Anomalies.{is_write_of}
 use Rattle.serializability.proofs.Sources.{is_write, is_write-self}
 use Rattle.log_definitions.specs.WellFormed.{keys_in}
 use Rattle.log_definitions.specs.Numbers.{number_in, IsWellFormedList, log_of}

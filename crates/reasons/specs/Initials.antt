@@ -13,16 +13,10 @@ abbrev pub IsBackIn : Log → ℕ → ℕ → ℕ → Type 0
 IsBackIn log x zero v = v ≡ 0
 IsBackIn log x (suc steps) v = (u : ℕ) × ((source log v x ≡ Some u) × IsBackIn log x steps u)
 
--- v is node 0, or a writer of the chain that begins with it, or reads from one of these
-pub record IsOfInitial (log : Log) (x v : ℕ) : Type 0 where
-  pub steps : ℕ
-  pub back : IsBackIn log x steps v
-
--- v reads the key from one of these
+-- v reads the key from node 0, or from a writer of the chain that begins with it
 pub record FollowsInitial (log : Log) (x v : ℕ) : Type 0 where
-  pub from : ℕ
-  pub reads : source log v x ≡ Some from
-  pub initial : IsOfInitial log x from
+  pub steps : ℕ
+  pub back : IsBackIn log x (suc steps) v
 
 -- b reads the key from nobody, and a follows its initial value
 abbrev pub IsBegun : Log → ℕ → ℕ → ℕ → Type 0

@@ -1,13 +1,12 @@
 //! Writes of a node that begin a chain behind that of a key's initial value.
 
-ghost use Rattle.std.specs.Prelude.{◌≡◌, ◌<◌, ◌≤◌, ◌↔◌, IsTrue, true, length, IfSome, IfNone, IfOk};
+ghost use Rattle.std.specs.Prelude.{◌<◌, ◌↔◌, IsTrue, length, IfSome, IfNone, IfOk};
 ghost use Rattle.serializability.specs.Reads.{IsClean};
 ghost use Rattle.log_definitions.specs.Numbers.{log_of};
-ghost use Rattle.chain_laws.specs.Chains.{writes};
 ghost use Rattle.serializability.specs.Events.{event_key};
 ghost use Rattle.reason_laws.specs.Reasons.{IsNode, IsOfInitialBefore};
 ghost use Rattle.reasons.specs.Events.{NoneBefore};
-ghost use Rattle.reasons.specs.Initials.{IsOfInitial, FollowsInitial, IsBegun, IsBeginning};
+ghost use Rattle.reasons.specs.Initials.{FollowsInitial, IsBegun, IsBeginning};
 ghost use Rattle.reasons.specs.Initials.{BeginsAt, ArePlain};
 ghost use Rattle.reasons.specs.Given.{IsLeastInitial, NoneInitial};
 
@@ -17,43 +16,22 @@ use serializability::{Event, NodeIx};
 use session_history::History;
 use std::alloc::{AllocError, Global};
 
-/// Whether the chain of this writer of the key begins with node 0, which one that closes on itself
-/// does not. It takes as many steps as writers stand before it there.
-fn is_of_initial(history: &History, key: usize, writer: NodeIx) -> bool
-    requires clean { IsClean (log_of history.now) }
-    requires key { key < (log_of history.now).keys }
-    requires writer { (0 < writer) × (writer ≤ (log_of history.now).nodes)
-        × (writes (log_of history.now) key writer ≡ true) }
-    ensures { IsTrue result ↔ IsOfInitial (log_of history.now) key writer }
-{
-    let mut first = writer;
-    for step in 0..history.committed() + 1 {
-        let Some(source) = history.source_of(first, key) else {
-            return false;
-        };
-        if source == NodeIx::INITIAL {
-            return true;
-        }
-        // The chain closes on itself, and never comes to node 0.
-        if source == writer {
-            break;
-        }
-        first = source;
-    }
-    false
-}
-
-/// Whether a node reads the key from the chain of its initial value.
+/// Whether a node reads the key from the chain of its initial value. The walk back to it has no
+/// more nodes than write the key.
 fn follows_initial(history: &History, key: usize, node: NodeIx) -> bool
     requires clean { IsClean (log_of history.now) }
     requires key { key < (log_of history.now).keys }
     requires node { IsNode history.now node }
     ensures { IsTrue result ↔ FollowsInitial (log_of history.now) key node }
 {
-    match history.source_of(node, key) {
-        Some(source) => source == NodeIx::INITIAL || is_of_initial(history, key, source),
-        None => false,
+    let mut first = node;
+    for step in 0..history.writers_of(key).len() + 2 {
+        match history.source_of(first, key) {
+            Some(source) => first = source,
+            None => return first == NodeIx::INITIAL,
+        }
     }
+    false
 }
 
 /// Whether `b`, where it writes the key, begins a chain behind that of the initial value, which `a`

@@ -1,8 +1,7 @@
 //! Reads of a node that name writes of another.
 
-ghost use Rattle.std.specs.Prelude.{IsTrue, not, None, is_some, ◌≡◌, ◌≢◌, IfSome, IfNone, position, ◌==◌, ◌&&◌};
+ghost use Rattle.std.specs.Prelude.{IsTrue, not, None, is_some, ◌≡◌, ◌≢◌, IfSome, IfNone, position, ◌==◌};
 ghost use Rattle.serializability.specs.Reads.{IsClean};
-ghost use Rattle.serializability.specs.Anomalies.{writes_as};
 ghost use Rattle.log_definitions.specs.Numbers.{IsWellFormedList, log_of};
 ghost use Rattle.reason_laws.specs.Reasons.{IsNode, IsReadBy};
 ghost use Rattle.reasons.specs.Events as spec;
@@ -11,7 +10,7 @@ ghost use Rattle.reasons.specs.Firsts.{HasSource, IsFirstRead};
 
 use crate::operations::Operations;
 use serializability::{Event, NodeIx};
-use session_history::{History, Written};
+use session_history::History;
 
 /// Whether an operation is a read of the key.
 fn is_read_of(key: usize, event: Event) -> bool

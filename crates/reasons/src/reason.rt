@@ -1,6 +1,6 @@
 //! Why a node stands before another in each serial order.
 
-ghost use Rattle.std.specs.Prelude.{◌≡◌, ◌<◌, ◌≤◌, ◌≢◌, ◌↔◌, IsTrue, IfSome, IfNone, IfOk};
+ghost use Rattle.std.specs.Prelude.{◌<◌, ◌≤◌, ◌≢◌, ◌↔◌, IsTrue, IfSome, IfNone, IfOk};
 ghost use Rattle.serializability.specs.Reads.{IsClean};
 ghost use Rattle.log_definitions.specs.Numbers.{log_of};
 ghost use Rattle.reason_laws.specs.Reasons.{IsNode, EndsBefore};

@@ -1,6 +1,6 @@
 //! Lines of nodes of which each run of one session is told by its ends.
 
-ghost use Rattle.std.specs.Prelude.{◌≡◌, ◌≢◌, IfOk};
+ghost use Rattle.std.specs.Prelude.{◌≡◌, IfOk};
 ghost use Rattle.reasons.specs.Runs as spec;
 
 use serializability::NodeIx;

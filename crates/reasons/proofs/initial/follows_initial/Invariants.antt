@@ -1,0 +1,6 @@
+use Rattle.log_definitions.specs.Numbers.{log_of}
+use Rattle.reasons.proofs.Walked.{Walked}
+use Rattle.reasons.proofs.initial.follows_initial.Given as goal
+
+abbrev pub invariant-loop-step : goal.invariant-loop-step
+invariant-loop-step l = Walked (log_of l.history) l.key l.fn.node l.first l.step
