@@ -1,148 +1,129 @@
 -- Four nodes that read all four pairs, found among what the readers of a key read.
-use Rattle.std.proofs.Common.{◌≡◌, ◌≢◌, ◌⊎◌, ℕ, ◌+◌, ◌<◌, Bool, true, false, List, [], ◌∷◌, ◌++◌, Option, None, Some, refl, sym, ap, ◌∙◌, subst, inl, inr, arith, eqb, eqb-true, eq-eqb, cond}
-use Rattle.std.specs.Prelude.{is_some}
-use Rattle.std.specs.Option.{option_map, option_and_then}
+use Rattle.std.proofs.Common.{◌≡◌, ◌≢◌, ◌⊎◌, ℕ, ◌+◌, ◌<◌, Bool, true, false, List, [], ◌∷◌, ◌++◌, Option, None, Some, refl, sym, ap, ◌∙◌, subst, inl, inr, arith, eqb, eq-eqb, cond}
+use Rattle.std.specs.Prelude.{is_some, map}
+use Rattle.std.specs.Option.{option_map}
 use Rattle.std.specs.List.{Contains}
-use Rattle.std.specs.Ordering.{is_eq}
+use Rattle.std.specs.Cmp.{IsTotalOrder}
+use Rattle.std.specs.Ordering.{is_eq, nat_cmp}
 use Rattle.std.specs.declared.cmp.Ordering.{Ordering}
 use Rattle.std.specs.declared.cmp.Ordering.TheVariants.{Less, Equal, Greater}
-use Rattle.std.specs.BTreeMap.{BTreeMap, get, is_at, Updates}
-use Rattle.std.specs.Ordering.{nat_cmp}
+use Rattle.std.specs.BTreeMap.{BTreeMap, get, is_at, Updates, IsFromIterResult}
+use Rattle.std.proofs.lemmas.Cmp.{nat_cmp_total, on_total, then_total}
 use Rattle.std.proofs.lemmas.Bool.{cases_eq, ne_eqb, false≢true}
-use Rattle.std.proofs.lemmas.List.Elements.{Contains-push, Contains-push_cases, Contains-append_left}
-use Rattle.std.proofs.lemmas.Map.Lookups.{exact_unsigned, exact_pairs}
+use Rattle.std.proofs.lemmas.List.Elements.{Contains-push_cases}
+use Rattle.std.proofs.lemmas.Map.Lookups.{CmpEqualImpliesEq, exact_unsigned, exact_pairs}
+use Rattle.std.proofs.lemmas.Map.Views.{IfSome-btree_map_get_from_list, btree_map_contains_key_from_list}
+use Rattle.list_lemmas.proofs.Each.{member, each_member}
+use Rattle.list_lemmas.proofs.Elements.{mapped}
+use Rattle.list_lemmas.proofs.Options.{some_of}
 use Rattle.serializability.specs.Log.{Log}
 use Rattle.serializability.specs.Reads.{IsClean, IsFinal}
+use Rattle.serializability.proofs.Places.{each_from_map}
 use Rattle.serializability.proofs.Sources.{source_is}
 use Rattle.session_history.specs.Tables.{writers_in}
 use Rattle.write_chains.proofs.Nexts.{writer_among}
 use Rattle.reasons.specs.declared.crossings.Pair.{Pair}
+use Rattle.reasons.specs.declared.crossings.Shared.{Shared}
 use Rattle.reasons.specs.declared.crossings.Square.{Square}
-use Rattle.reasons.specs.Squares.{ReadsBoth, IsSquare, NoSquare, pair, ArePairs, IsSquareOf, NoSquareOf, pair_cmp, IsIndex, read_at, met_at, square_of}
+use Rattle.reasons.specs.Squares.{ReadsBoth, IsSquare, NoSquare, pair, ArePairs, IsSquareOf, NoSquareOf, pair_cmp, triple_cmp, by_versions, AreReaders, shared_by, HasEntered}
 
--- ---- a pair more in an index
+-- ---- the index of readers
+triples_total : IsTotalOrder triple_cmp
+triples_total = then_total (on_total (λ (k : ℕ × (ℕ × ℕ)). k.0) nat_cmp_total) (then_total (on_total (λ (k : ℕ × (ℕ × ℕ)). k.1.0) nat_cmp_total) (on_total (λ (k : ℕ × (ℕ × ℕ)). k.1.1) nat_cmp_total))
+
+triples_exact : CmpEqualImpliesEq triple_cmp
+triples_exact = exact_pairs nat_cmp pair_cmp exact_unsigned (exact_pairs nat_cmp nat_cmp exact_unsigned exact_unsigned)
+
+pub are_readers : (pairs : List Pair) (m : BTreeMap (ℕ × (ℕ × ℕ)) ℕ) → IsFromIterResult triple_cmp (map by_versions pairs) m → AreReaders pairs (get triple_cmp m)
+are_readers pairs m made = record {
+  sound = λ u y w r e.
+      (let entry = rw e at (IfSome-btree_map_get_from_list triples_total triples_exact (map by_versions pairs) m made (u, (y, w))) in
+      let P : (ℕ × (ℕ × ℕ)) × ℕ → Type 0 = λ e. Contains pairs (pair e.1 e.0.0 e.0.1.0 e.0.1.1) in
+      member P (map by_versions pairs) ((u, (y, w)), r) (each_from_map P by_versions pairs (each_member (Contains pairs) pairs (λ p c. c))) entry);
+  all = λ r u y w c.
+      (let at = (btree_map_contains_key_from_list triples_total triples_exact (map by_versions pairs) m made (u, (y, w))).1 (mapped (λ (e : (ℕ × (ℕ × ℕ)) × ℕ). e.0) (map by_versions pairs) ((u, (y, w)), r) (mapped by_versions pairs (pair r u y w) c)) in
+      some_of (get triple_cmp m (u, (y, w))) at);
+}
+
+-- ---- a place more
 is_equal : (o : Ordering) → is_eq o ≡ true → o ≡ Equal
 is_equal Less e = absurd (false≢true e)
 is_equal Equal e = refl
 is_equal Greater e = absurd (false≢true e)
 
-put_at : (f g : ℕ × ℕ → Option Pair) (k q : ℕ × ℕ) (p : Pair) (b : Bool) → is_at (pair_cmp k) q ≡ b → g q ≡ cond b (Some p) (f q) → (k ≡ q) ⊎ (g q ≡ f q)
-put_at f g k q p true is e = inl (exact_pairs nat_cmp nat_cmp exact_unsigned exact_unsigned k q (is_equal (pair_cmp k q) is))
-put_at f g k q p false is e = inr e
+put_at : (f g : ℕ × ℕ → Option Shared) (k q : ℕ × ℕ) (s : Shared) (b : Bool) → is_at (pair_cmp k) q ≡ b → f k ≡ None → g q ≡ cond b (Some s) (f q) → (g q ≡ f q) ⊎ ((q ≡ k) × ((f q ≡ None) × (g q ≡ Some s)))
+put_at f g k q s true is none e =
+    let same : k ≡ q = exact_pairs nat_cmp nat_cmp exact_unsigned exact_unsigned k q (is_equal (pair_cmp k q) is) in
+    inr (sym same, (ap f (sym same) ∙ none, e))
+put_at f g k q s false is none e = inl e
 
-pub index_put : (at : Pair → Option (ℕ × ℕ)) (front : List Pair) (p : Pair) (k : ℕ × ℕ) (m n : BTreeMap (ℕ × ℕ) Pair) → at p ≡ Some k → Updates pair_cmp m n k (Some p) → IsIndex at front (get pair_cmp m) → IsIndex at (front ++ p ∷ []) (get pair_cmp n)
-index_put at front p k m n own u h = record {
-  sound = λ q r e. elim (cases q) [
-    | inl same ↦
-        let found : Some p ≡ Some r = sym u.1 ∙ ap (get pair_cmp n) same ∙ e in
-        let item : p ≡ r = cc in
-        (subst (Contains (front ++ p ∷ [])) item (Contains-push front p), ap at (sym item) ∙ own ∙ ap Some same)
-    | inr old ↦ let s = h.sound q r (sym old ∙ e) in (Contains-append_left front (p ∷ []) r s.0, s.1)
-  ];
-  all = λ q r c e. elim (cases q) [
-    | inl same ↦ (p, ap (get pair_cmp n) (sym same) ∙ u.1)
-    | inr old ↦ elim (Contains-push_cases front p r c) [
-      | inl c ↦ let s = h.all q r c e in (s.0, old ∙ s.1)
-      | inr item ↦ let same : k ≡ q = cc (ap at item) in (p, ap (get pair_cmp n) (sym same) ∙ u.1)
-    ]
-  ];
-}
-  where
-    cases : (q : ℕ × ℕ) → (k ≡ q) ⊎ (get pair_cmp n q ≡ get pair_cmp m q)
-    cases q = put_at (get pair_cmp m) (get pair_cmp n) k q p (is_at (pair_cmp k) q) refl (u.0 q)
-
-pub index_passed : (at : Pair → Option (ℕ × ℕ)) (front : List Pair) (p : Pair) (f : ℕ × ℕ → Option Pair) → at p ≡ None → IsIndex at front f → IsIndex at (front ++ p ∷ []) f
-index_passed at front p f none h = record {
-  sound = λ k q e. (let s = h.sound k q e in (Contains-append_left front (p ∷ []) q s.0, s.1));
-  all = λ k q c e. elim (Contains-push_cases front p q c) [
-    | inl c ↦ h.all k q c e
-    | inr item ↦ absurd (let bad : None ≡ Some k = sym none ∙ ap at item ∙ e in cc)
-  ];
+pub has_entered : (k : ℕ × ℕ) (now : Shared) (m n : BTreeMap (ℕ × ℕ) Shared) → get pair_cmp m k ≡ None → Updates pair_cmp m n k (Some now) → HasEntered (get pair_cmp m) (get pair_cmp n) k now
+has_entered k now m n none u = record {
+  here = (now, (u.1, refl));
+  cases = λ q. put_at (get pair_cmp m) (get pair_cmp n) k q now (is_at (pair_cmp k) q) refl none (u.0 q);
 }
 
 -- ---- two versions that are read beside both
-same_pair : (p : Pair) (u y w : ℕ) → p.version ≡ u → p.key ≡ y → p.source ≡ w → p ≡ pair p.reader u y w
-same_pair p u y w a b c = ap (λ n. pair p.reader n p.key p.source) a ∙ ap (λ n. pair p.reader u n p.source) b ∙ ap (pair p.reader u y) c
+-- at this place, a version and a key, is what is read beside both versions
+pub record IsShared (pairs : List Pair) (u : ℕ) (k : ℕ × ℕ) (s : Shared) : Type 0 where
+  pub apart : k.0 ≢ u
+  pub one : Contains pairs (pair s.one u k.1 s.source)
+  pub two : Contains pairs (pair s.two k.0 k.1 s.source)
 
-read_at_is : (u y w : ℕ) (p : Pair) (b : Bool) → eqb p.version u ≡ b → cond {A = Option (ℕ × ℕ)} b (Some (p.key, p.source)) None ≡ Some (y, w) → p ≡ pair p.reader u y w
-read_at_is u y w p true t e =
-    let same : ◌≡◌ {A = ℕ × ℕ} (p.key, p.source) (y, w) = cc in
-    same_pair p u y w (eqb-true p.version u t) (ap (λ (k : ℕ × ℕ). k.0) same) (ap (λ (k : ℕ × ℕ). k.1) same)
-read_at_is u y w p false t e = cc
+pub record IsMet (pairs : List Pair) (readers : ℕ × (ℕ × ℕ) → Option ℕ) (u : ℕ) (front : List Pair) (met : ℕ × ℕ → Option Shared) : Type 0 where
+  pub sound : (k : ℕ × ℕ) (s : Shared) → met k ≡ Some s → IsShared pairs u k s
+  pub all : (p : Pair) (s : Shared) → Contains front p → shared_by readers u p ≡ Some s → (t : Shared) × ((met (p.version, p.key) ≡ Some t) × (t.source ≡ s.source))
 
-record IsMet (u v y : ℕ) (beside : ℕ × ℕ → Option Pair) (q : Pair) : Type 0 where
-  apart : v ≢ u
-  item : q ≡ pair q.reader v y q.source
-  before : Pair
-  is : beside (y, q.source) ≡ Some before
-
-met_at_is : (u v y : ℕ) (beside : ℕ × ℕ → Option Pair) (q : Pair) (b : Bool) (o : Option Pair) → eqb q.version u ≡ b → beside (q.key, q.source) ≡ o → cond {A = Option (ℕ × ℕ)} b None (option_map (λ r. (q.version, q.key)) o) ≡ Some (v, y) → IsMet u v y beside q
-met_at_is u v y beside q true o t is e = cc
-met_at_is u v y beside q false None t is e = cc
-met_at_is u v y beside q false (Some before) t is e =
-    let same : ◌≡◌ {A = ℕ × ℕ} (q.version, q.key) (v, y) = cc in
-    let version = ap (λ (k : ℕ × ℕ). k.0) same in
-    let key = ap (λ (k : ℕ × ℕ). k.1) same in
-    record {
-      apart = λ same. false≢true (sym t ∙ eq-eqb q.version u (version ∙ same));
-      item = same_pair q v y q.source version key refl;
-      before = before;
-      is = ap (λ n. beside (n, q.source)) (sym key) ∙ is;
-    }
-
-module _ (pairs : List Pair) (u x : ℕ) (beside met : ℕ × ℕ → Option Pair) (b : IsIndex (read_at u) pairs beside) (m : IsIndex (met_at u beside) pairs met) where
-  beside_is : (y w : ℕ) (p : Pair) → beside (y, w) ≡ Some p → Contains pairs (pair p.reader u y w)
-  beside_is y w p e = let s = b.sound (y, w) p e in subst (Contains pairs) (read_at_is u y w p (eqb p.version u) refl s.1) s.0
-
-  met_is : (v y : ℕ) (q : Pair) → met (v, y) ≡ Some q → IsMet u v y beside q × Contains pairs q
-  met_is v y q e = let s = m.sound (v, y) q e in (met_at_is u v y beside q (eqb q.version u) (beside (q.key, q.source)) refl refl s.1, s.0)
-
-  made : Pair → Pair → Pair → Pair → Square
-  made p now other before = record { first = x; second = p.key; one_one = now.reader; one_two = before.reader; two_one = p.reader; two_two = other.reader }
-
-  found_at : (p now other : Pair) (s : Square) (t : Bool) (o : Option Pair) → Contains pairs p → beside (p.key, p.source) ≡ Some now → met (p.version, p.key) ≡ Some other → eqb other.source p.source ≡ t → beside (p.key, other.source) ≡ o → Some s ≡ cond t None (option_map (made p now other) o) → (s.first ≡ x) × IsSquareOf pairs u s
-  unfolding made
-  found_at p now other s true o c e f t g h = cc
-  found_at p now other s false None c e f t g h = cc
-  found_at p now other s false (Some before) c e f t g h =
-      let q = met_is p.version p.key other f in
-      let same : made p now other before ≡ s = cc in
-      let is : IsSquareOf pairs u (made p now other before) = record {
-        two = p.version;
-        apart = q.0.apart;
-        this = p.source;
-        that = other.source;
-        apart_too = λ e. false≢true (sym t ∙ eq-eqb other.source p.source (sym e));
-        one_one = beside_is p.key p.source now e;
-        one_two = beside_is p.key other.source before g;
-        two_one = c;
-        two_two = subst (Contains pairs) q.0.item q.1;
-      } in
-      subst (λ s. (s.first ≡ x) × IsSquareOf pairs u s) same (refl, is)
-
-  pub found : (p : Pair) (s : Square) → Contains pairs p → Some s ≡ square_of x beside met p → (s.first ≡ x) × IsSquareOf pairs u s
-  unfolding made
-  found p s c h = go (beside (p.key, p.source)) (met (p.version, p.key)) refl refl h
+module _ (pairs : List Pair) (readers : ℕ × (ℕ × ℕ) → Option ℕ) (are : AreReaders pairs readers) (u : ℕ) where
+  shared_is : (p : Pair) (s : Shared) → Contains pairs p → shared_by readers u p ≡ Some s → IsShared pairs u (p.version, p.key) s
+  shared_is p s c e = go (eqb p.version u) (readers (u, (p.key, p.source))) refl refl e
     where
-      go : (o q : Option Pair) → beside (p.key, p.source) ≡ o → met (p.version, p.key) ≡ q → Some s ≡ option_and_then (λ now. option_and_then (λ other. cond (eqb other.source p.source) None (option_map (made p now other) (beside (p.key, other.source)))) q) o → (s.first ≡ x) × IsSquareOf pairs u s
-      go None q e f h = cc
-      go (Some now) None e f h = cc
-      go (Some now) (Some other) e f h = found_at p now other s (eqb other.source p.source) (beside (p.key, other.source)) c e f refl refl h
+      go : (b : Bool) (o : Option ℕ) → eqb p.version u ≡ b → readers (u, (p.key, p.source)) ≡ o → cond b None (option_map (λ q. record { one = q; two = p.reader; source = p.source }) o) ≡ Some s → IsShared pairs u (p.version, p.key) s
+      go true o t is e = cc
+      go false None t is e = cc
+      go false (Some q) t is e =
+          let own : IsShared pairs u (p.version, p.key) (record { one = q; two = p.reader; source = p.source }) = record {
+            apart = λ same. false≢true (sym t ∙ eq-eqb p.version u same);
+            one = are.sound u p.key p.source q is;
+            two = c;
+          } in
+          subst (IsShared pairs u (p.version, p.key)) (cc) own
 
-  none_missed : (p now other before : Pair) → beside (p.key, p.source) ≡ Some now → met (p.version, p.key) ≡ Some other → other.source ≢ p.source → beside (p.key, other.source) ≡ Some before → square_of x beside met p ≡ None → ⊥
-  none_missed p now other before e f ne g none = let is = rw (e, f, ne_eqb other.source p.source ne, g) at none in cc
+  pub entered : (front : List Pair) (p : Pair) (now : Shared) (old new : ℕ × ℕ → Option Shared) → Contains pairs p → Some now ≡ shared_by readers u p → HasEntered old new (p.version, p.key) now → IsMet pairs readers u front old → IsMet pairs readers u (front ++ p ∷ []) new
+  entered front p now old new among is n h = record {
+    sound = λ k s e. elim (n.cases k) [
+      | inl kept ↦ h.sound k s (sym kept ∙ e)
+      | inr put ↦
+          let found : Some now ≡ Some s = sym put.1.1 ∙ e in
+          let same : now ≡ s = cc in
+          subst (λ k. IsShared pairs u k s) (sym put.0) (subst (IsShared pairs u (p.version, p.key)) same (shared_is p now among (sym is)))
+    ];
+    all = λ q s c e. elim (Contains-push_cases front p q c) [
+      | inl before ↦
+          let t = h.all q s before e in
+          elim (n.cases (q.version, q.key)) [
+            | inl kept ↦ (t.0, (kept ∙ t.1.0, t.1.1))
+            | inr put ↦ absurd (let bad : None ≡ Some t.0 = sym put.1.0 ∙ t.1.0 in cc)
+          ]
+      | inr same ↦
+          let found : Some now ≡ Some s = is ∙ ap (shared_by readers u) same ∙ e in
+          let item : now ≡ s = cc in
+          (n.here.0, (ap (λ (p : Pair). new (p.version, p.key)) (sym same) ∙ n.here.1.0, n.here.1.1 ∙ ap (λ (s : Shared). s.source) item))
+    ];
+  }
 
-  pub none_met : ((p : Pair) → Contains pairs p → square_of x beside met p ≡ None) → NoSquareOf pairs u
-  none_met none s q =
-      let y = s.second in
-      let one_one = b.all (y, q.this) (pair s.one_one u y q.this) q.one_one (rw (eq-eqb u u refl) refl) in
-      let one_two = b.all (y, q.that) (pair s.one_two u y q.that) q.one_two (rw (eq-eqb u u refl) refl) in
-      let other = m.all (q.two, y) (pair s.two_one q.two y q.this) q.two_one (rw (ne_eqb q.two u q.apart, one_one.1) refl) in
-      let o = (met_is q.two y other.0 other.1).0 in
-      elim (cases_eq other.0.source q.this) [
-        | inl same ↦ none_missed (pair s.two_two q.two y q.that) one_two.0 other.0 o.before one_two.1 other.1 (λ e. q.apart_too (sym same ∙ e)) o.is (none (pair s.two_two q.two y q.that) q.two_two)
-        | inr ne ↦ none_missed (pair s.two_one q.two y q.this) one_one.0 other.0 o.before one_one.1 other.1 ne o.is (none (pair s.two_one q.two y q.this) q.two_one)
-      ]
+  meets : (q r v y w : ℕ) → v ≢ u → Contains pairs (pair q u y w) → (s : Shared) × ((shared_by readers u (pair r v y w) ≡ Some s) × (s.source ≡ w))
+  meets q r v y w ne c = let o = are.all q u y w c in (record { one = o.0; two = r; source = w }, (rw (ne_eqb v u ne, o.1) refl, refl))
+
+  pub none_met : (met : ℕ × ℕ → Option Shared) → IsMet pairs readers u pairs met → NoSquareOf pairs u
+  none_met met h s q =
+      let a = meets s.one_one s.two_one q.two s.second q.this q.apart q.one_one in
+      let b = meets s.one_two s.two_two q.two s.second q.that q.apart q.one_two in
+      let c = h.all (pair s.two_one q.two s.second q.this) a.0 q.two_one a.1.0 in
+      let d = h.all (pair s.two_two q.two s.second q.that) b.0 q.two_two b.1.0 in
+      let found : Some c.0 ≡ Some d.0 = sym c.1.0 ∙ d.1.0 in
+      let same : c.0 ≡ d.0 = cc in
+      q.apart_too (sym a.1.1 ∙ sym c.1.1 ∙ ap (λ (s : Shared). s.source) same ∙ d.1.1 ∙ b.1.1)
 
 -- ---- from the pairs of a key to the log
 pub square_from : (log : Log) (x n u : ℕ) (pairs : List Pair) (s : Square) → ArePairs log x n pairs → s.first ≡ x → IsSquareOf pairs u s → IsSquare log s

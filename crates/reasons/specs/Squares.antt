@@ -1,14 +1,15 @@
 -- Crossed reads by the numbers of a log's nodes and keys, where a version of a key is given by the
 -- node that wrote it; and what a search for them holds.
-use Rattle.std.specs.Prelude.{◌≡◌, ◌≢◌, ℕ, ◌<◌, ◌≤◌, ◌==◌, if◌then◌else◌, List, Option, None}
+use Rattle.std.specs.Prelude.{◌≡◌, ◌≢◌, ◌⊎◌, ℕ, ◌<◌, ◌≤◌, ◌==◌, if◌then◌else◌, List, Option, None}
 use Rattle.std.specs.Prelude.{Some, map}
 use Rattle.std.specs.List.{Contains}
-use Rattle.std.specs.Option.{option_map, option_and_then}
+use Rattle.std.specs.Option.{option_map}
 use Rattle.std.specs.Ordering.{nat_cmp, ordering_then}
 use Rattle.std.specs.declared.cmp.Ordering.{Ordering}
 use Rattle.serializability.specs.Log.{Log}
 use Rattle.serializability.specs.Polygraph.{source}
 use Rattle.reasons.specs.declared.crossings.Pair.{Pair}
+use Rattle.reasons.specs.declared.crossings.Shared.{Shared}
 use Rattle.reasons.specs.declared.crossings.Square.{Square}
 
 -- node r reads the version u of key x and the version w of key y
@@ -62,37 +63,29 @@ pub record IsSquareOf (pairs : List Pair) (u : ℕ) (s : Square) : Type 0 where
 abbrev pub NoSquareOf : List Pair → ℕ → Type 0
 NoSquareOf pairs u = (s : Square) → IsSquareOf pairs u s → ⊥
 
+-- ---- what a search holds
 abbrev pub pair_cmp : ℕ × ℕ → ℕ × ℕ → Ordering
 pair_cmp a b = ordering_then (nat_cmp a.0 b.0) (nat_cmp a.1 b.1)
 
--- a pair at each place that some of these have
-pub record IsIndex (at : Pair → Option (ℕ × ℕ)) (pairs : List Pair) (index : ℕ × ℕ → Option Pair)
+abbrev pub triple_cmp : ℕ × (ℕ × ℕ) → ℕ × (ℕ × ℕ) → Ordering
+triple_cmp a b = ordering_then (nat_cmp a.0 b.0) (pair_cmp a.1 b.1)
+
+abbrev pub by_versions : Pair → (ℕ × (ℕ × ℕ)) × ℕ
+by_versions p = ((p.version, (p.key, p.source)), p.reader)
+
+-- a reader for each version of the key and each version of another that are read together
+pub record AreReaders (pairs : List Pair) (readers : ℕ × (ℕ × ℕ) → Option ℕ) : Type 0 where
+  pub sound : (u y w r : ℕ) → readers (u, (y, w)) ≡ Some r → Contains pairs (pair r u y w)
+  pub all : (r u y w : ℕ) → Contains pairs (pair r u y w) → (q : ℕ) × (readers (u, (y, w)) ≡ Some q)
+
+-- what the pair reads beside another version, where it is read beside u too
+abbrev pub shared_by : (ℕ × (ℕ × ℕ) → Option ℕ) → ℕ → Pair → Option Shared
+shared_by readers u p = if p.version == u then None else option_map (λ q.
+    record { one = q; two = p.reader; source = p.source }) (readers (u, (p.key, p.source)))
+
+-- at this place is one of this source, which was there before or is this one
+pub record HasEntered (old new : ℕ × ℕ → Option Shared) (k : ℕ × ℕ) (now : Shared)
     : Type 0 where
-  pub sound : (k : ℕ × ℕ) (p : Pair) → index k ≡ Some p → Contains pairs p × (at p ≡ Some k)
-  pub all : (k : ℕ × ℕ) (p : Pair) → Contains pairs p → at p ≡ Some k → (q : Pair)
-      × (index k ≡ Some q)
-
--- a reader of version u, by what it reads
-abbrev pub read_at : ℕ → Pair → Option (ℕ × ℕ)
-read_at u p = if p.version == u then Some (p.key, p.source) else None
-
--- a reader of another version that reads what a reader of u reads, by that version and the key
-abbrev pub met_at : ℕ → (ℕ × ℕ → Option Pair) → Pair → Option (ℕ × ℕ)
-met_at u beside p = if p.version == u then None else option_map (λ q. (p.version, p.key))
-    (beside (p.key, p.source))
-
--- of two readers of one version that read two versions of a key, each of which is read beside u
-abbrev pub square_by : ℕ → (ℕ × ℕ → Option Pair) → Pair → Pair → Pair → Option Square
-square_by x beside now other p = if other.source == p.source then None else option_map (λ before.
-    record {
-      first = x;
-      second = p.key;
-      one_one = now.reader;
-      one_two = before.reader;
-      two_one = p.reader;
-      two_two = other.reader;
-    }) (beside (p.key, other.source))
-
-abbrev pub square_of : ℕ → (ℕ × ℕ → Option Pair) → (ℕ × ℕ → Option Pair) → Pair → Option Square
-square_of x beside met p = option_and_then (λ now. option_and_then (λ other.
-    square_by x beside now other p) (met (p.version, p.key))) (beside (p.key, p.source))
+  pub here : (s : Shared) × ((new k ≡ Some s) × (s.source ≡ now.source))
+  pub cases : (q : ℕ × ℕ) → (new q ≡ old q)
+      ⊎ ((q ≡ k) × ((old q ≡ None) × (new q ≡ Some now)))

@@ -4,8 +4,8 @@
 //! For each key and each version of it that a node wrote, it looks at what is read beside any
 //! version of the key.
 
-ghost use Rattle.std.specs.Prelude.{◌≡◌, ◌<◌, ◌≤◌, ◌+◌, ◌++◌, ◌∷◌, [], ℕ, List, Option, Some, IfOk};
-ghost use Rattle.std.specs.Prelude.{OnOk, IfSome, IfNone};
+ghost use Rattle.std.specs.Prelude.{◌≡◌, ◌≢◌, ◌<◌, ◌≤◌, ◌+◌, ◌++◌, Option, Some, IfOk};
+ghost use Rattle.std.specs.Prelude.{OnOk, map, IfSome, IfNone};
 ghost use Rattle.std.specs.BTreeMap.{get};
 ghost use Rattle.serializability.specs.Reads.{IsClean};
 ghost use Rattle.log_definitions.specs.Numbers.{log_of};
@@ -13,7 +13,8 @@ ghost use Rattle.session_history.specs.Tables.{sources_of};
 ghost use Rattle.reasons.specs.declared.crossings.Pair.{Pair as PairView};
 ghost use Rattle.reasons.specs.declared.crossings.Square.{Square as SquareView};
 ghost use Rattle.reasons.specs.Squares as spec;
-ghost use Rattle.reasons.specs.Squares.{pairs_by, ArePairs, IsIndex, pair_cmp};
+ghost use Rattle.reasons.specs.Squares.{pairs_by, ArePairs, AreReaders, HasEntered};
+ghost use Rattle.reasons.specs.Squares.{pair_cmp, triple_cmp};
 ghost use Rattle.reasons.specs.Squares.{IsSquareOf, NoSquareOf, IsSquare, NoSquare};
 
 use serializability::NodeIx;
@@ -28,6 +29,15 @@ pub struct Pair {
     pub reader: NodeIx,
     pub version: usize,
     pub key: usize,
+    pub source: usize,
+}
+
+/// A version of another key that is read beside two versions of the key that is looked at: by
+/// `one` beside the one, and by `two` beside the other.
+#[derive(Clone, Copy)]
+pub struct Shared {
+    pub one: NodeIx,
+    pub two: NodeIx,
     pub source: usize,
 }
 
@@ -97,138 +107,86 @@ fn pairs_at(alloc: Global, history: &History, key: usize) -> Result<Vec<Pair>, A
     Ok(pairs)
 }
 
-/// The place of a reader of the version, by what it reads.
-fn read_at(version: usize, pair: &Pair) -> Option<(usize, usize)>
-    ensures { result ≡ spec.read_at version pair.now }
+/// For each version of the key and each version of another, a node that reads both.
+fn readers_of(
+    alloc: Global,
+    pairs: &[Pair],
+) -> Result<BTreeMap<(usize, (usize, usize)), NodeIx>, AllocError>
+    ensures readers { IfOk result (λ readers. AreReaders pairs.now (get triple_cmp readers)) }
 {
-    if pair.version == version {
-        Some((pair.key, pair.source))
-    } else {
-        None
-    }
+    pairs
+        .iter()
+        .map(|pair| ((pair.version, (pair.key, pair.source)), pair.reader))
+        .collect(alloc)
 }
 
-/// The place of a reader of another version that reads what a reader of this one reads, by that
-/// version and the key.
-fn met_at(
-    beside: &BTreeMap<(usize, usize), Pair>,
+/// What a pair reads beside another version of the key, where it is read beside this one too.
+fn shared_by(
+    readers: &BTreeMap<(usize, (usize, usize)), NodeIx>,
     version: usize,
     pair: &Pair,
-) -> Option<(usize, usize)>
-    ensures { result ≡ spec.met_at version (get pair_cmp beside.now) pair.now }
+) -> Option<Shared>
+    ensures { result ≡ spec.shared_by (get triple_cmp readers.now) version pair.now }
 {
     if pair.version == version {
         return None;
     }
-    beside.get(&(pair.key, pair.source))?;
-    Some((pair.version, pair.key))
-}
-
-/// Enters a pair at its place, if it has one.
-fn put(
-    index: &mut BTreeMap<(usize, usize), Pair>,
-    place: Option<(usize, usize)>,
-    pair: &Pair,
-) -> Result<(), AllocError>
-    ensures put { OnOk result ((at : PairView → Option (ℕ × ℕ)) (front : List PairView) →
-        at pair.now ≡ place → IsIndex at front (get pair_cmp index.old) →
-        IsIndex at (front ++ pair.now ∷ []) (get pair_cmp index.new)) }
-{
-    if let Some(place) = place {
-        index.insert(place, *pair)?;
-    }
-    Ok(())
-}
-
-/// A reader of the version for each version of each key that is read beside it.
-fn beside_of(
-    alloc: Global,
-    pairs: &[Pair],
-    version: usize,
-) -> Result<BTreeMap<(usize, usize), Pair>, AllocError>
-    ensures beside { IfOk result (λ index.
-        IsIndex (spec.read_at version) pairs.now (get pair_cmp index)) }
-{
-    let mut beside = BTreeMap::new(alloc);
-    for pair in pairs {
-        put(&mut beside, read_at(version, pair), pair)?;
-    }
-    Ok(beside)
-}
-
-/// A reader of each other version for each key of which it reads what is read beside this one.
-fn met_by(
-    alloc: Global,
-    pairs: &[Pair],
-    beside: &BTreeMap<(usize, usize), Pair>,
-    version: usize,
-) -> Result<BTreeMap<(usize, usize), Pair>, AllocError>
-    ensures met { IfOk result (λ index.
-        IsIndex (spec.met_at version (get pair_cmp beside.now)) pairs.now (get pair_cmp index)) }
-{
-    let mut met = BTreeMap::new(alloc);
-    for pair in pairs {
-        put(&mut met, met_at(beside, version, pair), pair)?;
-    }
-    Ok(met)
-}
-
-/// Four nodes, where the last two of these read two versions of a key.
-fn square_by(
-    beside: &BTreeMap<(usize, usize), Pair>,
-    key: usize,
-    now: Pair,
-    other: Pair,
-    pair: Pair,
-) -> Option<Square>
-    ensures { result ≡ spec.square_by key (get pair_cmp beside.now) now other pair }
-{
-    if other.source == pair.source {
-        return None;
-    }
-    let before = beside.get(&(pair.key, other.source)).copied()?;
-    Some(Square {
-        first: key,
-        second: pair.key,
-        one_one: now.reader,
-        one_two: before.reader,
-        two_one: pair.reader,
-        two_two: other.reader,
+    let one = readers.get(&(version, (pair.key, pair.source))).copied()?;
+    Some(Shared {
+        one,
+        two: pair.reader,
+        source: pair.source,
     })
 }
 
-/// Four nodes, two of which are this reader and another of the same version, that read two versions
-/// of a key, each of which is read beside the version that is looked at.
-fn square_of(
-    beside: &BTreeMap<(usize, usize), Pair>,
-    met: &BTreeMap<(usize, usize), Pair>,
-    key: usize,
-    pair: &Pair,
-) -> Option<Square>
-    ensures { result
-        ≡ spec.square_of key (get pair_cmp beside.now) (get pair_cmp met.now) pair.now }
+/// What stands at a place, where that is of another version; where nothing does, this is entered.
+fn enter(
+    met: &mut BTreeMap<(usize, usize), Shared>,
+    place: (usize, usize),
+    now: &Shared,
+) -> Result<Option<Shared>, AllocError>
+    ensures other { IfOk result (λ found. IfSome found
+        (λ s. (get pair_cmp met.old place ≡ Some s) × s.source ≢ now.now.source)) }
+    ensures entered { IfOk result (λ found. IfNone found
+        (HasEntered (get pair_cmp met.old) (get pair_cmp met.new) place now.now)) }
 {
-    let now = beside.get(&(pair.key, pair.source)).copied()?;
-    let other = met.get(&(pair.version, pair.key)).copied()?;
-    square_by(beside, key, now, other, *pair)
+    match met.get(&place).copied() {
+        Some(other) => Ok((other.source != now.source).then_some(other)),
+        None => {
+            met.insert(place, *now)?;
+            Ok(None)
+        }
+    }
 }
 
 /// Four nodes of which two read this version of the key, where there are such.
 fn square_with(
     alloc: Global,
     pairs: &[Pair],
+    readers: &BTreeMap<(usize, (usize, usize)), NodeIx>,
     key: usize,
     version: usize,
 ) -> Result<Option<Square>, AllocError>
+    requires readers { AreReaders pairs.now (get triple_cmp readers.now) }
     ensures square { IfOk result (λ found.
         IfSome found (λ s. (s.first ≡ key) × IsSquareOf pairs.now version s)) }
     ensures none { IfOk result (λ found. IfNone found (NoSquareOf pairs.now version)) }
 {
-    let beside = beside_of(alloc, pairs, version)?;
-    let met = met_by(alloc, pairs, &beside, version)?;
+    let mut met = BTreeMap::new(alloc);
     for pair in pairs {
-        if let Some(square) = square_of(&beside, &met, key, pair) {
-            return Ok(Some(square));
+        let Some(now) = shared_by(readers, version, pair) else {
+            continue;
+        };
+        let other = enter(&mut met, (pair.version, pair.key), &now)?;
+        if let Some(other) = other {
+            return Ok(Some(Square {
+                first: key,
+                second: pair.key,
+                one_one: other.one,
+                one_two: now.one,
+                two_one: other.two,
+                two_two: now.two,
+            }));
         }
     }
     Ok(None)
@@ -241,10 +199,12 @@ fn square_at(alloc: Global, history: &History, key: usize) -> Result<Option<Squa
     ensures square { IfOk result (λ found. IfSome found (IsSquare (log_of history.now))) }
     ensures none { IfOk result (λ found. IfNone found (NoSquare (log_of history.now) key)) }
 {
-    let pairs = pairs_at(alloc, history, key)?;
+    let all = pairs_at(alloc, history, key)?;
+    let pairs = all.as_slice();
+    let readers = readers_of(alloc, pairs)?;
     let writers = history.writers_of(key);
     for version in writers {
-        if let Some(square) = square_with(alloc, &pairs, key, version.get())? {
+        if let Some(square) = square_with(alloc, pairs, &readers, key, version.get())? {
             return Ok(Some(square));
         }
     }

@@ -4,31 +4,31 @@ use Rattle.std.proofs.lemmas.List.{take_all}
 use Rattle.std.proofs.lemmas.List.Elements.{Contains-push_cases}
 use Rattle.list_lemmas.proofs.Lists.{front_more}
 use Rattle.log_definitions.specs.Numbers.{log_of}
-use Rattle.reasons.specs.Squares.{IsSquareOf, NoSquareOf}
+use Rattle.reasons.specs.Squares.{ArePairs, NoSquareOf}
 use Rattle.reasons.proofs.Squares.{square_from, none_with}
 use Rattle.reasons.proofs.crossings.square_at.Goals as goal
 
 pub returns-in-Some-clause-square : goal.returns-in-Some-clause-square
 returns-in-Some-clause-square c =
     let log = log_of c.args.history.now in
-    let u = c.get.result in
-    let s = c.in-Some.square in
+    let pairs = c.as_slice-pairs.result.now in
     let found = rw c.in-Some.is at c.in_ok-square.ensures.square in
-    square_from log c.args.key (log.nodes + 1) u c.in_ok-pairs.pairs.items s c.in_ok-pairs.ensures.pairs found.0 (subst (λ l. IsSquareOf l u s) c.deref.ensures.value found.1)
+    square_from log c.args.key (log.nodes + 1) c.get.result pairs c.in-Some.square (subst (ArePairs log c.args.key (log.nodes + 1)) (sym c.as_slice-pairs.ensures.value) c.in_ok-all.ensures.pairs) found.0 found.1
 
 pub loop-version-preserved : goal.loop-version-preserved
 loop-version-preserved c =
     let writers = c.writers_of-writers.result.now in
     let i = c.loop-version.version-index in
     let v = c.version-item.result in
-    let none = subst (NoSquareOf c.deref.result.now) c.get.ensures.value (rw c.in_default.is at c.in_ok-square.ensures.none) in
     λ u has. elim (Contains-push_cases (take i writers) v u (subst (λ l. Contains l u) (front_more writers i v c.loop-version-test.true c.version-item.is) has)) [
       | inl before ↦ c.loop-version.invariant u before
-      | inr same ↦ subst (NoSquareOf c.in_ok-pairs.pairs.items) same (subst (λ l. NoSquareOf l v) c.deref.ensures.value none)
+      | inr same ↦ subst (NoSquareOf c.as_slice-pairs.result.now) same (subst (NoSquareOf c.as_slice-pairs.result.now) c.get.ensures.value (rw c.in_default.is at c.in_ok-square.ensures.none))
     ]
 
 pub returns-clause-none : goal.returns-clause-none
 returns-clause-none c =
+    let log = log_of c.args.history.now in
+    let pairs = c.as_slice-pairs.result.now in
     let writers = c.writers_of-writers.result.now in
-    none_with (log_of c.args.history.now) c.requires.clean c.args.key c.in_ok-pairs.pairs.items writers c.writers_of-writers.ensures.writers c.in_ok-pairs.ensures.pairs
+    none_with log c.requires.clean c.args.key pairs writers c.writers_of-writers.ensures.writers (subst (ArePairs log c.args.key (log.nodes + 1)) (sym c.as_slice-pairs.ensures.value) c.in_ok-all.ensures.pairs)
     (λ u has. c.loop-version.invariant u (subst (λ l. Contains l u) (sym (take_all c.loop-version.version-index writers c.loop-version-test.false)) has))

@@ -4,4 +4,4 @@ use Rattle.reasons.specs.Squares.{NoSquareOf}
 use Rattle.reasons.proofs.crossings.square_at.Given as goal
 
 abbrev pub invariant-loop-version : goal.invariant-loop-version
-invariant-loop-version l = (u : ℕ) → Contains (take l.version-index l.writers) u → NoSquareOf l.pairs.items u
+invariant-loop-version l = (u : ℕ) → Contains (take l.version-index l.writers) u → NoSquareOf l.pairs u
