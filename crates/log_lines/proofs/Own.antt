@@ -16,15 +16,11 @@ use Rattle.log_lines.proofs.Texts.{cut, begin_line, operation_line, ending_line}
 -- ---- the table has the shape of the sessions
 counts : (place line : ℕ) (ts : List Transaction) → map (λ row. length row.ops) (own_rows place line ts) ≡ map (λ t. length t.ops) ts
 counts place line [] = refl
-counts place line (t ∷ ts) =
-    ap (λ k. k ∷ map (λ row. length row.ops) (own_rows (place + 1) (line + length (txn_lines t)) ts)) (length-range_with_len (line + 1) (length t.ops))
-    ∙ ap (λ ks. length t.ops ∷ ks) (counts (place + 1) (line + length (txn_lines t)) ts)
+counts place line (t ∷ ts) = rw (length-range_with_len (line + 1) (length t.ops), counts (place + 1) (line + length (txn_lines t)) ts) refl
 
 pub own_fits : (n : ℕ) (ss : List ClientSession) → Fits ss (own_places n ss)
 own_fits n [] = refl
-own_fits n (s ∷ ss) =
-    let rest = map (λ rows. map (λ row. length row.ops) rows) (own_places (n + length (session_lines s)) ss) in
-    ap (λ ks. ks ∷ rest) (counts 1 (n + 1) s.txns) ∙ ap (λ ls. map (λ t. length t.ops) s.txns ∷ ls) (own_fits (n + length (session_lines s)) ss)
+own_fits n (s ∷ ss) = rw (counts 1 (n + 1) s.txns, own_fits (n + length (session_lines s)) ss) refl
 
 -- ---- the session at a place, and the transaction
 own_session : (n : ℕ) (ss : List ClientSession) (a : ℕ) (of : ClientSession) (rows : List TxnRow) → slice_get ss a ≡ Some of → slice_get (own_places n ss) a ≡ Some rows → rows ≡ own_rows 1 (n + length (log_lines (take a ss)) + 1) of.txns

@@ -45,26 +45,17 @@ own_lines v ss h =
 
 -- ---- a line of the sessions is a line of the text
 
--- the header's line
-abbrev header_front : Version → List (List ℕ)
-header_front One = []
-header_front Two = codes "log 2" ∷ []
-header_front Three = codes "log 3" ∷ []
+-- the lines of the header
+record Header (v : Version) : Type 0 where
+  front : List (List ℕ)
+  apart : AllByRecursion (λ bytes. has_no_lf bytes ≡ true) front
+  whole : header_text v ≡ flat_map with_lf front
+  count : first_line v ≡ length front + 1
 
-header_apart : (v : Version) → AllByRecursion (λ bytes. has_no_lf bytes ≡ true) (header_front v)
-header_apart One = tt
-header_apart Two = (refl, tt)
-header_apart Three = (refl, tt)
-
-header_whole : (v : Version) → header_text v ≡ flat_map with_lf (header_front v)
-header_whole One = refl
-header_whole Two = refl
-header_whole Three = refl
-
-header_count : (v : Version) → first_line v ≡ length (header_front v) + 1
-header_count One = refl
-header_count Two = refl
-header_count Three = refl
+header : (v : Version) → Header v
+header One = record { front = []; apart = tt; whole = refl; count = refl }
+header Two = record { front = codes "log 2" ∷ []; apart = (refl, tt); whole = refl; count = refl }
+header Three = record { front = codes "log 3" ∷ []; apart = (refl, tt); whole = refl; count = refl }
 
 texts_front : (fs : List Line) → text_of_lines fs ≡ flat_map with_lf (map line_text fs)
 texts_front [] = refl
@@ -74,89 +65,61 @@ pub line_stands : (v : Version) (ss : List ClientSession) (fs : List Line) (l : 
     → IsLineOf (log_text v ss) k l
 line_stands v ss fs l gs k legal split at =
     let own = each_of_append HasOneLine fs (l ∷ gs) (subst (AllByRecursion HasOneLine) split (own_lines v ss legal)) in
-    let front = header_front v ++ map line_text fs in
+    let h = header v in
+    let front = h.front ++ map line_text fs in
     record {
       front = front;
       rest = text_of_lines gs;
-      apart = each_from_append (λ bytes. has_no_lf bytes ≡ true) (header_front v) (map line_text fs) (header_apart v) (each_from_map (λ bytes. has_no_lf bytes ≡ true) line_text fs own.0);
+      apart = each_from_append (λ bytes. has_no_lf bytes ≡ true) h.front (map line_text fs) h.apart (each_from_map (λ bytes. has_no_lf bytes ≡ true) line_text fs own.0);
       one = own.1.0;
-      count = omega (arith, at, header_count v, length-append (header_front v) (map line_text fs), length-map fs line_text);
+      count = omega (arith, at, h.count, length-append h.front (map line_text fs), length-map fs line_text);
       whole =
           log_by_lines v ss
           ∙ ap (λ ls. header_text v ++ text_of_lines ls) split
           ∙ ap (λ t. header_text v ++ t) (flat_map-append full_line fs (l ∷ gs))
           ∙ sym (append_assoc (header_text v) (text_of_lines fs) (text_of_lines (l ∷ gs)))
           ∙ ap (λ t. (header_text v ++ t) ++ text_of_lines (l ∷ gs)) (texts_front fs)
-          ∙ ap (λ t. (t ++ flat_map with_lf (map line_text fs)) ++ text_of_lines (l ∷ gs)) (header_whole v)
-          ∙ ap (λ t. t ++ text_of_lines (l ∷ gs)) (sym (flat_map-append with_lf (header_front v) (map line_text fs)))
+          ∙ ap (λ t. (t ++ flat_map with_lf (map line_text fs)) ++ text_of_lines (l ∷ gs)) h.whole
+          ∙ ap (λ t. t ++ text_of_lines (l ∷ gs)) (sym (flat_map-append with_lf h.front (map line_text fs)))
           ∙ ap (λ t. flat_map with_lf front ++ t) (append_assoc (line_text l) (10 ∷ []) (text_of_lines gs));
     }
 
--- ---- the lines of a transaction among those of the sessions
-
-record StandsAt (n : ℕ) (ss : List ClientSession) (t : Transaction) (line : ℕ) : Type 0 where
-  pub front : List Line
-  pub back : List Line
-  pub split : log_lines ss ≡ front ++ (txn_lines t ++ back)
-  pub at : line ≡ n + length front
-
-stands_at : (n : ℕ) (ss : List ClientSession) (session place : ℕ) (t : Transaction) (line : ℕ) → BeginsAt n ss session place t line → StandsAt n ss t line
-stands_at n ss session place t line b =
-    let head = Session b.of.number in
-    let inner = flat_map txn_lines b.earlier in
-    let left = log_lines b.before in
-    let later = flat_map txn_lines b.later in
-    let right = log_lines b.after in
-    let front = left ++ (head ∷ inner) in
-    record {
-      front = front;
-      back = later ++ right;
-      split =
-          ap log_lines b.sessions
-          ∙ flat_map-append session_lines b.before (b.of ∷ b.after)
-          ∙ ap (λ ts. left ++ ((head ∷ flat_map txn_lines ts) ++ right)) b.txns
-          ∙ ap (λ ls. left ++ ((head ∷ ls) ++ right)) (flat_map-append txn_lines b.earlier (t ∷ b.later))
-          ∙ ap (λ ls. left ++ (head ∷ ls)) (append_assoc inner (txn_lines t ++ later) right ∙ ap (λ ls. inner ++ ls) (append_assoc (txn_lines t) later right))
-          ∙ sym (append_assoc left (head ∷ inner) (txn_lines t ++ (later ++ right)));
-      at = omega (arith, b.begins, length-append left (head ∷ inner));
-    }
-
--- a line of the transaction is one of the text
-pub line_of_txn : (text : List ℕ) (ss : List ClientSession) → AllByRecursion IsLegal ss → text ≡ log_text (version_of text) ss → (session place line : ℕ) (t : Transaction) → BeginsAt (first_line (version_of text)) ss session place t line
-    → (fs : List Line) (l : Line) (gs : List Line) (k : ℕ) → txn_lines t ≡ fs ++ l ∷ gs → k ≡ line + length fs → IsLineOf text k l
-line_of_txn text ss legal whole session place line t b fs l gs k split at =
-    let v = version_of text in
-    let s = stands_at (first_line v) ss session place t line b in
-    let P : List ℕ → Type 0 = λ bytes. IsLineOf bytes k l in
-    subst P (sym whole) (line_stands v ss (s.front ++ fs) l (gs ++ s.back) k legal
-    (s.split ∙ ap (λ ls. s.front ++ (ls ++ s.back)) split ∙ ap (λ ls. s.front ++ ls) (append_assoc fs (l ∷ gs) s.back) ∙ sym (append_assoc s.front fs (l ∷ (gs ++ s.back))))
-    (omega (arith, at, s.at, length-append s.front fs)))
-
-pub begin_line : (text : List ℕ) (ss : List ClientSession) → AllByRecursion IsLegal ss → text ≡ log_text (version_of text) ss → (session place line : ℕ) (t : Transaction) → BeginsAt (first_line (version_of text)) ss session place t line
-    → IsLineOf text line (Begin t.begun)
-begin_line text ss legal whole session place line t b =
-    line_of_txn text ss legal whole session place line t b [] (Begin t.begun) (map op_line t.ops ++ end_line t.outcome t.ended ∷ []) line refl (omega arith)
-
+-- ---- the lines of a transaction
 pub cut : {X : Type 0} (xs : List X) (i : ℕ) (x : X) → slice_get xs i ≡ Some x → (xs ≡ take i xs ++ x ∷ drop (suc i) xs) × (length (take i xs) ≡ i)
 cut [] i x e = cc
 cut (y ∷ xs) zero x e = let same : y ≡ x = cc in (ap (λ z. z ∷ xs) same, refl)
 cut (y ∷ xs) (suc i) x e = let r = cut xs i x e in (ap (λ l. y ∷ l) r.0, omega (arith, r.1))
 
-pub operation_line : (text : List ℕ) (ss : List ClientSession) → AllByRecursion IsLegal ss → text ≡ log_text (version_of text) ss → (session place line : ℕ) (t : Transaction) → BeginsAt (first_line (version_of text)) ss session place t line
-    → (i : ℕ) (op : Op) → slice_get t.ops i ≡ Some op → IsLineOf text (line + 1 + i) (op_line op)
-operation_line text ss legal whole session place line t b i op e =
-    let r = cut t.ops i op e in
-    let fs = take i t.ops in
-    let gs = drop (suc i) t.ops in
-    let end = end_line t.outcome t.ended ∷ [] in
-    line_of_txn text ss legal whole session place line t b (Begin t.begun ∷ map op_line fs) (op_line op) (map op_line gs ++ end) (line + 1 + i)
-    (ap (λ ops. Begin t.begun ∷ (map op_line ops ++ end)) r.0
-    ∙ ap (λ ls. Begin t.begun ∷ (ls ++ end)) (map-append op_line fs (op ∷ gs))
-    ∙ ap (λ ls. Begin t.begun ∷ ls) (append_assoc (map op_line fs) (op_line op ∷ map op_line gs) end))
-    (omega (arith, r.1, length-map fs op_line))
+module _ (text : List ℕ) (ss : List ClientSession) (legal : AllByRecursion IsLegal ss) (whole : text ≡ log_text (version_of text) ss) (session place line : ℕ) (t : Transaction) (b : BeginsAt (first_line (version_of text)) ss session place t line) where
+  -- a line of the transaction is one of the text
+  line_of_txn : (fs : List Line) (l : Line) (gs : List Line) (k : ℕ) → txn_lines t ≡ fs ++ l ∷ gs → k ≡ line + length fs → IsLineOf text k l
+  line_of_txn fs l gs k split at =
+      let head = Session b.of.number in
+      let inner = flat_map txn_lines b.earlier in
+      let left = log_lines b.before in
+      let later = flat_map txn_lines b.later in
+      let right = log_lines b.after in
+      subst (λ bytes. IsLineOf bytes k l) (sym whole) (line_stands (version_of text) ss (left ++ (head ∷ (inner ++ fs))) l (gs ++ (later ++ right)) k legal
+      (ap log_lines b.sessions
+      ∙ flat_map-append session_lines b.before (b.of ∷ b.after)
+      ∙ ap (λ ts. left ++ ((head ∷ flat_map txn_lines ts) ++ right)) b.txns
+      ∙ ap (λ ls. left ++ ((head ∷ ls) ++ right)) (flat_map-append txn_lines b.earlier (t ∷ b.later))
+      ∙ ap (λ ls. left ++ ((head ∷ (inner ++ (ls ++ later))) ++ right)) split
+      ∙ simp append_assoc)
+      (omega (arith, at, b.begins, length-append left (head ∷ (inner ++ fs)), length-append inner fs)))
 
-pub ending_line : (text : List ℕ) (ss : List ClientSession) → AllByRecursion IsLegal ss → text ≡ log_text (version_of text) ss → (session place line : ℕ) (t : Transaction) → BeginsAt (first_line (version_of text)) ss session place t line
-    → IsLineOf text (line + 1 + length t.ops) (end_line t.outcome t.ended)
-ending_line text ss legal whole session place line t b =
-    line_of_txn text ss legal whole session place line t b (Begin t.begun ∷ map op_line t.ops) (end_line t.outcome t.ended) [] (line + 1 + length t.ops) refl
-    (omega (arith, length-map t.ops op_line))
+  pub begin_line : IsLineOf text line (Begin t.begun)
+  begin_line = line_of_txn [] (Begin t.begun) (map op_line t.ops ++ end_line t.outcome t.ended ∷ []) line refl (omega arith)
+
+  pub operation_line : (i : ℕ) (op : Op) → slice_get t.ops i ≡ Some op → IsLineOf text (line + 1 + i) (op_line op)
+  operation_line i op e =
+      let r = cut t.ops i op e in
+      let fs = take i t.ops in
+      let gs = drop (suc i) t.ops in
+      let end = end_line t.outcome t.ended ∷ [] in
+      line_of_txn (Begin t.begun ∷ map op_line fs) (op_line op) (map op_line gs ++ end) (line + 1 + i)
+      (ap (λ ops. Begin t.begun ∷ (map op_line ops ++ end)) r.0 ∙ simp (map-append, append_assoc))
+      (omega (arith, r.1, length-map fs op_line))
+
+  pub ending_line : IsLineOf text (line + 1 + length t.ops) (end_line t.outcome t.ended)
+  ending_line = line_of_txn (Begin t.begun ∷ map op_line t.ops) (end_line t.outcome t.ended) [] (line + 1 + length t.ops) refl (omega (arith, length-map t.ops op_line))
