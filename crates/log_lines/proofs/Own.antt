@@ -25,29 +25,13 @@ own_fits n (s ∷ ss) = rw (counts 1 (n + 1) s.txns, own_fits (n + length (sessi
 -- ---- the session at a place, and the transaction
 own_session : (n : ℕ) (ss : List ClientSession) (a : ℕ) (of : ClientSession) (rows : List TxnRow) → slice_get ss a ≡ Some of → slice_get (own_places n ss) a ≡ Some rows → rows ≡ own_rows 1 (n + length (log_lines (take a ss)) + 1) of.txns
 own_session n [] a of rows e g = cc
-own_session n (s ∷ ss) zero of rows e g =
-    let same : s ≡ of = cc in
-    let here : rows ≡ own_rows 1 (n + 1) s.txns = cc in
-    let at : n + 1 ≡ n + 0 + 1 = omega arith in
-    here ∙ ap (λ x. own_rows 1 (n + 1) x.txns) same ∙ ap (λ k. own_rows 1 k of.txns) at
-own_session n (s ∷ ss) (suc a) of rows e g =
-    let at : n + length (session_lines s) + length (log_lines (take a ss)) + 1 ≡ n + length (log_lines (s ∷ take a ss)) + 1 = omega (arith, length-append (session_lines s) (log_lines (take a ss))) in
-    own_session (n + length (session_lines s)) ss a of rows e g ∙ ap (λ k. own_rows 1 k of.txns) at
+own_session n (s ∷ ss) zero of rows e g = grind arith
+own_session n (s ∷ ss) (suc a) of rows e g = grind (arith, length-append, own_session (n + length (session_lines s)) ss a of rows e g)
 
 own_txn : (place line : ℕ) (ts : List Transaction) (i : ℕ) (t : Transaction) (row : TxnRow) → slice_get ts i ≡ Some t → slice_get (own_rows place line ts) i ≡ Some row → row ≡ own_row (place + i) (line + length (flat_map txn_lines (take i ts))) t
 own_txn place line [] i t row e g = cc
-own_txn place line (x ∷ ts) zero t row e g =
-    let same : x ≡ t = cc in
-    let here : row ≡ own_row place line x = cc in
-    let at : place ≡ place + 0 = omega arith in
-    let begins : line ≡ line + 0 = omega arith in
-    here ∙ ap (λ y. own_row place line y) same ∙ ap (λ k. own_row k line t) at ∙ ap (λ k. own_row (place + 0) k t) begins
-own_txn place line (x ∷ ts) (suc i) t row e g =
-    let mid = flat_map txn_lines (take i ts) in
-    let at : place + 1 + i ≡ place + suc i = omega arith in
-    let begins : line + length (txn_lines x) + length mid ≡ line + length (flat_map txn_lines (x ∷ take i ts)) = omega (arith, length-append (txn_lines x) mid) in
-    own_txn (place + 1) (line + length (txn_lines x)) ts i t row e g
-    ∙ ap (λ k. own_row k (line + length (txn_lines x) + length mid) t) at ∙ ap (λ k. own_row (place + suc i) k t) begins
+own_txn place line (x ∷ ts) zero t row e g = grind arith
+own_txn place line (x ∷ ts) (suc i) t row e g = grind (arith, length-append, own_txn (place + 1) (line + length (txn_lines x)) ts i t row e g)
 
 -- ---- the row of a transaction
 pub record IsOwnRow (n : ℕ) (ss : List ClientSession) (session place : ℕ) (t : Transaction) (row : TxnRow) : Type 0 where

@@ -1,14 +1,14 @@
 //! A history, and where its transactions stand in a log.
 
 ghost use Rattle.std.specs.Prelude.{◌≡◌, ◌++◌, map, length, OnOk, IfOk};
-ghost use Rattle.session_log.specs.Text.{view_txn};
+ghost use Rattle.session_log.specs.Text.{view, view_txn};
 ghost use Rattle.log_definitions.specs.Unknown.{taken};
 ghost use Rattle.log_lines.specs.Rows.{Fits, view_place, rows_of};
 ghost use Rattle.log_lines.specs.NodeRows.{node_row, node_rows, node_table};
 
 use crate::places::{LogPlaces, TxnPlace};
 use session_history::{History, is_node};
-use session_log::{Txn};
+use session_log::{Session, Txn};
 use std::alloc::{AllocError, Global};
 
 /// A history, and where its transactions stand in a log: in its own, or in one of which it is a
