@@ -1,7 +1,8 @@
 -- The least key that two nodes read alike and the second writes, operation by operation.
 use Rattle.std.proofs.Common.{◌≡◌, ℕ, ◌+◌, ◌<◌, ◌≤◌, Option, None, Some, refl, sym, subst, inl, inr, arith, length}
+use borrow.Author.Count.{below_more}
 use Rattle.std.specs.Prelude.{slice_get}
-use Rattle.std.proofs.lemmas.Bool.{cases_eq, cases_lt}
+use Rattle.std.proofs.lemmas.Bool.{cases_lt}
 use Rattle.std.proofs.lemmas.Option.{slice_get_within}
 use Rattle.serializability.specs.Log.{Log}
 use Rattle.serializability.specs.Events.{event_key}
@@ -30,20 +31,13 @@ up_to_old log a b n x (Some o) within h = elim (cases_lt x o.key) [
   | inr le ↦ (le, λ e. (let lt = within o refl in omega (arith, lt)))
 ]
 
--- what is known at each operation before n, and at n
-below_next : (P : ℕ → Type 0) (n : ℕ) → ((k : ℕ) → k < n → P k) → P n → (k : ℕ) → k < n + 1 → P k
-below_next P n h here k lt = elim (cases_eq k n) [
-  | inl e ↦ subst P (sym e) here
-  | inr ne ↦ h k (omega (arith, lt, ne))
-]
-
 pub least_more : (log : Log) (a b n key : ℕ) (e : Event) (least : Option KeyWrite) → slice_get (log.ops b) n ≡ Some e → key ≡ event_key e → IsLess log a b least e → IsLeastWrite log a b n least → IsLeastWrite log a b (n + 1) (Some (record { key = key; place = n }))
 least_more log a b n key (event.Read x w) least at is less h = absurd less
 least_more log a b n key (event.Write x w) least at is less h =
     let new : KeyWrite = record { key = x; place = n } in
     let all : IsLeastWrite log a b (n + 1) (Some new) = record {
       own = λ o e. (let same : new ≡ o = cc in subst (λ m. (m.place < n + 1) × IsAlikeWrite log a b m) same (omega arith, record { wid = w; stands = at; alike = less.1 }));
-      all = λ k y v lt. below_next (λ k. slice_get (log.ops b) k ≡ Some (event.Write y v) → ReadsAlike log a b y → IsUpTo (Some new) y k) n
+      all = λ k y v lt. below_more (λ k. slice_get (log.ops b) k ≡ Some (event.Write y v) → ReadsAlike log a b y → IsUpTo (Some new) y k) n
           (λ k lt here alike. up_to_less least x n y k less.0 (h.all k y v lt here alike))
           (λ here alike. (let same : x ≡ y = cc in (omega (arith, same), λ e. omega arith))) k lt;
     } in
@@ -52,7 +46,7 @@ least_more log a b n key (event.Write x w) least at is less h =
 pub least_same : (log : Log) (a b n : ℕ) (e : Event) (least : Option KeyWrite) → slice_get (log.ops b) n ≡ Some e → (IsLess log a b least e → ⊥) → IsLeastWrite log a b n least → IsLeastWrite log a b (n + 1) least
 least_same log a b n e least at more h = record {
   own = λ o is. (let own = h.own o is in let lt = own.0 in (omega (arith, lt), own.1));
-  all = λ k y v lt. below_next (λ k. slice_get (log.ops b) k ≡ Some (event.Write y v) → ReadsAlike log a b y → IsUpTo least y k) n
+  all = λ k y v lt. below_more (λ k. slice_get (log.ops b) k ≡ Some (event.Write y v) → ReadsAlike log a b y → IsUpTo least y k) n
       (λ k lt. h.all k y v lt)
       (λ here alike. (let same : e ≡ event.Write y v = cc in up_to_old log a b n y least (λ o is. (h.own o is).0) (λ below. more (subst (IsLess log a b least) (sym same) (below, alike))))) k lt;
 }
