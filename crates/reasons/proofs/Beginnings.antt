@@ -1,15 +1,13 @@
 -- The operation that begins a chain behind that of the initial value.
 use Rattle.std.proofs.Common.{◌≡◌, ◌≢◌, ℕ, zero, suc, ◌<◌, ◌≤◌, Bool, true, false, List, [], ◌∷◌, None, Some, refl, sym, ap, ◌∙◌, subst, inl, inr, arith, length, set}
-use Rattle.std.specs.Prelude.{slice_get, replicate, not, IsTrue, ◌↔◌}
+use Rattle.std.specs.Prelude.{slice_get, not, IsTrue, ◌↔◌}
 use Rattle.std.proofs.lemmas.Bool.{cases_eq, ne_eqb}
-use Rattle.std.proofs.lemmas.List.{length-set, length-replicate}
+use Rattle.std.proofs.lemmas.List.{length-set}
 use Rattle.std.proofs.lemmas.Option.{slice_get_within}
 use Rattle.session_log.specs.Text.{ClientSession}
 use Rattle.session_log.specs.declared.session.Op.TheVariants.{Write}
-use Rattle.serializability.specs.declared.event.Event.{Event}
 use Rattle.serializability.specs.declared.event.Event.TheVariants as event
 use Rattle.serializability.specs.Log.{Log}
-use Rattle.serializability.specs.Events.{event_key}
 use Rattle.serializability.specs.Reads.{IsFinal, IsClean}
 use Rattle.serializability.specs.Polygraph.{source}
 use Rattle.serializability.proofs.Sources.{source_is, source_within}
@@ -121,23 +119,7 @@ initial_least ss clean a b read o g f = record {
       f.first r.key i (left_by 0 r.links) (cc) r.reads.read);
 }
 
-pub begins_at : (log : Log) (a b n key : ℕ) (e : Event) → slice_get (log.ops b) n ≡ Some e → key ≡ event_key e → NoneBefore (IsBeginning log a b) (log.ops b) n → IsBeginning log a b e → BeginsAt log a b (record { key = key; place = n })
-begins_at log a b n key (event.Read x w) at is h begins = absurd begins
-begins_at log a b n key (event.Write x w) at is h begins =
-    subst (λ k. BeginsAt log a b (record { key = k; place = n })) (sym is) (record { wid = w; stands = at; begun = begins; first = h })
-
 -- ---- marks of keys
-none_set : (n x : ℕ) → slice_get (replicate n false) x ≡ Some true → ⊥
-none_set zero x h = cc
-none_set (suc n) zero h = cc
-none_set (suc n) (suc x) h = none_set n x h
-
-pub none_plain : (log : Log) (a b n : ℕ) (plain : List Bool) → plain ≡ replicate n false → n ≡ log.keys → ArePlain log a b plain
-none_plain log a b n plain own count = record {
-  count = ap length own ∙ length-replicate n false ∙ count;
-  none = λ x marked _. none_set n x (ap (λ l. slice_get l x) (sym own) ∙ marked);
-}
-
 one_true : (begun : Bool) → begun ≡ true → Some (not begun) ≡ Some true → ⊥
 one_true true t m = cc
 one_true false t m = cc

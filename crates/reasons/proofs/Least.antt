@@ -1,8 +1,7 @@
 -- The least key that two nodes read alike and the second writes, operation by operation.
-use Rattle.std.proofs.Common.{◌≡◌, ℕ, ◌+◌, ◌<◌, ◌≤◌, Option, None, Some, refl, sym, subst, inl, inr, arith, length}
+use Rattle.std.proofs.Common.{◌≡◌, ℕ, ◌+◌, ◌<◌, ◌≤◌, Option, None, Some, refl, sym, subst, arith, length}
 use borrow.Author.Count.{below_more}
 use Rattle.std.specs.Prelude.{slice_get}
-use Rattle.std.proofs.lemmas.Bool.{cases_lt}
 use Rattle.std.proofs.lemmas.Option.{slice_get_within}
 use Rattle.serializability.specs.Log.{Log}
 use Rattle.serializability.specs.Events.{event_key}
@@ -11,9 +10,6 @@ use Rattle.serializability.specs.declared.event.Event.TheVariants as event
 use Rattle.reasons.specs.declared.operations.KeyWrite.{KeyWrite}
 use Rattle.reasons.specs.Overwrites.{ReadsAlike, IsBelow, IsLess, IsAlikeWrite, IsUpTo, IsLeastWrite}
 
-pub none_yet : (log : Log) (a b : ℕ) → IsLeastWrite log a b 0 None
-none_yet log a b = record { own = λ o e. cc; all = λ k x w lt at t. absurd (omega (arith, lt)) }
-
 pub least_all : (log : Log) (a b n : ℕ) (least : Option KeyWrite) → length (log.ops b) ≤ n → IsLeastWrite log a b n least → IsLeastWrite log a b (length (log.ops b)) least
 least_all log a b n least le h = record {
   own = λ o e. let own = (h.own o e).1 in (slice_get_within (log.ops b) o.place (event.Write o.key own.wid) own.stands, own);
@@ -21,15 +17,11 @@ least_all log a b n least le h = record {
 }
 
 up_to_less : (least : Option KeyWrite) (x n y k : ℕ) → IsBelow x least → IsUpTo least y k → IsUpTo (Some (record { key = x; place = n })) y k
-up_to_less None x n y k below h = absurd h
-up_to_less (Some o) x n y k below h = (omega (arith, below, h.0), λ e. absurd (omega (arith, below, h.0, e)))
+up_to_less least x n y k below h = grind arith
 
 up_to_old : (log : Log) (a b n x : ℕ) (least : Option KeyWrite) → ((o : KeyWrite) → least ≡ Some o → o.place < n) → (IsBelow x least → ⊥) → IsUpTo least x n
 up_to_old log a b n x None within h = absurd (h tt)
-up_to_old log a b n x (Some o) within h = elim (cases_lt x o.key) [
-  | inl lt ↦ absurd (h lt)
-  | inr le ↦ (le, λ e. (let lt = within o refl in omega (arith, lt)))
-]
+up_to_old log a b n x (Some o) within h = let lt = within o refl in grind arith
 
 pub least_more : (log : Log) (a b n key : ℕ) (e : Event) (least : Option KeyWrite) → slice_get (log.ops b) n ≡ Some e → key ≡ event_key e → IsLess log a b least e → IsLeastWrite log a b n least → IsLeastWrite log a b (n + 1) (Some (record { key = key; place = n }))
 least_more log a b n key (event.Read x w) least at is less h = absurd less

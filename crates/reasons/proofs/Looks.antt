@@ -1,8 +1,7 @@
 -- How often a search for crossed reads looks at what is read, read by read.
-use Rattle.std.proofs.Common.{◌≡◌, ℕ, min, ◌+◌, ◌-◌, ◌*◌, ◌<◌, List, length, get_or, sym, ap, ◌∙◌, subst, arith}
+use Rattle.std.proofs.Common.{◌≡◌, ℕ, min, ◌+◌, ◌-◌, ◌*◌, ◌<◌, List, length, get_or, refl, sym, subst, arith}
 use Rattle.std.specs.Prelude.{map}
 use Rattle.std.specs.List.{sum_by, AllByRecursion, range_with_len}
-use Rattle.std.proofs.lemmas.List.{length-map}
 use Rattle.std.proofs.lemmas.List.Sums.{sum_by_push}
 use Rattle.serializability.specs.Log.{Log}
 use Rattle.serializability.proofs.Places.{each_of_map}
@@ -18,11 +17,6 @@ use Rattle.reasons.proofs.Pairs.{Read, reads_of}
 abbrev pub looks_by : Log → ℕ → ℕ × ℕ → ℕ
 looks_by log count read = count * (length (writers_in log read.0) + 1)
 
-pub looks_all : (log : Log) (r : ℕ) (reads : List ReadFrom) → map pair_of reads ≡ sources_of log r → sum_by (looks_by log (length reads)) (map pair_of reads) ≡ looks_at log r
-looks_all log r reads e =
-    let count : length reads ≡ length (sources_of log r) = sym (length-map reads pair_of) ∙ ap length e in
-    ap (sum_by (looks_by log (length reads))) e ∙ ap (λ n. sum_by (looks_by log n) (sources_of log r)) count
-
 -- its key is one of the log's
 pub key_read : (log : Log) (r : ℕ) (reads : List ReadFrom) → map pair_of reads ≡ sources_of log r → (i : ℕ) (read : ReadFrom) → i < length reads → read ≡ get_or reads i read → read.key < log.keys
 key_read log r reads e i read lt is =
@@ -36,12 +30,8 @@ pub looks_further : (log : Log) (r : ℕ) → 0 < r → looks_below log (r + 1) 
 looks_further log r low =
     let count : r + 1 - 1 ≡ (r - 1) + 1 = omega (arith, low) in
     let last : 1 + (r - 1) ≡ r = omega (arith, low) in
-    ap (λ n. sum_by (looks_at log) (range_with_len 1 n)) count ∙ ap (sum_by (looks_at log)) (range_last 1 (r - 1))
-    ∙ sum_by_push (looks_at log) (range_with_len 1 (r - 1)) (1 + (r - 1)) ∙ ap (λ n. looks_below log r + looks_at log n) last
+    rw (count, range_last 1 (r - 1), sum_by_push (looks_at log) (range_with_len 1 (r - 1)) (1 + (r - 1)), last) refl
 
 -- ---- up to a greatest number
-pub at_most_more : (m before sum more looks p product new : ℕ) → looks ≡ min (before + sum) m → product ≡ min p m → new ≡ min (looks + product) m → more ≡ sum + p → new ≡ min (before + more) m
-at_most_more m before sum more looks p product new a b c e = omega arith
-
 pub at_most_next : (m below looks at new next : ℕ) → looks ≡ min below m → new ≡ min (looks + at) m → next ≡ below + at → new ≡ min next m
 at_most_next m below looks at new next a b e = omega arith

@@ -1,6 +1,5 @@
 -- The first item of a list that passes.
-use Rattle.std.proofs.Common.{◌≡◌, ℕ, zero, suc, ◌≤◌, Bool, true, not, List, [], ◌∷◌, length, Option, None, Some, refl, sym, ap, ◌∙◌, inl, inr, arith, ◌+◌, subst, get_or, take}
-use borrow.Author.Count.{below_more}
+use Rattle.std.proofs.Common.{◌≡◌, ℕ, zero, suc, ◌≤◌, Bool, true, not, List, [], ◌∷◌, Option, None, Some, refl, sym, ap, ◌∙◌, inl, inr, arith, get_or, take}
 use Rattle.std.specs.Prelude.{slice_get, position, is_some}
 use Rattle.std.specs.List.{AllByRecursion}
 use Rattle.std.proofs.lemmas.Bool.{false≢true, cases_lt, true_from_ne_false}
@@ -50,25 +49,11 @@ never_passes p xs none = go (position p xs) refl
     go (Some i) e = let f = first_at p xs i (sym e) in absurd (none i f.item f.stands f.passes)
 
 -- ---- a loop that looks for the first operation of a kind
-some_same : (e f : Event) → Some e ≡ Some f → e ≡ f
-some_same e f h = cc
-
-pub none_yet : (P : Event → Type 0) (ops : List Event) → NoneBefore P ops 0
-none_yet P ops = record { none = λ k e below. absurd (omega (arith, below)) }
-
-pub none_further : (P : Event → Type 0) (ops : List Event) (n : ℕ) (e : Event) → slice_get ops n ≡ Some e → NoneBefore P ops n → (P e → ⊥) → NoneBefore P ops (n + 1)
-none_further P ops n e here h not_here = record {
-  none = λ k y below. below_more (λ k. slice_get ops k ≡ Some y → P y → ⊥) n (λ k lt. h.none k y lt) (λ at is. not_here (subst P (sym (some_same e y (sym here ∙ at))) is)) k below;
-}
-
 pub not_before : (P : Event → Type 0) (ops : List Event) (n j : ℕ) (e : Event) → NoneBefore P ops n → slice_get ops j ≡ Some e → P e → n ≤ j
 not_before P ops n j e h at is = elim (cases_lt j n) [
   | inl lt ↦ absurd (h.none j e lt at is)
   | inr le ↦ le
 ]
-
-pub none_at_all : (P : Event → Type 0) (ops : List Event) (n : ℕ) → length ops ≤ n → NoneBefore P ops n → NoneBefore P ops (length ops)
-none_at_all P ops n all h = record { none = λ k e below. h.none k e (omega (arith, below, all)) }
 
 -- ---- fewer of the first ones
 pub take_fewer : {X : Type 0} (P : X → Type 0) (i k : ℕ) (xs : List X) → i ≤ k → AllByRecursion P (take k xs) → AllByRecursion P (take i xs)

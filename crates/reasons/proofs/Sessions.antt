@@ -1,7 +1,7 @@
 -- Lines of nodes of which each run of one session is told by its ends.
-use Rattle.std.proofs.Common.{◌≡◌, ◌⊎◌, ℕ, zero, suc, ◌+◌, ◌<◌, true, false, List, [], ◌∷◌, ◌++◌, length, get_or, refl, sym, ap, ◌∙◌, subst, inl, inr, arith, eqb, eqb-true, eq-eqb}
+use Rattle.std.proofs.Common.{◌≡◌, ◌⊎◌, ℕ, zero, suc, ◌+◌, ◌<◌, true, false, List, [], ◌∷◌, ◌++◌, length, get_or, refl, sym, ap, ◌∙◌, subst, inl, inr, arith, eqb, eqb-true}
 use Rattle.std.specs.Prelude.{nat_lt}
-use Rattle.std.proofs.lemmas.Bool.{false≢true, and_parts, cond_both, ltb-true, lt-ltb}
+use Rattle.std.proofs.lemmas.Bool.{false≢true, and_parts, cond_both, ltb-true}
 use Rattle.session_log.specs.Text.{ClientSession}
 use Rattle.log_definitions.specs.Serial.{session_of}
 use Rattle.reason_laws.specs.Reasons.{IsNode, AreOfSession}
@@ -17,9 +17,6 @@ of_session ss a b first second t =
       order = ltb-true a b parts.0;
       session = eqb-true (session_of ss a) (session_of ss b) parts.1;
     }
-
-pub is_of_session : (ss : List ClientSession) (a b : ℕ) → AreOfSession ss a b → is_behind ss a b ≡ true
-is_of_session ss a b h = rw (lt-ltb a b h.order) (eq-eqb (session_of ss a) (session_of ss b) h.session)
 
 joined : (ss : List ClientSession) (a b c : ℕ) → AreOfSession ss a b → AreOfSession ss b c → AreOfSession ss a c
 joined ss a b c h g = record {
@@ -45,20 +42,13 @@ unfolding AllSteps
 each_step P [] h i lt = absurd (omega (arith, lt))
 each_step P (a ∷ []) h i lt = absurd (omega (arith, lt))
 each_step P (a ∷ b ∷ rest) h zero lt = h.0
-each_step P (a ∷ b ∷ rest) h (suc i) lt =
-    let e : suc i + 1 ≡ suc (i + 1) = omega arith in
-    subst (λ k. P (get_or (b ∷ rest) i 0) (get_or (a ∷ b ∷ rest) k 0)) (sym e) (each_step P (b ∷ rest) h.1 i (omega (arith, lt)))
+each_step P (a ∷ b ∷ rest) h (suc i) lt = grind (arith, each_step P (b ∷ rest) h.1 i)
 
 all_steps : (P : ℕ → ℕ → Type 0) (line : List ℕ) → ((i : ℕ) → i + 1 < length line → P (get_or line i 0) (get_or line (i + 1) 0)) → AllSteps P line
 unfolding AllSteps
 all_steps P [] h = tt
 all_steps P (a ∷ []) h = tt
-all_steps P (a ∷ b ∷ rest) h = (h 0 (omega arith), all_steps P (b ∷ rest) later)
-  where
-    later : (i : ℕ) → i + 1 < length (b ∷ rest) → P (get_or (b ∷ rest) i 0) (get_or (b ∷ rest) (i + 1) 0)
-    later i lt =
-        let e : suc i + 1 ≡ suc (i + 1) = omega arith in
-        subst (λ k. P (get_or (b ∷ rest) i 0) (get_or (a ∷ b ∷ rest) k 0)) e (h (suc i) (omega (arith, lt)))
+all_steps P (a ∷ b ∷ rest) h = (h 0 (omega arith), all_steps P (b ∷ rest) (λ i lt. grind (arith, h (suc i))))
 
 -- these stand side by side
 unfoldable pub Beside : ℕ → ℕ → List ℕ → Type 0

@@ -22,9 +22,6 @@ pub record Walked (log : Log) (x v first step : ℕ) : Type 0 where
   pub there : (n : ℕ) → IsBackIn log x n first → IsBackIn log x (n + step) v
   pub here : (n : ℕ) → IsBackIn log x n v → (l : ℕ) × ((n ≡ l + step) × IsBackIn log x l first)
 
-pub start : (log : Log) (x v : ℕ) → Walked log x v v 0
-start log x v = record { there = λ n b. (let e : n ≡ n + 0 = omega arith in subst (λ k. IsBackIn log x k v) e b); here = λ n b. (n, (omega arith, b)) }
-
 module _ (log : Log) (x : ℕ) (none : source log 0 x ≡ None) where
   no_source : (v u : ℕ) → v ≡ 0 → source log v x ≡ Some u → ⊥
   no_source v u z e = let bad : None ≡ Some u = sym none ∙ ap (λ n. source log n x) (sym z) ∙ e in cc

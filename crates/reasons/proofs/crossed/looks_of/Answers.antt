@@ -1,5 +1,4 @@
-use Rattle.std.proofs.Common.{◌≡◌, ◌<◌, ◌+◌, ◌-◌, ◌^◌, min, ap, ◌∙◌, arith}
-use Rattle.std.specs.List.{sum_by, range_with_len}
+use Rattle.std.proofs.Common.{◌<◌, ◌+◌, ◌-◌, ◌^◌, min, ap, ◌∙◌, arith}
 use Rattle.log_definitions.specs.Numbers.{log_of}
 use Rattle.reasons.specs.Crossed.{looks_at}
 use Rattle.reasons.proofs.Looks.{looks_below, looks_further, at_most_next}
@@ -12,9 +11,3 @@ loop-number-preserved c =
     let low : 0 < r = omega (arith, c.loop-number.auto.number) in
     at_most_next (2 ^ 64 - 1) (looks_below log r) c.loop-number.looks (looks_at log r) c.add_looks-looks.result (looks_below log (r + 1))
     c.loop-number.invariant (c.add_looks-looks.ensures ∙ ap (λ v. min (c.loop-number.looks + looks_at log v) (2 ^ 64 - 1)) c.node.ensures.value) (looks_further log r low)
-
-pub returns : goal.returns
-returns c =
-    let log = log_of c.args.history.now in
-    let count : c.loop-number.number - 1 ≡ log.nodes = omega (arith, c.committed-number-end.ensures.count) in
-    c.loop-number.invariant ∙ ap (λ n. min (sum_by (looks_at log) (range_with_len 1 n)) (2 ^ 64 - 1)) count

@@ -1,11 +1,6 @@
 use Rattle.reasons.proofs.Beginnings.{initial_is, initial_least, none_initial}
 use Rattle.reasons.proofs.initial.before_by_initial.Goals as goal
 
-pub read_of-requires-clause-reads : goal.read_of-requires-clause-reads
-read_of-requires-clause-reads c =
-    let begins = rw c.in-Some.is at c.in_ok-begins.ensures.begins in
-    (begins.begun.1.back.0, begins.begun.1.back.1.0)
-
 pub returns-in-Some-clause-is : goal.returns-in-Some-clause-is
 returns-in-Some-clause-is c =
     let begins = rw c.in-Some.is at c.in_ok-begins.ensures.begins in

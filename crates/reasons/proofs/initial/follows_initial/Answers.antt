@@ -4,11 +4,8 @@ use Rattle.log_definitions.specs.Numbers.{log_of}
 use Rattle.session_history.proofs.Kept.{no_ops_at_zero}
 use Rattle.write_chains.proofs.Backwards.{none_at_zero}
 use Rattle.reason_laws.proofs.Numbers.{within}
-use Rattle.reasons.proofs.Walked.{start, walk_on, ended, too_far}
+use Rattle.reasons.proofs.Walked.{walk_on, ended, too_far}
 use Rattle.reasons.proofs.initial.follows_initial.Goals as goal
-
-pub loop-step-init : goal.loop-step-init
-loop-step-init c = start (log_of c.args.history.now) c.args.key c.args.node
 
 pub loop-step-preserved : goal.loop-step-preserved
 loop-step-preserved c =

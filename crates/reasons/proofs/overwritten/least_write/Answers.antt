@@ -3,13 +3,10 @@ use Rattle.std.proofs.lemmas.Bool.{false≢true}
 use Rattle.log_definitions.specs.Numbers.{log_of}
 use Rattle.serializability.specs.declared.event.Event.TheVariants as event
 use Rattle.reasons.proofs.Ops.{item_at}
-use Rattle.reasons.proofs.Least.{none_yet, least_more, least_same, least_all}
+use Rattle.reasons.proofs.Least.{least_more, least_same, least_all}
 use Rattle.reasons.specs.Overwrites.{IsLeastWrite}
 use Rattle.reasons.proofs.overwritten.least_write.Goals.{then-writes_less, else-writes_less}
 use Rattle.reasons.proofs.overwritten.least_write.Goals as goal
-
-pub loop-place-init : goal.loop-place-init
-loop-place-init c = none_yet (log_of c.args.history.now) c.args.a c.args.b
 
 pub loop-place-preserved : goal.loop-place-preserved
 loop-place-preserved c =
