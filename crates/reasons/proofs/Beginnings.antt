@@ -1,8 +1,5 @@
 -- The operation that begins a chain behind that of the initial value.
-use Rattle.std.proofs.Common.{◌≡◌, ◌≢◌, ℕ, zero, suc, ◌<◌, ◌≤◌, Bool, true, false, List, [], ◌∷◌, None, Some, refl, sym, ap, ◌∙◌, subst, inl, inr, arith, length, set}
-use Rattle.std.specs.Prelude.{slice_get, not, IsTrue, ◌↔◌}
-use Rattle.std.proofs.lemmas.Bool.{cases_eq, ne_eqb}
-use Rattle.std.proofs.lemmas.List.{length-set}
+use Rattle.std.proofs.Common.{◌≡◌, ◌≢◌, ℕ, zero, suc, ◌<◌, ◌≤◌, List, [], ◌∷◌, None, Some, refl, sym, ap, ◌∙◌, subst, inl, inr, arith, length}
 use Rattle.std.proofs.lemmas.Option.{slice_get_within}
 use Rattle.session_log.specs.Text.{ClientSession}
 use Rattle.session_log.specs.declared.session.Op.TheVariants.{Write}
@@ -14,7 +11,6 @@ use Rattle.serializability.proofs.Sources.{source_is, source_within}
 use Rattle.log_definitions.specs.WellFormed.{keys_in}
 use Rattle.log_definitions.specs.Numbers.{number_in, log_of}
 use Rattle.session_history.proofs.Kept.{no_ops_at_zero}
-use Rattle.session_history.proofs.KeyRows.{slice_get-set_here, slice_get-set_apart}
 use Rattle.write_chains.proofs.Backwards.{none_at_zero}
 use Rattle.reason_laws.specs.Reasons.{IsNode, ReadsAt, Link, AreLinked, left_by, IsOfInitialBefore}
 use Rattle.reason_laws.proofs.Links.{Trail, link_on}
@@ -24,7 +20,7 @@ use Rattle.reason_laws.proofs.Numbers.{wrote, source_of_read, within, node_from,
 use Rattle.reasons.specs.declared.operations.KeyWrite.{KeyWrite}
 use Rattle.reasons.specs.Firsts.{IsFirstRead}
 use Rattle.reasons.specs.Events.{NoneBefore}
-use Rattle.reasons.specs.Initials.{IsBackIn, FollowsInitial, IsBegun, IsBeginning, BeginsAt, ArePlain}
+use Rattle.reasons.specs.Initials.{IsBackIn, FollowsInitial, IsBegun, IsBeginning, BeginsAt}
 use Rattle.reasons.specs.Given.{IsLeastInitial, NoneInitial}
 use Rattle.reasons.proofs.Positions.{not_before}
 use Rattle.reasons.proofs.Ops.{event_at, op_at}
@@ -117,21 +113,4 @@ initial_least ss clean a b read o g f = record {
   first = λ i r.
       (let found : Some (event.Write (number_in (keys_in ss) r.key) r.wid) ≡ Some (event.Write o.key g.wid) = sym (event_at ss b o.place (Write r.key r.wid) r.writes) ∙ g.stands in
       f.first r.key i (left_by 0 r.links) (cc) r.reads.read);
-}
-
--- ---- marks of keys
-one_true : (begun : Bool) → begun ≡ true → Some (not begun) ≡ Some true → ⊥
-one_true true t m = cc
-one_true false t m = cc
-
-pub judged : (log : Log) (a b x : ℕ) (plain : List Bool) (begun : Bool) → ArePlain log a b plain → x < length plain → (IsTrue begun ↔ IsBegun log a b x) → ArePlain log a b (set plain x (not begun))
-judged log a b x plain begun h within r = record {
-  count = length-set plain x (not begun) ∙ h.count;
-  none = λ y marked is.
-      elim (cases_eq x y) [
-        | inl same ↦
-            let here : slice_get (set plain x (not begun)) x ≡ Some true = ap (slice_get (set plain x (not begun))) same ∙ marked in
-            one_true begun (r.1 (subst (IsBegun log a b) (sym same) is)) (sym (slice_get-set_here plain x (not begun) within) ∙ here)
-        | inr ne ↦ h.none y (sym (slice_get-set_apart plain x y (not begun) (ne_eqb x y ne)) ∙ marked) is
-      ];
 }

@@ -1,6 +1,5 @@
 -- The least key that two nodes read alike and the second writes, operation by operation.
 use Rattle.std.proofs.Common.{◌≡◌, ℕ, ◌+◌, ◌<◌, ◌≤◌, Option, None, Some, refl, sym, subst, arith, length}
-use borrow.Author.Count.{below_more}
 use Rattle.std.specs.Prelude.{slice_get}
 use Rattle.std.proofs.lemmas.Option.{slice_get_within}
 use Rattle.serializability.specs.Log.{Log}
@@ -8,7 +7,7 @@ use Rattle.serializability.specs.Events.{event_key}
 use Rattle.serializability.specs.declared.event.Event.{Event}
 use Rattle.serializability.specs.declared.event.Event.TheVariants as event
 use Rattle.reasons.specs.declared.operations.KeyWrite.{KeyWrite}
-use Rattle.reasons.specs.Overwrites.{ReadsAlike, IsBelow, IsLess, IsAlikeWrite, IsUpTo, IsLeastWrite}
+use Rattle.reasons.specs.Overwrites.{IsBelow, IsLess, IsAlikeWrite, IsUpTo, IsLeastWrite}
 
 pub least_all : (log : Log) (a b n : ℕ) (least : Option KeyWrite) → length (log.ops b) ≤ n → IsLeastWrite log a b n least → IsLeastWrite log a b (length (log.ops b)) least
 least_all log a b n least le h = record {
@@ -29,16 +28,12 @@ least_more log a b n key (event.Write x w) least at is less h =
     let new : KeyWrite = record { key = x; place = n } in
     let all : IsLeastWrite log a b (n + 1) (Some new) = record {
       own = λ o e. (let same : new ≡ o = cc in subst (λ m. (m.place < n + 1) × IsAlikeWrite log a b m) same (omega arith, record { wid = w; stands = at; alike = less.1 }));
-      all = λ k y v lt. below_more (λ k. slice_get (log.ops b) k ≡ Some (event.Write y v) → ReadsAlike log a b y → IsUpTo (Some new) y k) n
-          (λ k lt here alike. up_to_less least x n y k less.0 (h.all k y v lt here alike))
-          (λ here alike. (let same : x ≡ y = cc in (omega (arith, same), λ e. omega arith))) k lt;
+      all = λ k y v lt here alike. (let less = up_to_less least x n y k less.0 in grind (arith, h.all k y v));
     } in
     subst (λ k. IsLeastWrite log a b (n + 1) (Some (record { key = k; place = n }))) (sym is) all
 
 pub least_same : (log : Log) (a b n : ℕ) (e : Event) (least : Option KeyWrite) → slice_get (log.ops b) n ≡ Some e → (IsLess log a b least e → ⊥) → IsLeastWrite log a b n least → IsLeastWrite log a b (n + 1) least
 least_same log a b n e least at more h = record {
   own = λ o is. (let own = h.own o is in let lt = own.0 in (omega (arith, lt), own.1));
-  all = λ k y v lt. below_more (λ k. slice_get (log.ops b) k ≡ Some (event.Write y v) → ReadsAlike log a b y → IsUpTo least y k) n
-      (λ k lt. h.all k y v lt)
-      (λ here alike. (let same : e ≡ event.Write y v = cc in up_to_old log a b n y least (λ o is. (h.own o is).0) (λ below. more (subst (IsLess log a b least) (sym same) (below, alike))))) k lt;
+  all = λ k y v lt here alike. (let old = up_to_old log a b n y least (λ o is. (h.own o is).0) in grind (arith, h.all k y v));
 }

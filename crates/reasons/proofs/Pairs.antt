@@ -44,8 +44,7 @@ among g a (suc n) x w low high e =
     ]
 
 kept : (K : ℕ → Type 0) (g : ℕ → Option ℕ) (x : ℕ) (o : Option ℕ) (ps : List (ℕ × ℕ)) → K x → g x ≡ o → AllByRecursion {X = ℕ × ℕ} (λ p. K p.0 × (g p.0 ≡ Some p.1)) ps → AllByRecursion {X = ℕ × ℕ} (λ p. K p.0 × (g p.0 ≡ Some p.1)) (cons_option (option_map (λ w. (x, w)) o) ps)
-kept K g x None ps k e h = h
-kept K g x (Some w) ps k e h = ((k, e), h)
+kept K g x o ps k e h = grind arith
 
 each_read : (K : ℕ → Type 0) (g : ℕ → Option ℕ) (keys : List ℕ) → AllByRecursion K keys → AllByRecursion {X = ℕ × ℕ} (λ p. K p.0 × (g p.0 ≡ Some p.1)) (filter_map (pair_at g) keys)
 each_read K g [] h = tt

@@ -3,10 +3,8 @@ use Rattle.std.proofs.Common.{◌≡◌, ◌≢◌, ◌⊎◌, ℕ, ◌+◌, ◌
 use Rattle.std.specs.Prelude.{is_some, map}
 use Rattle.std.specs.Option.{option_map}
 use Rattle.std.specs.List.{Contains}
-use Rattle.std.specs.Cmp.{IsTotalOrder}
-use Rattle.std.specs.Ordering.{is_eq, nat_cmp}
-use Rattle.std.specs.declared.cmp.Ordering.{Ordering}
-use Rattle.std.specs.declared.cmp.Ordering.TheVariants.{Less, Equal, Greater}
+use Rattle.std.specs.Cmp.{IsTotalOrder, Equal-is}
+use Rattle.std.specs.Ordering.{nat_cmp}
 use Rattle.std.specs.BTreeMap.{BTreeMap, get, is_at, Updates, IsFromIterResult}
 use Rattle.std.proofs.lemmas.Cmp.{nat_cmp_total, on_total, then_total}
 use Rattle.std.proofs.lemmas.Bool.{cases_eq, ne_eqb, false≢true}
@@ -46,14 +44,9 @@ are_readers pairs m made = record {
 }
 
 -- ---- a place more
-is_equal : (o : Ordering) → is_eq o ≡ true → o ≡ Equal
-is_equal Less e = absurd (false≢true e)
-is_equal Equal e = refl
-is_equal Greater e = absurd (false≢true e)
-
 put_at : (f g : ℕ × ℕ → Option Shared) (k q : ℕ × ℕ) (s : Shared) (b : Bool) → is_at (pair_cmp k) q ≡ b → f k ≡ None → g q ≡ cond b (Some s) (f q) → (g q ≡ f q) ⊎ ((q ≡ k) × ((f q ≡ None) × (g q ≡ Some s)))
 put_at f g k q s true is none e =
-    let same : k ≡ q = exact_pairs nat_cmp nat_cmp exact_unsigned exact_unsigned k q (is_equal (pair_cmp k q) is) in
+    let same : k ≡ q = exact_pairs nat_cmp nat_cmp exact_unsigned exact_unsigned k q ((Equal-is (pair_cmp k q)).0 is) in
     inr (sym same, (ap f (sym same) ∙ none, e))
 put_at f g k q s false is none e = inl e
 
@@ -91,23 +84,11 @@ module _ (pairs : List Pair) (readers : ℕ × (ℕ × ℕ) → Option ℕ) (are
 
   pub entered : (front : List Pair) (p : Pair) (now : Shared) (old new : ℕ × ℕ → Option Shared) → Contains pairs p → Some now ≡ shared_by readers u p → HasEntered old new (p.version, p.key) now → IsMet pairs readers u front old → IsMet pairs readers u (front ++ p ∷ []) new
   entered front p now old new among is n h = record {
-    sound = λ k s e. elim (n.cases k) [
-      | inl kept ↦ h.sound k s (sym kept ∙ e)
-      | inr put ↦
-          let found : Some now ≡ Some s = sym put.1.1 ∙ e in
-          let same : now ≡ s = cc in
-          subst (λ k. IsShared pairs u k s) (sym put.0) (subst (IsShared pairs u (p.version, p.key)) same (shared_is p now among (sym is)))
-    ];
+    sound = λ k s e. (let own = shared_is p now among (sym is) in let c = n.cases k in grind (arith, h.sound k s));
     all = λ q s c e. elim (Contains-push_cases front p q c) [
-      | inl before ↦
-          let t = h.all q s before e in
-          elim (n.cases (q.version, q.key)) [
-            | inl kept ↦ (t.0, (kept ∙ t.1.0, t.1.1))
-            | inr put ↦ absurd (let bad : None ≡ Some t.0 = sym put.1.0 ∙ t.1.0 in cc)
-          ]
+      | inl before ↦ (let t = h.all q s before e in let c = n.cases (q.version, q.key) in (t.0, grind arith))
       | inr same ↦
-          let found : Some now ≡ Some s = is ∙ ap (shared_by readers u) same ∙ e in
-          let item : now ≡ s = cc in
+          let item : now ≡ s = cc (is, e, ap (shared_by readers u) same) in
           (n.here.0, (ap (λ (p : Pair). new (p.version, p.key)) (sym same) ∙ n.here.1.0, n.here.1.1 ∙ ap (λ (s : Shared). s.source) item))
     ];
   }

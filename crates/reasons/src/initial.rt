@@ -47,7 +47,6 @@ fn is_begun(history: &History, a: NodeIx, b: NodeIx, key: usize) -> bool
 
 /// The same with marks of the keys of which it is known not to be so: it is asked of each of these
 /// once.
-#[tactic(auto, using(crate::proofs::Beginnings::judged))]
 fn judge(plain: &mut [bool], history: &History, a: NodeIx, b: NodeIx, key: usize) -> bool
     requires clean { IsClean (log_of history.now) }
     requires first { IsNode history.now a }
