@@ -1,6 +1,6 @@
 -- The first read of a key, by which a node reads what the log says.
-use Rattle.std.proofs.Common.{◌≡◌, ℕ, ◌≤◌, true, List, Some, sym, ap, ◌∙◌, subst, eqb-true, eq-eqb}
-use Rattle.std.specs.Prelude.{slice_get}
+use Rattle.std.proofs.Common.{◌≡◌, ℕ, ◌≤◌, true, List, None, Some, sym, ap, ◌∙◌, subst, eqb-true, eq-eqb}
+use Rattle.std.specs.Prelude.{position}
 use Rattle.std.proofs.lemmas.Bool.{false≢true}
 use Rattle.session_log.specs.Text.{ClientSession}
 use Rattle.session_log.specs.declared.session.Op.TheVariants.{Read}
@@ -16,15 +16,15 @@ use Rattle.reason_laws.specs.Reasons.{IsNode, IsOpAt, IsNoWriteOf, ReadsAt}
 use Rattle.reason_laws.proofs.Numbers.{within, before_at, reads_after, none_before, reads_in, reads_key}
 use Rattle.reasons.specs.Events.{is_read_of}
 use Rattle.reasons.specs.Firsts.{IsFirstRead}
-use Rattle.reasons.proofs.Positions.{FirstAt, take_fewer}
+use Rattle.reasons.proofs.Positions.{FirstAt, first_at, none_passes, take_fewer}
 use Rattle.reasons.proofs.Ops.{event_at, op_at, same_key}
 
 -- a node that reads a key from another has a read of it
-pub some_read : (ss : List ClientSession) → IsClean (log_of ss) → (v x u : ℕ) → IsNode ss v → source (log_of ss) v x ≡ Some u → ((k : ℕ) (e : Event) → slice_get ((log_of ss).ops v) k ≡ Some e → is_read_of x e ≡ true → ⊥) → ⊥
+pub some_read : (ss : List ClientSession) → IsClean (log_of ss) → (v x u : ℕ) → IsNode ss v → source (log_of ss) v x ≡ Some u → None ≡ position (is_read_of x) ((log_of ss).ops v) → ⊥
 some_read ss clean v x u node from none =
     let f = source_is (log_of ss) clean v x u node.0 (within ss v node) from in
     let r = reads_in ss v x f.w f.before f.reads f.external in
-    none r.place (event.Read (number_in (keys_in ss) r.key) f.w) (event_at ss v r.place (Read r.key f.w) r.is.read) (eq-eqb (number_in (keys_in ss) r.key) x r.number)
+    none_passes (is_read_of x) ((log_of ss).ops v) none r.place (event.Read (number_in (keys_in ss) r.key) f.w) (event_at ss v r.place (Read r.key f.w) r.is.read) (eq-eqb (number_in (keys_in ss) r.key) x r.number)
 
 pub record ReadEvent (x : ℕ) (e : Event) : Type 0 where
   pub wid : ℕ
@@ -42,12 +42,15 @@ earlier_read ss clean v i k key w y node r le at =
     let same : y ≡ w = clean.same v x y w (before_at ss v i) (before_at ss v k) (reads_after ss v i key y node at) (none_before ss v i key y here) (reads_after ss v k key w node r.read) (none_before ss v k key w r) in
     subst (ReadsAt ss v i key) same here
 
-pub first_is : (ss : List ClientSession) → IsClean (log_of ss) → (v x i : ℕ) → IsNode ss v → FirstAt (is_read_of x) ((log_of ss).ops v) i → IsFirstRead ss v x i
-first_is ss clean v x i node r = record {
+pub first_is : (ss : List ClientSession) → IsClean (log_of ss) → (v x i : ℕ) → IsNode ss v → Some i ≡ position (is_read_of x) ((log_of ss).ops v) → IsFirstRead ss v x i
+first_is ss clean v x i node at = record {
   reads = reads;
   first = λ key j w n at. r.first j (event.Read (number_in (keys_in ss) key) w) (event_at ss v j (Read key w) at) (eq-eqb (number_in (keys_in ss) key) x n);
 }
   where
+    r : FirstAt (is_read_of x) ((log_of ss).ops v) i
+    r = first_at (is_read_of x) ((log_of ss).ops v) i at
+
     reads : (key : List ℕ) (u w : ℕ) → number_in (keys_in ss) key ≡ x → source (log_of ss) v x ≡ Some u → IsFinal (log_of ss) u x w → ReadsAt ss v i key w
     reads key u w n from final =
         let e = read_event x r.item r.passes in

@@ -1,5 +1,5 @@
 -- How often a search for crossed reads looks at what is read, read by read.
-use Rattle.std.proofs.Common.{◌≡◌, ℕ, min, ◌+◌, ◌-◌, ◌*◌, ◌<◌, List, length, get_or, refl, sym, subst, arith}
+use Rattle.std.proofs.Common.{◌≡◌, ℕ, ◌+◌, ◌-◌, ◌*◌, ◌<◌, List, length, get_or, refl, sym, subst, arith}
 use Rattle.std.specs.Prelude.{map}
 use Rattle.std.specs.List.{sum_by, AllByRecursion, range_with_len}
 use Rattle.std.proofs.lemmas.List.Sums.{sum_by_push}
@@ -31,7 +31,3 @@ looks_further log r low =
     let count : r + 1 - 1 ≡ (r - 1) + 1 = omega (arith, low) in
     let last : 1 + (r - 1) ≡ r = omega (arith, low) in
     rw (count, range_last 1 (r - 1), sum_by_push (looks_at log) (range_with_len 1 (r - 1)) (1 + (r - 1)), last) refl
-
--- ---- up to a greatest number
-pub at_most_next : (m below looks at new next : ℕ) → looks ≡ min below m → new ≡ min (looks + at) m → next ≡ below + at → new ≡ min next m
-at_most_next m below looks at new next a b e = omega arith

@@ -59,6 +59,7 @@ fn crossing(history: &History, square: Square) -> Crossing
 }
 
 /// Adds how often a search looks at what a node reads, up to the greatest number.
+#[tactic(auto, using(crate::proofs::Looks::key_read))]
 fn add_looks(history: &History, reader: NodeIx, before: usize) -> usize
     ensures { result ≡ min (before + looks_at (log_of history.now) reader) usize.MAX }
 {
@@ -72,6 +73,7 @@ fn add_looks(history: &History, reader: NodeIx, before: usize) -> usize
 }
 
 /// How often a search looks at what the nodes read, up to the greatest number.
+#[tactic(auto, using(crate::proofs::Looks::looks_further))]
 fn looks_of(history: &History) -> usize
     ensures { result ≡ min (looks (log_of history.now)) usize.MAX }
 {

@@ -10,7 +10,6 @@ ghost use Rattle.std.specs.BTreeMap.{get};
 ghost use Rattle.serializability.specs.Reads.{IsClean};
 ghost use Rattle.log_definitions.specs.Numbers.{log_of};
 ghost use Rattle.session_history.specs.Tables.{sources_of};
-ghost use Rattle.reasons.specs.declared.crossings.Pair.{Pair as PairView};
 ghost use Rattle.reasons.specs.declared.crossings.Square.{Square as SquareView};
 ghost use Rattle.reasons.specs.Squares as spec;
 ghost use Rattle.reasons.specs.Squares.{pairs_by, ArePairs, AreReaders, HasEntered};
@@ -74,6 +73,7 @@ fn put_reads(
 }
 
 /// Appends what a node reads, where it reads the key.
+#[tactic(auto, using(crate::proofs::Pairs::node_further))]
 fn put_node(
     pairs: &mut Vec<Pair>,
     history: &History,
@@ -213,6 +213,7 @@ fn square_at(alloc: Global, history: &History, key: usize) -> Result<Option<Squa
 
 /// Four nodes that read all four pairs of two versions of a key and two of another, where there are
 /// such.
+#[tactic(auto, using(crate::proofs::Pairs::key_within))]
 pub fn square_in(alloc: Global, history: &History) -> Result<Option<Square>, AllocError>
     requires clean { IsClean (log_of history.now) }
     ensures square { IfOk result (λ found. IfSome found (IsSquare (log_of history.now))) }

@@ -107,6 +107,7 @@ fn begins_behind_initial(
 /// The first operation of `b` that begins a chain behind that of the initial value of its key, and
 /// the first read of `a` from that one. The one error is that memory runs out for a byte of each
 /// key.
+#[tactic(auto, using(crate::proofs::Beginnings::initial_is, crate::proofs::Beginnings::initial_least))]
 pub fn before_by_initial(
     alloc: Global,
     history: &History,

@@ -52,7 +52,7 @@ fn writes_less(
 }
 
 /// The least key that both nodes read alike and `b` writes, with its first write of it.
-#[tactic(auto, using(crate::proofs::Ops::key_below_at))]
+#[tactic(auto, using(crate::proofs::Ops::key_below_at, crate::proofs::Least::least_more, crate::proofs::Least::least_same, crate::proofs::Ops::item_at))]
 fn least_write(history: &History, a: NodeIx, b: NodeIx) -> Option<KeyWrite>
     ensures { let log = log_of history.now in IsLeastWrite log a b (length (log.ops b)) result }
 {
@@ -68,6 +68,7 @@ fn least_write(history: &History, a: NodeIx, b: NodeIx) -> Option<KeyWrite>
 
 /// The first read in `a` of the least key that both nodes read alike and `b` writes, and the first
 /// write of it in `b`.
+#[tactic(auto, using(crate::proofs::Overwrites::overwritten, crate::proofs::Overwrites::least_overwrite))]
 pub fn overwritten_by(history: &History, a: NodeIx, b: NodeIx) -> Option<Operations>
     requires clean { IsClean (log_of history.now) }
     requires first { IsNode history.now a }

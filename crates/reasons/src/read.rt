@@ -33,6 +33,7 @@ fn first_read(history: &History, node: NodeIx, key: usize) -> Option<usize>
 }
 
 /// The first read of a key that the node reads before any own write of it.
+#[tactic(auto, using(crate::proofs::Firsts::some_read, crate::proofs::Firsts::first_is))]
 pub fn read_of(history: &History, node: NodeIx, key: usize) -> usize
     requires clean { IsClean (log_of history.now) }
     requires node { IsNode history.now node }
@@ -56,6 +57,7 @@ fn names(read: Event, write: Event) -> bool
 }
 
 /// Whether an operation is a read that may name a write of the node.
+#[tactic(auto, using(crate::proofs::Named::none_unwritten, crate::proofs::Named::none_by_write))]
 fn may_name(history: &History, node: NodeIx, event: Event) -> bool
     requires well_formed { IsWellFormedList history.now }
     requires node { IsNode history.now node }
@@ -100,6 +102,7 @@ fn first_reading(history: &History, a: NodeIx, b: NodeIx) -> Option<usize>
 }
 
 /// The first read of `b` that names a write of `a`, and that write.
+#[tactic(auto, using(crate::proofs::Named::is_read, crate::proofs::Named::least_read))]
 pub fn read_by(history: &History, a: NodeIx, b: NodeIx) -> Option<Operations>
     requires well_formed { IsWellFormedList history.now }
     requires first { IsNode history.now a }

@@ -8,6 +8,7 @@ use session_history::History;
 use std::alloc::{AllocError, Global};
 
 /// Whether both are of one session, and the first stands before the second in it.
+#[tactic(auto, unfolding(log_definitions::specs::Numbers::log_of))]
 pub fn is_behind(history: &History, a: NodeIx, b: NodeIx) -> bool
     ensures { result ≡ spec.is_behind history.now a b }
 {
@@ -33,6 +34,7 @@ fn is_between(history: &History, before: NodeIx, node: NodeIx, behind: &[NodeIx]
 
 /// A line of nodes of which each run of one session is told by its ends. The one error is that
 /// memory runs out.
+#[tactic(auto, unfolding(crate::specs::Runs::told_behind))]
 pub fn without_runs(
     alloc: Global,
     history: &History,

@@ -1,4 +1,4 @@
-use Rattle.reasons.proofs.Named.{none_read, some_named, is_read, least_read}
+use Rattle.reasons.proofs.Named.{none_read, some_named}
 use Rattle.reasons.proofs.read.read_by.Goals as goal
 
 pub returns-in_default-clause-none : goal.returns-in_default-clause-none
@@ -6,9 +6,3 @@ returns-in_default-clause-none c = none_read c.args.history.now c.args.a c.args.
 
 pub returns-in_default-first_named-clause-none : goal.returns-in_default-first_named-clause-none
 returns-in_default-first_named-clause-none c = absurd (some_named c.args.history.now c.args.a c.args.b c.in-Some.read c.events_of.result.now c.events_of.ensures.events c.in-Some.ensures c.in_default-first_named.ensures)
-
-pub returns-clause-is : goal.returns-clause-is
-returns-clause-is c = is_read c.args.history.now c.args.a c.args.b c.in-Some.read c.events_of.result.now c.events_of.ensures.events c.in-Some.ensures c.in-Some-first_named.written c.in-Some-first_named.ensures c.requires.first c.requires.second c.requires.apart
-
-pub returns-clause-least : goal.returns-clause-least
-returns-clause-least c = least_read c.args.history.now c.args.a c.args.b c.in-Some.read c.events_of.result.now c.events_of.ensures.events c.in-Some.ensures c.in-Some-first_named.written c.in-Some-first_named.ensures
