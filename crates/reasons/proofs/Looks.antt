@@ -10,7 +10,7 @@ use Rattle.reach_laws.proofs.Walks.{each_contained}
 use Rattle.session_history.specs.Tables.{sources_of, writers_in}
 use Rattle.session_history.specs.declared.reads.ReadFrom.{ReadFrom}
 use Rattle.write_chains.proofs.Gathered.{pair_of}
-use Rattle.reasons.specs.Crossed.{looks_at, looks}
+use Rattle.reasons.specs.Crossed.{looks_at}
 use Rattle.reasons.proofs.Pairs.{Read, reads_of}
 
 -- at one read, where so many keys are read

@@ -1,7 +1,9 @@
 -- Operations of the sessions, and events of the log.
-use Rattle.std.proofs.Common.{◌≡◌, ℕ, zero, suc, ◌<◌, List, [], ◌∷◌, Some, refl, sym, ap, ◌∙◌, subst, arith, length, get_or}
+use Rattle.std.proofs.Common.{◌≡◌, ℕ, ◌<◌, List, Option, None, Some, refl, sym, ap, ◌∙◌, subst, arith, length, get_or}
 use Rattle.std.specs.Prelude.{slice_get}
-use Rattle.std.proofs.lemmas.Option.{slice_get-get_or}
+use Rattle.std.specs.Option.{option_map}
+use Rattle.std.proofs.lemmas.Option.{slice_get-get_or, slice_get-map}
+use Rattle.list_lemmas.proofs.Elements.{get_map}
 use Rattle.session_log.specs.Text.{ClientSession, key_of}
 use Rattle.session_log.specs.declared.session.Op.{Op}
 use Rattle.session_log.specs.declared.session.Op.TheVariants.{Read, Write}
@@ -9,7 +11,7 @@ use Rattle.serializability.specs.declared.event.Event.{Event}
 use Rattle.serializability.specs.declared.event.Event.TheVariants as event
 use Rattle.log_definitions.specs.WellFormed.{keys_in}
 use Rattle.log_definitions.specs.Serial.{ops_of}
-use Rattle.log_definitions.specs.Numbers.{number_in, event_of, events_of, log_of}
+use Rattle.log_definitions.specs.Numbers.{number_in, event_of, log_of}
 use Rattle.log_definitions.proofs.Keys.{number_below, same_number}
 use Rattle.serializability.specs.Log.{Log}
 use Rattle.serializability.specs.Events.{event_key}
@@ -23,24 +25,15 @@ pub record OpIn (keys : List (List ℕ)) (ops : List Op) (i : ℕ) (e : Event) :
   pub stands : slice_get ops i ≡ Some op
   pub event : event_of keys op ≡ e
 
-op_further : (keys : List (List ℕ)) (o : Op) (ops : List Op) (i : ℕ) (e : Event) → OpIn keys ops i e → OpIn keys (o ∷ ops) (suc i) e
-op_further keys o ops i e h = record { op = h.op; stands = h.stands; event = h.event }
-
-op_in : (keys : List (List ℕ)) (ops : List Op) (i : ℕ) (e : Event) → slice_get (events_of keys ops) i ≡ Some e → OpIn keys ops i e
-op_in keys [] i e h = cc
-op_in keys (o ∷ ops) zero e h = let same : event_of keys o ≡ e = cc in record { op = o; stands = refl; event = same }
-op_in keys (o ∷ ops) (suc i) e h = op_further keys o ops i e (op_in keys ops i e h)
-
-event_in : (keys : List (List ℕ)) (ops : List Op) (i : ℕ) (o : Op) → slice_get ops i ≡ Some o → slice_get (events_of keys ops) i ≡ Some (event_of keys o)
-event_in keys [] i o h = cc
-event_in keys (q ∷ ops) zero o h = let same : q ≡ o = cc in ap (λ p. Some (event_of keys p)) same
-event_in keys (q ∷ ops) (suc i) o h = event_in keys ops i o h
+op_from : (keys : List (List ℕ)) (ops : List Op) (i : ℕ) (e : Event) (o : Option Op) → slice_get ops i ≡ o → option_map (event_of keys) o ≡ Some e → OpIn keys ops i e
+op_from keys ops i e None at h = cc
+op_from keys ops i e (Some o) at h = record { op = o; stands = at; event = cc }
 
 pub event_at : (ss : List ClientSession) (v i : ℕ) (o : Op) → IsOpAt ss v i o → slice_get ((log_of ss).ops v) i ≡ Some (event_of (keys_in ss) o)
-event_at ss v i o h = ap (λ es. slice_get es i) (ops_is ss v) ∙ event_in (keys_in ss) (ops_of ss v) i o h
+event_at ss v i o h = ap (λ es. slice_get es i) (ops_is ss v) ∙ get_map (event_of (keys_in ss)) (ops_of ss v) i o h
 
 pub op_of : (ss : List ClientSession) (v i : ℕ) (e : Event) → slice_get ((log_of ss).ops v) i ≡ Some e → OpIn (keys_in ss) (ops_of ss v) i e
-op_of ss v i e h = op_in (keys_in ss) (ops_of ss v) i e (ap (λ es. slice_get es i) (sym (ops_is ss v)) ∙ h)
+op_of ss v i e h = op_from (keys_in ss) (ops_of ss v) i e (slice_get (ops_of ss v) i) refl (sym (slice_get-map (event_of (keys_in ss)) (ops_of ss v) i) ∙ ap (λ es. slice_get es i) (sym (ops_is ss v)) ∙ h)
 
 -- an operation like the event, of this key
 abbrev pub op_like : List ℕ → Event → Op

@@ -1,19 +1,20 @@
 -- What the readers of a key read, one by one.
-use Rattle.std.proofs.Common.{◌≡◌, ℕ, zero, suc, ◌+◌, ◌<◌, ◌≤◌, List, [], ◌∷◌, ◌++◌, Option, None, Some, refl, sym, ap, ◌∙◌, subst, inl, inr, arith}
+use Rattle.std.proofs.Common.{◌≡◌, ℕ, ◌+◌, ◌<◌, ◌≤◌, List, [], ◌∷◌, ◌++◌, Option, None, Some, refl, sym, ap, ◌∙◌, subst, inl, inr, arith}
 use Rattle.std.specs.Prelude.{map}
 use Rattle.std.specs.List.{Contains, cons_option, filter_map, AllByRecursion}
 use Rattle.std.specs.Option.{option_map}
 use Rattle.std.proofs.lemmas.Bool.{cases_eq}
 use Rattle.std.proofs.lemmas.List.Elements.{Contains-append_left, Contains-append_right, Contains-append_cases}
-use Rattle.list_lemmas.proofs.Elements.{behind, mapped}
+use Rattle.list_lemmas.proofs.Elements.{mapped}
 use Rattle.serializability.specs.Log.{Log}
 use Rattle.serializability.specs.Reads.{IsClean}
 use Rattle.serializability.specs.Polygraph.{source, all_keys}
 use Rattle.serializability.proofs.Sources.{source_is}
+use Rattle.serializability.proofs.Serial.{some_cases}
 use Rattle.list_lemmas.proofs.Each.{member, each_member}
-use Rattle.serializability.proofs.Places.{each_from_range, each_from_map}
+use Rattle.serializability.proofs.Places.{each_from_range, each_of_range, each_from_map}
 use Rattle.reach_laws.proofs.Walks.{each_contained}
-use Rattle.session_history.specs.Tables.{sources_of, pair_at, pairs}
+use Rattle.session_history.specs.Tables.{sources_of, pair_at}
 use Rattle.session_history.specs.declared.reads.ReadFrom.{ReadFrom}
 use Rattle.write_chains.proofs.Gathered.{pair_of}
 use Rattle.reasons.specs.declared.crossings.Pair.{Pair}
@@ -25,24 +26,6 @@ key_within log clean r x u low high from = let f = source_is log clean r x u low
 
 -- ---- among what a node reads
 
-one_there : (o : Option (ℕ × ℕ)) (ps : List (ℕ × ℕ)) (p : ℕ × ℕ) → Contains ps p → Contains (cons_option o ps) p
-one_there None ps p c = c
-one_there (Some q) ps p c = behind q ps p c
-
-one_here : (x w : ℕ) (o : Option ℕ) (ps : List (ℕ × ℕ)) → o ≡ Some w → Contains {X = ℕ × ℕ} (cons_option (option_map (λ w. (x, w)) o) ps) (x, w)
-one_here x w None ps e = cc
-one_here x w (Some y) ps e = let same : y ≡ w = cc in (0, omega arith, ap (λ n. (x, n)) same)
-
-among : (g : ℕ → Option ℕ) (a n x w : ℕ) → a ≤ x → x < a + n → g x ≡ Some w → Contains {X = ℕ × ℕ} (pairs g a n) (x, w)
-among g a zero x w low high e = absurd (omega arith)
-among g a (suc n) x w low high e =
-    let rest = pairs g (a + 1) n in
-    let In : ℕ → Type 0 = λ k. Contains {X = ℕ × ℕ} (cons_option (pair_at g k) rest) (x, w) in
-    elim (cases_eq a x) [
-      | inl same ↦ subst In (sym same) (one_here x w (g x) rest e)
-      | inr ne ↦ one_there (pair_at g a) rest (x, w) (among g (a + 1) n x w (omega (arith, ne)) (omega arith) e)
-    ]
-
 kept : (K : ℕ → Type 0) (g : ℕ → Option ℕ) (x : ℕ) (o : Option ℕ) (ps : List (ℕ × ℕ)) → K x → g x ≡ o → AllByRecursion {X = ℕ × ℕ} (λ p. K p.0 × (g p.0 ≡ Some p.1)) ps → AllByRecursion {X = ℕ × ℕ} (λ p. K p.0 × (g p.0 ≡ Some p.1)) (cons_option (option_map (λ w. (x, w)) o) ps)
 kept K g x o ps k e h = grind arith
 
@@ -50,12 +33,24 @@ each_read : (K : ℕ → Type 0) (g : ℕ → Option ℕ) (keys : List ℕ) → 
 each_read K g [] h = tt
 each_read K g (x ∷ keys) h = kept K g x (g x) (filter_map (pair_at g) keys) h.0 refl (each_read K g keys h.1)
 
+each_of : (P : ℕ × ℕ → Type 0) (g : ℕ → Option ℕ) (keys : List ℕ) → AllByRecursion P (filter_map (pair_at g) keys) → AllByRecursion (λ x. (w : ℕ) → g x ≡ Some w → P (x, w)) keys
+each_of P g [] h = tt
+each_of P g (x ∷ keys) h = elim (some_cases (g x)) [
+  | inl e ↦ (λ w f. absurd (let bad : None ≡ Some w = sym e ∙ f in cc), each_of P g keys (rw e at h))
+  | inr s ↦ let r = rw s.1 at h in (λ w f. subst (λ v. P (x, v)) (let both : Some s.0 ≡ Some w = sym s.1 ∙ f in cc) r.0, each_of P g keys r.1)
+]
+
 -- a key of the log, and who wrote what is read of it
 abbrev pub Read : Log → ℕ → ℕ × ℕ → Type 0
 Read log r p = (p.0 < log.keys) × (source log r p.0 ≡ Some p.1)
 
 pub reads_of : (log : Log) (r : ℕ) → AllByRecursion (Read log r) (sources_of log r)
 reads_of log r = each_read (λ x. x < log.keys) (source log r) (all_keys log) (each_from_range (λ x. x < log.keys) 0 log.keys (λ x low high. omega (arith, high)))
+
+pub among : (log : Log) (r x w : ℕ) → x < log.keys → source log r x ≡ Some w → Contains (sources_of log r) (x, w)
+among log r x w below e =
+    let all = each_of (Contains (sources_of log r)) (source log r) (all_keys log) (each_member (Contains (sources_of log r)) (sources_of log r) (λ p c. c)) in
+    each_of_range (λ x. (w : ℕ) → source log r x ≡ Some w → Contains (sources_of log r) (x, w)) 0 log.keys all x (omega arith) (omega (arith, below)) w e
 
 -- ---- the pairs of a node
 
@@ -94,5 +89,5 @@ node_further log clean x r u old low high from h =
         let found : Some u ≡ Some v = sym from ∙ first in
         let version : u ≡ v = cc in
         let within = key_within log clean r y w low high second in
-        let is = mapped (λ (q : ℕ × ℕ). pair r u q.0 q.1) (sources_of log r) (y, w) (among (source log r) 0 log.keys y w (omega arith) (omega (arith, within)) second) in
+        let is = mapped (λ (q : ℕ × ℕ). pair r u q.0 q.1) (sources_of log r) (y, w) (among log r y w within second) in
         subst (λ n. Contains (pairs_by r u (sources_of log r)) (pair n v y w)) (sym same) (subst (λ n. Contains (pairs_by r u (sources_of log r)) (pair r n y w)) version is)

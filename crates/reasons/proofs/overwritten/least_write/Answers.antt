@@ -1,6 +1,5 @@
 use Rattle.std.proofs.Common.{arith, ap, length}
 use Rattle.log_definitions.specs.Numbers.{log_of}
-use Rattle.serializability.specs.declared.event.Event.TheVariants as event
 use Rattle.reasons.proofs.Least.{least_all}
 use Rattle.reasons.proofs.overwritten.least_write.Goals as goal
 
