@@ -10,8 +10,7 @@ use Rattle.serializability.specs.Polygraph.{source}
 use Rattle.serializability.proofs.Sources.{source_is, source_within}
 use Rattle.log_definitions.specs.WellFormed.{keys_in}
 use Rattle.log_definitions.specs.Numbers.{number_in, log_of}
-use Rattle.session_history.proofs.Kept.{no_ops_at_zero}
-use Rattle.write_chains.proofs.Backwards.{none_at_zero}
+use Rattle.reasons.proofs.Walked.{zero_unread}
 use Rattle.reason_laws.specs.Reasons.{IsNode, ReadsAt, Link, AreLinked, left_by, IsOfInitialBefore}
 use Rattle.reason_laws.proofs.Links.{Trail, link_on}
 use Rattle.chain_laws.proofs.Coalesced.{none_some}
@@ -32,7 +31,7 @@ trail_at_zero ss key u y z (inr f) = absurd (omega (arith, f.0, z))
 
 -- node 0 reads nothing
 positive : (ss : List ClientSession) (u s x : ℕ) → source (log_of ss) u x ≡ Some s → 0 < u
-positive ss zero s x e = let bad : None ≡ Some s = sym (none_at_zero (log_of ss) x (no_ops_at_zero ss)) ∙ e in cc
+positive ss zero s x e = let bad : None ≡ Some s = sym (zero_unread ss x) ∙ e in cc
 positive ss (suc u) s x e = omega arith
 
 trail : (ss : List ClientSession) → IsClean (log_of ss) → (key : List ℕ) (n u y : ℕ) → u ≤ (log_of ss).nodes → IsFinal (log_of ss) u (number_in (keys_in ss) key) y → IsBackIn (log_of ss) (number_in (keys_in ss) key) n u → Trail ss key y

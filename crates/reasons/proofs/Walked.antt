@@ -11,6 +11,10 @@ use Rattle.serializability.specs.Reads.{IsClean}
 use Rattle.serializability.specs.Polygraph.{source}
 use Rattle.serializability.proofs.Sources.{source_is}
 use Rattle.log_definitions.proofs.Members.{each_weaker}
+use Rattle.log_definitions.specs.Numbers.{log_of}
+use Rattle.session_log.specs.Text.{ClientSession}
+use Rattle.session_history.proofs.Kept.{no_ops_at_zero}
+use Rattle.write_chains.proofs.Backwards.{none_at_zero}
 use Rattle.session_history.specs.Tables.{writers_in}
 use Rattle.chain_laws.proofs.Walks.{some_one}
 use Rattle.reach_laws.proofs.Walks.{each_contained}
@@ -21,6 +25,9 @@ use Rattle.reasons.specs.Initials.{IsBackIn, FollowsInitial}
 pub record Walked (log : Log) (x v first step : ℕ) : Type 0 where
   pub there : (n : ℕ) → IsBackIn log x n first → IsBackIn log x (n + step) v
   pub here : (n : ℕ) → IsBackIn log x n v → (l : ℕ) × ((n ≡ l + step) × IsBackIn log x l first)
+
+pub zero_unread : (ss : List ClientSession) (x : ℕ) → source (log_of ss) 0 x ≡ None
+zero_unread ss x = none_at_zero (log_of ss) x (no_ops_at_zero ss)
 
 module _ (log : Log) (x : ℕ) (none : source log 0 x ≡ None) where
   no_source : (v u : ℕ) → v ≡ 0 → source log v x ≡ Some u → ⊥

@@ -18,6 +18,7 @@ use std::alloc::{AllocError, Global};
 
 /// Whether a node reads the key from the chain of its initial value. The walk back to it has no
 /// more nodes than write the key.
+#[tactic(auto, using(crate::proofs::Walked::walk_on, crate::proofs::Walked::ended, crate::proofs::Walked::zero_unread))]
 fn follows_initial(history: &History, key: usize, node: NodeIx) -> bool
     requires clean { IsClean (log_of history.now) }
     requires key { key < (log_of history.now).keys }
