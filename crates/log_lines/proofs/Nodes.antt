@@ -1,5 +1,5 @@
 -- Where the nodes stand.
-use Rattle.std.proofs.Common.{◌≡◌, ℕ, zero, suc, ◌+◌, ◌<◌, ◌≤◌, Bool, true, false, cond, List, [], ◌∷◌, ◌++◌, length, map, get_or, slice_get, Some, refl, sym, ap, ◌∙◌, subst, arith}
+use Rattle.std.proofs.Common.{◌≡◌, ℕ, zero, suc, ◌+◌, ◌<◌, ◌≤◌, Bool, List, [], ◌∷◌, ◌++◌, length, map, get_or, slice_get, Some, refl, sym, ap, ◌∙◌, subst, arith}
 use Rattle.std.specs.List.{AllZip, flat_map, filter, enumerate_from}
 use Rattle.std.specs.Option.{option_map_or}
 use Rattle.std.specs.Prelude.{option_and_then}
@@ -66,25 +66,15 @@ module _ (ss : List ClientSession) (table : Table) where
   of_txns a s all e g is_taken k place at [] rows f h fits = tt
   of_txns a s all e g is_taken k place at (t ∷ ts) [] f h fits = cc
   of_txns a s all e g is_taken k place at (t ∷ ts) (row ∷ rows) f h fits =
-      go (is_committed (settle is_taken t))
-      (of_txns a s all e g is_taken (k + 1) (place + 1) (omega (arith, at)) ts rows (further s.txns k t ts f) (further all k row rows h) cc)
-    where
-      here : IsOf ss table (committed_at s.number (place, settle is_taken t)) row
-      here = record {
+      let here : IsOf ss table (committed_at s.number (place, settle is_taken t)) row = record {
         t = t;
         ops = refl;
         begun = refl;
         ended = refl;
         stands = record { at = a; index = k + 0; of = s; rows = all; sessions = e; tables = g; number = refl; stands = omega (arith, at); txn = f 0; has = h 0; lines = cc };
-      }
-
-      later : List (ℕ × Transaction)
-      later = filter (λ p. is_committed p.1) (enumerate_from (place + 1) (map (settle is_taken) ts))
-
-      go : (b : Bool) → AllZip (IsOf ss table) (map (committed_at s.number) later) (node_rows is_taken ts rows)
-          → AllZip (IsOf ss table) (map (committed_at s.number) (cond b ((place, settle is_taken t) ∷ later) later)) (cond b (row ∷ []) [] ++ node_rows is_taken ts rows)
-      go true z = (here, z)
-      go false z = z
+      } in
+      let later = of_txns a s all e g is_taken (k + 1) (place + 1) (omega (arith, at)) ts rows (further s.txns k t ts f) (further all k row rows h) cc in
+      grind arith
 
   of_sessions : (chosen : ℕ → Bool) (k : ℕ) (those : List ClientSession) (tables : Table) → Continues ss k those → Continues table k tables → Fits those tables → AllZip (IsOf ss table) (flat_map committed_of (settled chosen those)) (node_table chosen those tables)
   unfolding settled
@@ -120,13 +110,10 @@ each_node ss table rows all (suc i) low high =
     let found = zip_at (IsOf ss table) no_row (committed_in ss) rows i all (omega arith) in
     at_node ss table (suc i) (get_or rows i no_row) found.0 found.1.0 found.1.1
 
-pub are_node_rows : (ss : List ClientSession) (table : Table) (rows : List TxnRow) → Fits ss table → rows ≡ node_table (taken ss) ss table → AreNodeRows ss table rows
-are_node_rows ss table rows fits e =
-    let all : AllZip (IsOf ss table) (committed_in ss) rows = subst (λ l. AllZip (IsOf ss table) (committed_in ss) l) (sym e) (of_nodes ss table fits) in
-    record {
-      count = AllZip-long (IsOf ss table) (committed_in ss) rows all;
-      each = λ v low high. each_node ss table rows all v low high;
-    }
-
 pub placed_rows : (log : PlacedHistory) → AreNodeRows log.history.now (rows_of log.places.now) (map (λ p. view_place p.now) log.nodes.items)
-placed_rows log = are_node_rows log.history.now (rows_of log.places.now) (map (λ p. view_place p.now) log.nodes.items) log.fits log.rows
+placed_rows log =
+    let ss = log.history.now in
+    let table = rows_of log.places.now in
+    let rows = map (λ p. view_place p.now) log.nodes.items in
+    let all = subst (λ l. AllZip (IsOf ss table) (committed_in ss) l) (sym log.rows) (of_nodes ss table log.fits) in
+    record { count = AllZip-long (IsOf ss table) (committed_in ss) rows all; each = λ v low high. each_node ss table rows all v low high }
