@@ -31,7 +31,7 @@ trail_at_zero ss key u y z (inr f) = absurd (omega (arith, f.0, z))
 
 -- node 0 reads nothing
 positive : (ss : List ClientSession) (u s x : ℕ) → source (log_of ss) u x ≡ Some s → 0 < u
-positive ss zero s x e = let bad : None ≡ Some s = sym (zero_unread ss x) ∙ e in cc
+positive ss zero s x e = absurd (none_some (source (log_of ss) 0 x) s (zero_unread ss x) e)
 positive ss (suc u) s x e = omega arith
 
 trail : (ss : List ClientSession) → IsClean (log_of ss) → (key : List ℕ) (n u y : ℕ) → u ≤ (log_of ss).nodes → IsFinal (log_of ss) u (number_in (keys_in ss) key) y → IsBackIn (log_of ss) (number_in (keys_in ss) key) n u → Trail ss key y

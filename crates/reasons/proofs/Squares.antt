@@ -87,9 +87,7 @@ module _ (pairs : List Pair) (readers : ℕ × (ℕ × ℕ) → Option ℕ) (are
     sound = λ k s e. (let own = shared_is p now among (sym is) in let c = n.cases k in grind (arith, h.sound k s));
     all = λ q s c e. elim (Contains-push_cases front p q c) [
       | inl before ↦ (let t = h.all q s before e in let c = n.cases (q.version, q.key) in (t.0, grind arith))
-      | inr same ↦
-          let item : now ≡ s = cc (is, e, ap (shared_by readers u) same) in
-          (n.here.0, (ap (λ (p : Pair). new (p.version, p.key)) (sym same) ∙ n.here.1.0, n.here.1.1 ∙ ap (λ (s : Shared). s.source) item))
+      | inr same ↦ (let item : now ≡ s = cc (is, e, ap (shared_by readers u) same) in let here = n.here in (here.0, (ap (λ (p : Pair). new (p.version, p.key)) (sym same) ∙ here.1.0, grind arith)))
     ];
   }
 
