@@ -1,6 +1,5 @@
 -- What sessions say of a node, and what the log of their numbers says of it.
-use Rattle.std.proofs.Common.{◌≡◌, ℕ, suc, ◌+◌, ◌<◌, ◌≤◌, List, take, drop, None, Some, refl, sym, ap, ◌∙◌, subst, arith}
-use Rattle.std.specs.List.{AllByRecursion}
+use Rattle.std.proofs.Common.{◌≡◌, ℕ, ◌+◌, ◌<◌, ◌≤◌, List, take, drop, None, Some, refl, sym, ap, ◌∙◌, subst, add-one}
 use Rattle.session_log.specs.Moments.{is_earlier}
 use Rattle.session_log.specs.Text.{ClientSession, key_of}
 use Rattle.session_log.specs.declared.session.Op.{Op}
@@ -15,9 +14,8 @@ use Rattle.log_definitions.specs.Serial.{session_of, ops_of, begun_of, ended_of}
 use Rattle.log_definitions.specs.Numbers.{number_in, events_of, log_of}
 use Rattle.log_definitions.proofs.Keys.{Listed, all_listed, number_below, same_number}
 use Rattle.log_definitions.proofs.Nodes.{each_op, each_at, log_keys, log_nodes}
-use Rattle.log_definitions.proofs.Renaming.{AllListed}
-use Rattle.reason_laws.specs.Reasons.{IsNode, IsOpAt, IsNoWriteOf, ReadsAt, WritesLastAt}
-use Rattle.reason_laws.proofs.Texts.{each_taken, events_cut, none_written, wrote_last, last_written, read_first}
+use Rattle.reason_laws.specs.Reasons.{IsNode, IsOpAt, ReadsAt, WritesLastAt}
+use Rattle.reason_laws.proofs.Texts.{events_cut, none_written, wrote_last, last_written, read_first}
 
 -- ---- the log, field by field
 pub ops_is : (ss : List ClientSession) (v : ℕ) → (log_of ss).ops v ≡ events_of (keys_in ss) (ops_of ss v)
@@ -40,16 +38,13 @@ pub node_from : (ss : List ClientSession) (v : ℕ) → 0 < v → v ≤ (log_of 
 node_from ss v lo hi = (lo, subst (λ n. v ≤ n) (log_nodes ss) hi)
 
 -- ---- keys
-
-ops_listed : (ss : List ClientSession) (v : ℕ) → AllListed (keys_in ss) (ops_of ss v)
-ops_listed ss v = each_op (λ o. Listed (keys_in ss) (key_of o)) ss (all_listed ss) v
-
 pub listed_at : (ss : List ClientSession) (v i : ℕ) (op : Op) → IsOpAt ss v i op → Listed (keys_in ss) (key_of op)
-listed_at ss v i op e = each_at (λ o. Listed (keys_in ss) (key_of o)) (ops_of ss v) i op (ops_listed ss v) e
+listed_at ss v i op e =
+    each_at (λ o. Listed (keys_in ss) (key_of o)) (ops_of ss v) i op (each_op (λ o. Listed (keys_in ss) (key_of o)) ss (all_listed ss) v) e
 
-pub key_within : (ss : List ClientSession) (v i : ℕ) (key : List ℕ) (wid : ℕ) → IsOpAt ss v i (Write key wid) → number_in (keys_in ss) key < (log_of ss).keys
-key_within ss v i key wid e =
-    subst (λ n. number_in (keys_in ss) key < n) (sym (log_keys ss)) (number_below (keys_in ss) key (listed_at ss v i (Write key wid) e))
+pub key_within : (ss : List ClientSession) (v i : ℕ) (op : Op) → IsOpAt ss v i op → number_in (keys_in ss) (key_of op) < (log_of ss).keys
+key_within ss v i op e =
+    subst (λ n. number_in (keys_in ss) (key_of op) < n) (sym (log_keys ss)) (number_below (keys_in ss) (key_of op) (listed_at ss v i op e))
 
 -- ---- from the sessions to the log
 -- the events before operation i of node v
@@ -57,7 +52,7 @@ abbrev pub before_at : List ClientSession → ℕ → ℕ → List Event
 before_at ss v i = events_of (keys_in ss) (take i (ops_of ss v))
 
 abbrev pub behind_at : List ClientSession → ℕ → ℕ → List Event
-behind_at ss v i = events_of (keys_in ss) (drop (suc i) (ops_of ss v))
+behind_at ss v i = events_of (keys_in ss) (drop (i + 1) (ops_of ss v))
 
 pub reads_after : (ss : List ClientSession) (v i : ℕ) (key : List ℕ) (wid : ℕ) → IsNode ss v → IsOpAt ss v i (Read key wid) → ReadsAfter (log_of ss) v (before_at ss v i) (number_in (keys_in ss) key) wid
 reads_after ss v i key wid node e =
@@ -68,9 +63,7 @@ writes_after ss v i key wid node e =
     (node.0, within ss v node, (behind_at ss v i, ops_is ss v ∙ events_cut (keys_in ss) (ops_of ss v) i (Write key wid) e))
 
 pub none_before : (ss : List ClientSession) (v i : ℕ) (key : List ℕ) (wid : ℕ) → ReadsAt ss v i key wid → last_write (number_in (keys_in ss) key) (before_at ss v i) ≡ None
-none_before ss v i key wid r =
-    none_written (keys_in ss) key (take i (ops_of ss v))
-    (each_taken (λ o. Listed (keys_in ss) (key_of o)) i (ops_of ss v) (ops_listed ss v)) r.external
+none_before ss v i key wid r = none_written (keys_in ss) key (listed_at ss v i (Read key wid) r.read) (take i (ops_of ss v)) r.external
 
 -- what is read, as the log has it
 pub source_of_read : (ss : List ClientSession) → IsClean (log_of ss) → (v i : ℕ) (key : List ℕ) (wid u : ℕ) → IsNode ss v → ReadsAt ss v i key wid → IsFinal (log_of ss) u (number_in (keys_in ss) key) wid → source (log_of ss) v (number_in (keys_in ss) key) ≡ Some u
@@ -87,13 +80,10 @@ wrote ss clean v i key wid node r =
     let f = clean.external v (number_in (keys_in ss) key) wid (before_at ss v i) (reads_after ss v i key wid node r.read) (none_before ss v i key wid r) in
     record { node = f.0; final = f.2; is = source_of_read ss clean v i key wid f.0 node r f.2 }
 
-next_drop : (i : ℕ) (ops : List Op) → drop (i + 1) ops ≡ drop (suc i) ops
-next_drop i ops = let e : i + 1 ≡ suc i = omega arith in ap (λ n. drop n ops) e
-
 pub final_at : (ss : List ClientSession) (v i : ℕ) (key : List ℕ) (wid : ℕ) → WritesLastAt ss v i key wid → last_write (number_in (keys_in ss) key) ((log_of ss).ops v) ≡ Some wid
 final_at ss v i key wid w =
     ap (last_write (number_in (keys_in ss) key)) (ops_is ss v)
-    ∙ wrote_last (keys_in ss) key wid i (ops_of ss v) (ops_listed ss v) w.write (subst (AllByRecursion (IsNoWriteOf key)) (next_drop i (ops_of ss v)) w.last)
+    ∙ wrote_last (keys_in ss) key wid i (ops_of ss v) (listed_at ss v i (Write key wid) w.write) w.write w.last
 
 pub writes_some : (ss : List ClientSession) (v i : ℕ) (key : List ℕ) (wid : ℕ) → IsNode ss v → IsOpAt ss v i (Write key wid) → (y : ℕ) × (last_write (number_in (keys_in ss) key) ((log_of ss).ops v) ≡ Some y)
 writes_some ss v i key wid node e =
@@ -111,12 +101,7 @@ pub record WritesIn (ss : List ClientSession) (v x w : ℕ) : Type 0 where
 pub writes_in : (ss : List ClientSession) (v x w : ℕ) → last_write x ((log_of ss).ops v) ≡ Some w → WritesIn ss v x w
 writes_in ss v x w e =
     let r = last_written (keys_in ss) x w (ops_of ss v) (sym (ap (last_write x) (ops_is ss v)) ∙ e) in
-    record {
-      place = r.place;
-      key = r.key;
-      number = r.number;
-      is = record { write = r.is; last = subst (AllByRecursion (IsNoWriteOf r.key)) (sym (next_drop r.place (ops_of ss v))) r.last };
-    }
+    record { place = r.0; key = r.1; number = r.3; is = record { write = r.2; last = rw add-one r.4 } }
 
 pub record ReadsIn (ss : List ClientSession) (v x w : ℕ) : Type 0 where
   pub place : ℕ
@@ -127,7 +112,7 @@ pub record ReadsIn (ss : List ClientSession) (v x w : ℕ) : Type 0 where
 pub reads_in : (ss : List ClientSession) (v x w : ℕ) (before : List Event) → ReadsAfter (log_of ss) v before x w → last_write x before ≡ None → ReadsIn ss v x w
 reads_in ss v x w before reads external =
     let r = read_first (keys_in ss) x w (ops_of ss v) before reads.2.0 (sym (ops_is ss v) ∙ reads.2.1) external in
-    record { place = r.place; key = r.key; number = r.number; is = record { read = r.is; external = r.external } }
+    record { place = r.0; key = r.1; number = r.3; is = record { read = r.2; external = r.4 } }
 
 -- of the key with this number
 pub writes_key : (ss : List ClientSession) (v x w : ℕ) (key : List ℕ) → number_in (keys_in ss) key ≡ x → last_write x ((log_of ss).ops v) ≡ Some w → (i : ℕ) × WritesLastAt ss v i key w

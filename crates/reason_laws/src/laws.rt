@@ -1,6 +1,6 @@
 //! What the reasons mean, each law the contract of a function that does nothing.
 
-ghost use Rattle.std.specs.Prelude.{◌≡◌, ◌⊎◌, ℕ, ◌<◌, List};
+ghost use Rattle.std.specs.Prelude.{◌⊎◌, ℕ, ◌<◌, List};
 ghost use Rattle.std.specs.List.{Contains};
 ghost use Rattle.session_log.specs.Text.{ClientSession};
 ghost use Rattle.serializability.specs.Replay.{Before};
