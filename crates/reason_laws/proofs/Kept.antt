@@ -11,7 +11,7 @@ use Rattle.serializability.specs.Replay.{place_of, Before}
 use Rattle.serializability.specs.Reads.{last_write, IsFinal, ReadsAfter, WritesAfter, IsNumbered, IsClean}
 use Rattle.serializability.specs.Polygraph.{source}
 use Rattle.serializability.specs.Anomalies.{anomaly_of}
-use Rattle.serializability.proofs.Sources.{source_from, source_is, reads_from_source}
+use Rattle.serializability.proofs.Sources.{source_from, reads_from_source}
 use Rattle.serializability.proofs.Serial.{KeepsArcs, KeepsBipaths, arcs_kept, bipaths_kept, serial_fits, some_cases, arc_from_read, rival_from, zero_first, source_within}
 use Rattle.anomaly_laws.proofs.Writes.{final_writes}
 use Rattle.headline.proofs.Answered.{clean_log, none_serial}
@@ -21,7 +21,7 @@ use Rattle.log_definitions.specs.Numbers.{number_in, IsWellFormedList, log_of}
 use Rattle.log_definitions.proofs.Numbered.{numbered}
 use Rattle.log_definitions.proofs.Renaming.{serial_numbered}
 use Rattle.reason_laws.specs.Reasons.{IsNode, IsOpAt, AreOfSession, IsReadBy, IsOverwrittenBy, Link, AreLinked, left_by, IsOfInitialBefore, EndsBefore, ReadsAt}
-use Rattle.reason_laws.proofs.Numbers.{wrote, source_of_read, within, before_at, reads_after, writes_after, final_at, writes_some, reads_key, key_within}
+use Rattle.reason_laws.proofs.Numbers.{wrote, source_of_read, within, before_at, reads_after, writes_after, final_at, writes_some, reads_from, node_from, key_within}
 
 -- ---- what is known of a log, and of a serial order of it
 pub record Serial (log : Log) (order : List ℕ) : Type 0 where
@@ -139,10 +139,7 @@ initial_kept ss order h s a i b j r = initial_before ss order (serial ss order h
 pub unread_source : (ss : List ClientSession) → IsClean (log_of ss) → (b : ℕ) (key : List ℕ) → 0 < b → b ≤ (log_of ss).nodes → ((i w : ℕ) → ReadsAt ss b i key w → ⊥) → source (log_of ss) b (number_in (keys_in ss) key) ≡ None
 unread_source ss clean b key lo hi unread = elim (some_cases (source (log_of ss) b (number_in (keys_in ss) key))) [
   | inl e ↦ e
-  | inr u ↦
-      let f = source_is (log_of ss) clean b (number_in (keys_in ss) key) u.0 lo hi u.1 in
-      let r = reads_key ss b (number_in (keys_in ss) key) f.w key f.before refl f.reads f.external in
-      absurd (unread r.0 f.w r.1)
+  | inr u ↦ let r = reads_from ss clean b u.0 key (node_from ss b lo hi) u.1 in absurd (unread r.place r.wid r.reads)
 ]
 
 earlier_from : (ss : List ClientSession) (a b end begin : ℕ) → ended_of ss a ≡ Some end → begun_of ss b ≡ Some begin → end < begin → is_earlier (ended_of ss a) (begun_of ss b) ≡ true

@@ -1,5 +1,5 @@
 -- What sessions say of a node, and what the log of their numbers says of it.
-use Rattle.std.proofs.Common.{◌≡◌, ℕ, ◌+◌, ◌<◌, ◌≤◌, List, take, drop, None, Some, refl, sym, ap, ◌∙◌, subst, add-one}
+use Rattle.std.proofs.Common.{◌≡◌, ◌≢◌, ℕ, ◌+◌, ◌<◌, ◌≤◌, List, take, drop, None, Some, refl, sym, ap, ◌∙◌, subst, add-one}
 use Rattle.session_log.specs.Moments.{is_earlier}
 use Rattle.session_log.specs.Text.{ClientSession, key_of}
 use Rattle.session_log.specs.declared.session.Op.{Op}
@@ -7,7 +7,7 @@ use Rattle.session_log.specs.declared.session.Op.TheVariants.{Read, Write}
 use Rattle.serializability.specs.declared.event.Event.{Event}
 use Rattle.serializability.specs.Reads.{last_write, IsFinal, ReadsAfter, WritesAfter, IsClean}
 use Rattle.serializability.specs.Polygraph.{source}
-use Rattle.serializability.proofs.Sources.{source_from}
+use Rattle.serializability.proofs.Sources.{source_is, source_from}
 use Rattle.anomaly_laws.proofs.Writes.{writes_at, some_last_write}
 use Rattle.log_definitions.specs.WellFormed.{keys_in}
 use Rattle.log_definitions.specs.Serial.{session_of, ops_of, begun_of, ended_of}
@@ -128,3 +128,25 @@ reads_key ss v x w key before n reads external =
     let read = r.is.read in
     let same = same_number (keys_in ss) r.key key (listed_at ss v r.place (Read r.key w) read) (r.number ∙ sym n) in
     (r.place, subst (λ k. ReadsAt ss v r.place k w) same r.is)
+
+-- a read by which b reads the key from a
+pub record ReadsFrom (ss : List ClientSession) (key : List ℕ) (b a : ℕ) : Type 0 where
+  pub place : ℕ
+  pub wid : ℕ
+  pub reads : ReadsAt ss b place key wid
+  pub final : IsFinal (log_of ss) a (number_in (keys_in ss) key) wid
+  pub other : a ≢ b
+
+pub reads_from : (ss : List ClientSession) → IsClean (log_of ss) → (b a : ℕ) (key : List ℕ) → IsNode ss b → source (log_of ss) b (number_in (keys_in ss) key) ≡ Some a → ReadsFrom ss key b a
+reads_from ss clean b a key node e =
+    let x = number_in (keys_in ss) key in
+    let f = source_is (log_of ss) clean b x a node.0 (within ss b node) e in
+    let r = reads_key ss b x f.w key f.before refl f.reads f.external in
+    record { place = r.0; wid = f.w; reads = r.1; final = f.final; other = f.other }
+
+-- the key of this number, where it is read
+pub key_read : (ss : List ClientSession) → IsClean (log_of ss) → (b a x : ℕ) → IsNode ss b → source (log_of ss) b x ≡ Some a → (key : List ℕ) × (x ≡ number_in (keys_in ss) key)
+key_read ss clean b a x node e =
+    let f = source_is (log_of ss) clean b x a node.0 (within ss b node) e in
+    let r = reads_in ss b x f.w f.before f.reads f.external in
+    (r.key, sym r.number)
