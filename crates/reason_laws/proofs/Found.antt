@@ -20,7 +20,7 @@ use Rattle.log_definitions.specs.Serial.{begun_of, ended_of}
 use Rattle.log_definitions.specs.Numbers.{number_in, log_of}
 use Rattle.reason_laws.specs.Reasons.{IsNode, ReadsAt, AreOfSession, IsReadBy, IsOverwrittenBy, IsOfInitialBefore, EndsBefore}
 use Rattle.reason_laws.proofs.Links.{trail_of}
-use Rattle.reason_laws.proofs.Numbers.{wrote, node_from, session_is, earlier_is, writes_in, writes_key, reads_from, key_read}
+use Rattle.reason_laws.proofs.Numbers.{wrote, node_from, session_is, earlier_is, writes_key, reads_from, key_read}
 
 -- ---- arcs
 pub final_positive : (log : Log) (v x w : ℕ) → 0 < v → IsFinal log v x w → last_write x (log.ops v) ≡ Some w
@@ -133,25 +133,26 @@ module _ (ss : List ClientSession) (clean : IsClean (log_of ss)) (x b : ℕ) (he
   reason_of_head a u m node from steps =
       let log = log_of ss in
       let p = head_parts log x b head.test in
+      let k = key_read ss clean a u x node from in
       let y = some_of (last_write x (log.ops b)) p.writer in
-      let w = writes_in ss b x y.0 y.1 in
+      let write = writes_key ss b x y.0 k.0 (sym k.1) y.1 in
       let second = node_from ss b head.low head.high in
-      let r = reads_from ss clean a u w.key node (ap (source log a) w.number ∙ from) in
-      let t = trail_of ss clean w.key m u r.wid (subst (λ n. Steps log n m 0 u) (sym w.number) steps) r.final in
-      let unread : (i v : ℕ) → ReadsAt ss b i w.key v → ⊥ = λ i v read. (let f = wrote ss clean b i w.key v second read in none_some (source log b x) f.node p.none (sym (ap (source log b) w.number) ∙ f.is)) in
-      let is : IsOfInitialBefore ss a r.place b w.place = record {
+      let r = reads_from ss clean a u k.0 node (sym (ap (source log a) k.1) ∙ from) in
+      let t = trail_of ss clean k.0 m u r.wid (subst (λ n. Steps log n m 0 u) k.1 steps) r.final in
+      let unread : (i v : ℕ) → ReadsAt ss b i k.0 v → ⊥ = λ i v read. (let f = wrote ss clean b i k.0 v second read in none_some (source log b x) f.node p.none (ap (source log b) k.1 ∙ f.is)) in
+      let is : IsOfInitialBefore ss a r.place b write.0 = record {
         first = node;
         second = second;
-        apart = λ e. unread r.place r.wid (subst (λ n. ReadsAt ss n r.place w.key r.wid) e r.reads);
-        key = w.key;
+        apart = λ e. unread r.place r.wid (subst (λ n. ReadsAt ss n r.place k.0 r.wid) e r.reads);
+        key = k.0;
         wid = y.0;
         links = t.links;
         linked = t.linked;
-        reads = subst (ReadsAt ss a r.place w.key) (sym t.left) r.reads;
-        writes = w.is.write;
+        reads = subst (ReadsAt ss a r.place k.0) (sym t.left) r.reads;
+        writes = write.1.write;
         unread = unread;
       } in
-      (r.place, (w.place, is))
+      (r.place, (write.0, is))
 
   last_reason : (m v : ℕ) → Steps (log_of ss) x m 0 v → 0 < v → (i : ℕ) × ((j : ℕ) × IsOfInitialBefore ss v i b j)
   last_reason zero v s lo = absurd (omega (arith, s, lo))

@@ -1,6 +1,5 @@
 -- Each reason is kept by each serial order.
-use Rattle.std.proofs.Common.{◌≡◌, ◌≢◌, ℕ, ◌<◌, ◌≤◌, true, List, [], ◌∷◌, ◌++◌, Option, None, Some, refl, sym, ap, ◌∙◌, subst, inl, inr, arith, lt-ltb, append_assoc}
-use Rattle.session_log.specs.Moments.{is_earlier}
+use Rattle.std.proofs.Common.{◌≡◌, ◌≢◌, ℕ, ◌<◌, ◌≤◌, List, [], ◌∷◌, ◌++◌, Option, None, Some, refl, sym, ap, ◌∙◌, subst, inl, inr, arith, lt-ltb, append_assoc}
 use Rattle.session_log.specs.Text.{ClientSession}
 use Rattle.session_log.specs.declared.session.Op.TheVariants.{Read, Write}
 use Rattle.serializability.specs.declared.event.Event.{Event}
@@ -16,7 +15,7 @@ use Rattle.serializability.proofs.Serial.{KeepsArcs, KeepsBipaths, arcs_kept, bi
 use Rattle.anomaly_laws.proofs.Writes.{final_writes}
 use Rattle.headline.proofs.Answered.{clean_log, none_serial}
 use Rattle.log_definitions.specs.WellFormed.{keys_in}
-use Rattle.log_definitions.specs.Serial.{IsSerialOrder, begun_of, ended_of}
+use Rattle.log_definitions.specs.Serial.{IsSerialOrder}
 use Rattle.log_definitions.specs.Numbers.{number_in, IsWellFormedList, log_of}
 use Rattle.log_definitions.proofs.Numbered.{numbered}
 use Rattle.log_definitions.proofs.Renaming.{serial_numbered}
@@ -142,10 +141,6 @@ unread_source ss clean b key lo hi unread = elim (some_cases (source (log_of ss)
   | inr u ↦ let r = reads_from ss clean b u.0 key (node_from ss b lo hi) u.1 in absurd (unread r.place r.wid r.reads)
 ]
 
-earlier_from : (ss : List ClientSession) (a b end begin : ℕ) → ended_of ss a ≡ Some end → begun_of ss b ≡ Some begin → end < begin → is_earlier (ended_of ss a) (begun_of ss b) ≡ true
-earlier_from ss a b end begin e f lt =
-    ap (λ o. is_earlier o (begun_of ss b)) e ∙ ap (is_earlier (Some end)) f ∙ lt-ltb end begin lt
-
 pub ended_kept : (ss : List ClientSession) (order : List ℕ) → IsWellFormedList ss → IsSerialOrder ss order → (a b : ℕ) → EndsBefore ss a b → Before order a b
 ended_kept ss order h s a b r =
-    s.moments a b r.first.0 r.first.1 r.second.0 r.second.1 r.apart (earlier_from ss a b r.end r.begin r.ended r.begun r.earlier)
+    s.moments a b r.first.0 r.first.1 r.second.0 r.second.1 r.apart (rw (r.ended, r.begun) (lt-ltb r.end r.begin r.earlier))

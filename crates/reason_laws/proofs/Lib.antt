@@ -1,4 +1,3 @@
-pub mod Texts
 pub mod Numbers
 pub mod Kept
 pub mod Links
