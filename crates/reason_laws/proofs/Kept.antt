@@ -1,19 +1,17 @@
 -- Each reason is kept by each serial order.
-use Rattle.std.proofs.Common.{◌≡◌, ◌≢◌, ℕ, ◌<◌, ◌≤◌, List, [], ◌∷◌, ◌++◌, Option, None, Some, refl, sym, ap, ◌∙◌, subst, inl, inr, arith, lt-ltb, append_assoc}
+use Rattle.std.proofs.Common.{◌≡◌, ◌≢◌, ℕ, ◌<◌, ◌≤◌, List, [], ◌∷◌, ◌++◌, None, Some, refl, sym, ap, ◌∙◌, subst, inl, inr, arith, lt-ltb, append_assoc}
 use Rattle.session_log.specs.Text.{ClientSession}
 use Rattle.session_log.specs.declared.session.Op.TheVariants.{Read, Write}
 use Rattle.serializability.specs.declared.event.Event.{Event}
 use Rattle.serializability.specs.declared.event.Event.TheVariants as event
-use Rattle.serializability.specs.declared.anomaly.Anomaly.{Anomaly}
 use Rattle.serializability.specs.Log.{Log}
 use Rattle.serializability.specs.Replay.{place_of, Before}
 use Rattle.serializability.specs.Reads.{last_write, IsFinal, ReadsAfter, WritesAfter, IsNumbered, IsClean}
-use Rattle.serializability.specs.Polygraph.{source}
-use Rattle.serializability.specs.Anomalies.{anomaly_of}
+use Rattle.serializability.specs.Polygraph.{Fits, bipath_polygraph, source}
 use Rattle.serializability.proofs.Sources.{source_from, reads_from_source}
-use Rattle.serializability.proofs.Serial.{KeepsArcs, KeepsBipaths, arcs_kept, bipaths_kept, serial_fits, some_cases, arc_from_read, rival_from, zero_first, source_within}
+use Rattle.serializability.proofs.Serial.{arcs_kept, bipaths_kept, serial_fits, some_cases, arc_from_read, rival_from, zero_first, source_within}
 use Rattle.anomaly_laws.proofs.Writes.{final_writes}
-use Rattle.headline.proofs.Answered.{clean_log, none_serial}
+use Rattle.anomaly_laws.proofs.Serial.{serial_clean}
 use Rattle.log_definitions.specs.WellFormed.{keys_in}
 use Rattle.log_definitions.specs.Serial.{IsSerialOrder}
 use Rattle.log_definitions.specs.Numbers.{number_in, IsWellFormedList, log_of}
@@ -26,23 +24,13 @@ use Rattle.reason_laws.proofs.Numbers.{wrote, source_of_read, within, before_at,
 pub record Serial (log : Log) (order : List ℕ) : Type 0 where
   pub numbered : IsNumbered log
   pub clean : IsClean log
-  pub arcs : KeepsArcs log order
-  pub bipaths : KeepsBipaths log order
-
-clean_where_serial : (ss : List ClientSession) → IsWellFormedList ss → (order : List ℕ) → IsSerialOrder ss order → (o : Option Anomaly) → anomaly_of (log_of ss) ≡ o → IsClean (log_of ss)
-clean_where_serial ss h order s None e = clean_log ss h e
-clean_where_serial ss h order s (Some a) e = absurd (none_serial ss h a e order s)
+  pub fits : Fits (bipath_polygraph log) order
 
 pub serial : (ss : List ClientSession) (order : List ℕ) → IsWellFormedList ss → IsSerialOrder ss order → Serial (log_of ss) order
 serial ss order h s =
-    let clean = clean_where_serial ss h order s (anomaly_of (log_of ss)) refl in
-    let fits = serial_fits (log_of ss) clean order (serial_numbered ss order s) in
-    record {
-      numbered = numbered ss h;
-      clean = clean;
-      arcs = arcs_kept (log_of ss) order fits.known;
-      bipaths = bipaths_kept (log_of ss) order fits.choices;
-    }
+    let is = serial_numbered ss order s in
+    let clean = serial_clean (log_of ss) (numbered ss h) order is in
+    record { numbered = numbered ss h; clean = clean; fits = serial_fits (log_of ss) clean order is }
 
 -- ---- sources
 -- a write that is the final one of a node is of that node
@@ -57,7 +45,7 @@ pub source_before : (ss : List ClientSession) (order : List ℕ) → Serial (log
 source_before ss order s v x u node key e =
     let log = log_of ss in
     let hi = within ss v node in
-    s.arcs u v (source_within log s.clean v x u node.0 hi e) hi (arc_from_read log v u node.0 (reads_from_source log v x u key e))
+    arcs_kept log order s.fits.known u v (source_within log s.clean v x u node.0 hi e) hi (arc_from_read log v u node.0 (reads_from_source log v x u key e))
 
 -- ---- a read
 -- who reads a write of another reads the key from that one
@@ -84,7 +72,7 @@ overtaken ss order s v i k u key wid y first second r final writes other apart b
     let x = number_in (keys_in ss) key in
     let from = source_of_read ss s.clean v i key wid u first r final in
     let low = key_within ss v i (Read key wid) r.read in
-    elim (s.bipaths v x u k first.0 (within ss v first) low from second.0 (within ss k second) (rival_from (log_of ss) x u v k y writes apart other)) [
+    elim (bipaths_kept (log_of ss) order s.fits.choices v x u k first.0 (within ss v first) low from second.0 (within ss k second) (rival_from (log_of ss) x u v k y writes apart other)) [
       | inl h ↦ absurd (let back = h.0 in omega (arith, back, behind))
       | inr h ↦ h.0
     ]
