@@ -22,7 +22,7 @@ use Rattle.tell_trees.specs.Trees.{IsTreeTold, leaves_items}
 use Rattle.tell_trees.specs.Visits.{visit_of, IsVisited, leaf_count}
 use Rattle.tell_trees.specs.Visits as visited
 use Rattle.tell_trees.proofs.Counted.{told_count}
-use Rattle.tell_trees.proofs.Edges.{orders_count}
+use Rattle.tell_trees.proofs.Cubes.{orders_count}
 use Rattle.tell_trees.proofs.Tellings.{root_told, line_named}
 
 abbrev lines_of : List Visit → List (Bor (List ℕ))

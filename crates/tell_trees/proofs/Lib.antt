@@ -1,6 +1,5 @@
 pub mod Counted
-pub mod Edges
-pub mod Facts
+pub mod Cubes
 pub mod Left
 pub mod Opened
 pub mod Tellings

@@ -26,7 +26,7 @@ use Rattle.tell_trees.specs.Trees.{IsCubeTold}
 use Rattle.tell_trees.specs.Trees as told
 use Rattle.tell_trees.specs.Visits.{IsVisited}
 use Rattle.tell_trees.specs.Visits as visited
-use Rattle.tell_trees.proofs.Facts.{child_cube, root_cube}
+use Rattle.tell_trees.proofs.Cubes.{child_cube, root_cube}
 
 module _ (s : StepsView) (orders : List ChainOrder) (nodes : List TreeNode) where
   told_more : (vs : List Visit) (v : Visit) (a b : List Item) → AreVisitsTold s orders nodes vs a → IsVisitTold s orders nodes v b → AreVisitsTold s orders nodes (vs ++ v ∷ []) (a ++ b)

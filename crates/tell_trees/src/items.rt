@@ -47,6 +47,7 @@ fn order_of(orders: &[ChainOrder], decision: CubeDecision) -> ChainOrder
 }
 
 /// The order that a node decides beyond its parent's cube, and its parent.
+#[tactic(auto, using(crate::proofs::Cubes::up_past, crate::proofs::Cubes::up_top, list_lemmas::proofs::Elements::looked_up, std::proofs::lemmas::Option::slice_get_past))]
 fn order_above(
     orders: &[ChainOrder],
     nodes: &[TreeNode],

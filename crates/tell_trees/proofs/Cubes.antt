@@ -1,11 +1,11 @@
--- What the edges of a leaf's cycle rest on.
-use Rattle.std.proofs.Common.{◌≡◌, ◌⊎◌, ℕ, ◌<◌, List, [], ◌∷◌, ◌++◌, length, map, Option, Some, refl, sym, ap, ◌∙◌, subst, inl, inr, arith, Bor}
+-- What the cubes of a tree's nodes decide, and what the edges of a leaf's cycle rest on.
+use Rattle.std.proofs.Common.{◌≡◌, ◌⊎◌, ℕ, zero, suc, ◌+◌, ◌<◌, List, [], ◌∷◌, ◌++◌, length, map, Option, Some, None, refl, sym, ap, ◌∙◌, subst, inl, inr, arith, Bor}
 use Rattle.std.specs.Prelude.{slice_get, slice_index, slice_index_or, IfSome}
 use Rattle.std.specs.List.{All, Contains}
 use Rattle.std.proofs.lemmas.List.{length-append}
-use Rattle.std.proofs.lemmas.Option.{get_or_from_slice_get}
-use Rattle.std.proofs.lemmas.List.Elements.{All-map, All-weaker, All-contains, Contains-append_left, Contains-append_right, Contains-append_cases}
-use Rattle.list_lemmas.proofs.Elements.{behind}
+use Rattle.std.proofs.lemmas.Option.{same_Some, get_or_from_slice_get}
+use Rattle.std.proofs.lemmas.List.Elements.{All-nil, All-cons, All-contains, Contains-append_left, Contains-append_right, Contains-append_cases}
+use Rattle.list_lemmas.proofs.Elements.{same_item, behind}
 use Rattle.serializability.specs.Log.{Log}
 use Rattle.serializability.specs.Polygraph.{Edge, Choice, Polygraph}
 use Rattle.reach_laws.specs.Reach.{Walk}
@@ -21,10 +21,12 @@ use Rattle.prune_ledger.specs.Ledger.{side_of, edges_after}
 use Rattle.prune_ledger.specs.Pruned.{kept_by}
 use Rattle.prune_ledger.proofs.Sides.{side_is, choice_of_edge, kept_cases, no_kept}
 use Rattle.cube_laws.specs.Cubes.{Cube}
+use Rattle.cube_laws.specs.declared.tree.CubeDecision.{CubeDecision}
 use Rattle.cube_laws.specs.declared.tree.Growth.TheVariants.{Leaf}
 use Rattle.cube_laws.specs.declared.tree.TreeNode.{TreeNode}
-use Rattle.cube_laws.specs.Trees.{cube_of}
+use Rattle.cube_laws.specs.Trees.{cube_below, cube_of, IsChild, IsRefutationTree}
 use Rattle.cube_laws.proofs.Lists.{some_map, map_length}
+use Rattle.cube_laws.proofs.Upward.{cube_under, cube_top, cube_past}
 use Rattle.tell_reasons.specs.declared.why.ChainOrder.{ChainOrder}
 use Rattle.tell_steps.specs.View.{StepsView}
 use Rattle.tell_steps.specs.Orders.{choice_of}
@@ -36,9 +38,74 @@ use Rattle.tell_steps.proofs.Covering.{ledger_leads, round_nodes}
 use Rattle.tell_trees.specs.declared.visits.Visit.{Visit}
 use Rattle.tell_trees.specs.Orders.{AreOrdersOf, no_order, sided, order_at}
 use Rattle.tell_trees.specs.Searched.{IsSearched}
-use Rattle.tell_trees.specs.Told.{decided_at, IsReady}
-use Rattle.tell_trees.specs.Visits.{IsGrown}
-use Rattle.tell_trees.proofs.Facts.{cube_among}
+use Rattle.tell_trees.specs.Told.{decided_at, IsUp, IsReady}
+use Rattle.tell_trees.specs.Visits.{IsTreeOver, IsGrown}
+
+-- ---- cubes
+-- a node that decides a choice beyond its parent's cube
+pub record IsMade (choices : ℕ) (nodes : List TreeNode) (i : ℕ) (x : TreeNode) : Type 0 where
+  pub before : x.parent < i
+  pub made : CubeDecision
+  pub is : x.decision ≡ Some made
+  pub among : made.choice < choices
+  pub cube : cube_of nodes i ≡ (made.choice, made.side) ∷ cube_of nodes x.parent
+
+module _ (p : Polygraph) (nodes : List TreeNode) (t : IsRefutationTree p nodes) where
+  pub root_cube : cube_of nodes 0 ≡ []
+  root_cube = let r = t.root in let decision = r.decision in cube_top nodes 0 r.node r.here (omega arith) ∙ ap (cube_below []) decision
+
+  pub child_cube : (i c : ℕ) (side : Side) (j : ℕ) (k : IsChild nodes i c side j) → cube_of nodes j ≡ (c, side) ∷ cube_of nodes i
+  child_cube i c side j k =
+      let parent = k.parent in let decision = k.decision in let later = k.later in
+      cube_under nodes j k.node k.here (omega (arith, parent, later)) ∙ (λ h. cube_below (cube_of nodes (parent h)) (decision h))
+
+  -- the first node decides nothing, and each other one a choice beyond its parent's cube
+  pub made_at : (i : ℕ) (x : TreeNode) → slice_get nodes i ≡ Some x → ((x.decision ≡ None) × (cube_of nodes i ≡ [])) ⊎ IsMade (length p.choices) nodes i x
+  made_at zero x at = inl (ap (λ (z : TreeNode). z.decision) (same_item nodes 0 x t.root.node at t.root.here) ∙ t.root.decision, root_cube)
+  made_at (suc i) x at =
+      let b = t.below (suc i) x (omega arith) at in
+      let s = t.inner x.parent b.parent b.choice b.first b.second b.here b.split in
+      let made : (side : Side) → IsChild nodes x.parent b.choice side (suc i) → IsMade (length p.choices) nodes (suc i) x = λ side k. record {
+        before = b.before;
+        made = record { choice = b.choice; side = side };
+        is = ap (λ (z : TreeNode). z.decision) (same_item nodes (suc i) x k.node at k.here) ∙ k.decision;
+        among = s.choice;
+        cube = child_cube x.parent b.choice side (suc i) k;
+      } in
+      inr (elim (s.only (suc i) x (omega arith) at refl) [
+        | inl e ↦ made One (subst (IsChild nodes x.parent b.choice One) (sym e) s.one)
+        | inr e ↦ made Two (subst (IsChild nodes x.parent b.choice Two) (sym e) s.two)
+      ])
+
+  -- a cube decides choices of the polygraph alone
+  module _ (P : List Entry → Type 0) (none : P []) (more : (d : Entry) (ds : List Entry) → d.0 < length p.choices → P ds → P (d ∷ ds)) where
+    within : (n i : ℕ) (o : Option TreeNode) → i < n → slice_get nodes i ≡ o → P (cube_of nodes i)
+    within zero i o lt at = absurd (omega (arith, lt))
+    within (suc n) i None lt at = subst P (sym (cube_past nodes i at)) none
+    within (suc n) i (Some x) lt at = elim (made_at i x at) [
+      | inl root ↦ subst P (sym root.1) none
+      | inr m ↦ let before = m.before in subst P (sym m.cube) (more (m.made.choice, m.made.side) (cube_of nodes x.parent) m.among (within n x.parent (slice_get nodes x.parent) (omega (arith, lt, before)) refl))
+    ]
+
+-- ---- the way up
+module _ (orders : List ChainOrder) (nodes : List TreeNode) (t : IsTreeOver (length orders) nodes) (i : ℕ) where
+  pub up_past : slice_get nodes i ≡ None → IsUp orders nodes i None
+  up_past at = ap (map (order_at orders)) (cube_past nodes i at)
+
+  pub up_top : (x : TreeNode) → slice_get nodes i ≡ Some x → x.decision ≡ None → IsUp orders nodes i None
+  up_top x at none = elim (made_at t.poly nodes t.shown i x at) [
+    | inl root ↦ ap (map (order_at orders)) root.1
+    | inr m ↦ absurd (let is = m.is in cc)
+  ]
+
+  pub up_made : (x : TreeNode) (d : CubeDecision) → slice_get nodes i ≡ Some x → x.decision ≡ Some d → (d.choice < length orders) × ((o : ChainOrder) → o ≡ order_at orders (d.choice, d.side) → IsUp orders nodes i (Some (o, x.parent)))
+  up_made x d at is = elim (made_at t.poly nodes t.shown i x at) [
+    | inl root ↦ absurd (let none = root.0 in cc)
+    | inr m ↦
+        let same : m.made ≡ d = same_Some m.made d (sym m.is ∙ is) in
+        let among : d.choice < length t.poly.choices = subst (λ (z : CubeDecision). z.choice < length t.poly.choices) same m.among in
+        (omega (arith, among, t.count), λ o e. (m.before, ap (map (order_at orders)) (m.cube ∙ ap (λ (z : CubeDecision). (z.choice, z.side) ∷ cube_of nodes x.parent) same) ∙ ap (λ z. z ∷ decided_at orders nodes x.parent) (sym e)))
+  ]
 
 -- ---- the steps of a walk
 no_more : (x : ℕ) (front back : List ℕ) (a b : ℕ) → x ∷ [] ≡ front ++ a ∷ b ∷ back → ⊥
@@ -104,9 +171,9 @@ module _ (s : StepsView) (orders : List ChainOrder) (nodes : List TreeNode) (h :
   module _ (i : ℕ) where
     pub are_orders : All (IsOrder log) (decided_at orders nodes i)
     are_orders =
-        All-map (IsOrder log) (order_at orders) (cube_of nodes i)
-        (All-weaker (λ (d : Entry). d.0 < length p.choices) (λ (d : Entry). IsOrder log (order_at orders d))
-        (λ d lt. sided_order log (slice_index_or orders d.0 no_order) d.1 (h.sides.each d.0 no_order (omega (arith, lt, orders_count log p.choices orders h.sides)))) (cube_of nodes i) (cube_among p nodes h.shown i))
+        within p nodes h.shown (λ ds. All (IsOrder log) (map (order_at orders) ds)) (All-nil (IsOrder log))
+        (λ d ds lt rest. All-cons (IsOrder log) (order_at orders d) (map (order_at orders) ds) (sided_order log (slice_index_or orders d.0 no_order) d.1 (h.sides.each d.0 no_order (omega (arith, lt, orders_count log p.choices orders h.sides)))) rest)
+        (suc i) i (slice_get nodes i) (omega arith) refl
 
     edge_rests : (e : Edge) → Contains (edges_after p (cube_of nodes i)) e → IsOfLedger s e ⊎ OneHas s.sessions (decided_at orders nodes i) e
     edge_rests e c = cube_edge (cube_of nodes i) e (In-from_Contains (edges_after p (cube_of nodes i)) e c)
