@@ -5,7 +5,7 @@ use Rattle.tell_trees.specs.declared.visits.Visit.{Visit}
 use Rattle.tell_trees.specs.Searched.{IsSearched}
 use Rattle.tell_trees.specs.Told.{AreVisitsTold}
 use Rattle.tell_trees.specs.Trees.{leaves_items}
-use Rattle.tell_trees.proofs.Left.{visits_ready, whole_told}
+use Rattle.tell_trees.proofs.Tellings.{visits_ready, whole_told}
 use Rattle.tell_trees.proofs.telling.tell_nodes.Goals as goal
 
 pub put_visits-requires-clause-ready : goal.put_visits-requires-clause-ready

@@ -1,6 +1,6 @@
 use Rattle.std.proofs.Common.{◌∙◌, sym, ap}
 use Rattle.cube_laws.specs.declared.tree.Growth.TheVariants.{Leaf}
-use Rattle.tell_trees.proofs.Walk.{grown_at, leaf_next, split_next, left_next, less_left, less_split}
+use Rattle.tell_trees.proofs.Counted.{grown_at, leaf_next, split_next, left_next, less_left, less_split}
 use Rattle.tell_trees.proofs.visits.visits.Goals as goal
 use Rattle.tell_trees.proofs.visits.visits.Goals.{then-is_told+in-Leaf, then-is_told+in-Inner+in_ok-push-in-Inner+in_ok-push-in-Inner-2, else-is_told}
 
