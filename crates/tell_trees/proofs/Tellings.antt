@@ -36,11 +36,11 @@ module _ (s : StepsView) (orders : List ChainOrder) (nodes : List TreeNode) wher
   told_more [] v a b e h = (b, [], h, refl, ap (λ l. l ++ b) e ∙ sym (append-nil b))
   told_more (w ∷ ws) v a b g h = (g.0, g.1 ++ b, g.2, told_more ws v g.1 b g.3 h, ap (λ l. l ++ b) g.4 ∙ append_assoc g.0 g.1 b)
 
-  pub more_put : (visits : List Visit) (i : ℕ) (v : Visit) (old mid new : List Item) → i < length visits → v ≡ get_or visits i v → IsPut old mid (AreVisitsTold s orders nodes (take i visits)) → IsPut mid new (IsVisitTold s orders nodes v) → IsPut old new (AreVisitsTold s orders nodes (take (i + 1) visits))
-  more_put visits i v old mid new lt is a b = record {
+  pub more_put : (t : StepsView) (visits : List Visit) (i : ℕ) (v : Visit) (old mid new : List Item) → t ≡ s → i < length visits → v ≡ get_or visits i v → IsPut old mid (AreVisitsTold s orders nodes (take i visits)) → IsPut mid new (IsVisitTold t orders nodes v) → IsPut old new (AreVisitsTold s orders nodes (take (i + 1) visits))
+  more_put t visits i v old mid new same lt is a b = record {
     items = a.items ++ b.items;
     appended = b.appended ∙ ap (λ l. l ++ b.items) a.appended ∙ append_assoc old a.items b.items;
-    kind = subst (λ vs. AreVisitsTold s orders nodes vs (a.items ++ b.items)) (sym (front_more visits i v lt is)) (told_more (take i visits) v a.items b.items a.kind b.kind);
+    kind = subst (λ vs. AreVisitsTold s orders nodes vs (a.items ++ b.items)) (sym (front_more visits i v lt is)) (told_more (take i visits) v a.items b.items a.kind (subst (λ (z : StepsView). IsVisitTold z orders nodes v b.items) same b.kind));
   }
 
   told_split : (xs ys : List Visit) (items : List Item) → AreVisitsTold s orders nodes (xs ++ ys) items → (front : List Item) × (back : List Item) × AreVisitsTold s orders nodes xs front × AreVisitsTold s orders nodes ys back × (items ≡ front ++ back)
