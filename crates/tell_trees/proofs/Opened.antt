@@ -1,7 +1,6 @@
 -- The orders that a ledger leaves open.
-use Rattle.std.proofs.Common.{◌≡◌, ℕ, ◌+◌, ◌<◌, Bool, true, false, cond, eqb, ◌&&◌, ◌||◌, List, [], ◌∷◌, length, map, refl, sym, ap, ◌∙◌, subst, arith}
+use Rattle.std.proofs.Common.{◌≡◌, ℕ, ◌+◌, Bool, true, false, cond, eqb, ◌&&◌, ◌||◌, List, [], ◌∷◌, map, refl, sym, ap, ◌∙◌, subst}
 use Rattle.std.proofs.Math.Bool.{or_assoc, or_comm, or-false}
-use Rattle.std.specs.Prelude.{slice_index_or}
 use Rattle.std.specs.List.{All, list_any}
 use Rattle.std.proofs.lemmas.List.Elements.{All-nil, All-cons, All-head, All-tail}
 use Rattle.list_lemmas.proofs.Bools.{either_way}
@@ -9,7 +8,7 @@ use Rattle.session_log.specs.Text.{ClientSession}
 use Rattle.serializability.specs.Log.{Log}
 use Rattle.serializability.specs.Polygraph.{Choice}
 use Rattle.pruning_laws.specs.declared.side.Side.TheVariants.{One, Two}
-use Rattle.pruning_laws.specs.Forced.{Sides, open_from}
+use Rattle.pruning_laws.specs.Forced.{open_from}
 use Rattle.pruning_laws.specs.Ledger.{Entry, same_side, sides_in}
 use Rattle.prune_ledger.specs.Ledger.{kept_side, kept_after}
 use Rattle.prune_ledger.specs.Pruned.{kept_by, posts_in, Remainder}
@@ -21,7 +20,7 @@ use Rattle.cube_machine.proofs.Flags.{some_side}
 use Rattle.tell_reasons.specs.declared.why.ChainOrder.{ChainOrder}
 use Rattle.tell_steps.specs.Orders.{choice_of}
 use Rattle.tell_steps.specs.Steps.{IsOrder}
-use Rattle.tell_trees.specs.Orders.{AreOrdersOf, names_choice, AreFlags, unsettled_from}
+use Rattle.tell_trees.specs.Orders.{AreOrdersOf, names_choice, unsettled_from}
 
 -- ---- a side is kept where an entry speaks of its choice
 abbrev named_in : List Entry → ℕ → Bool
@@ -48,20 +47,18 @@ left_or : (log : Log) (b : Bool) (o : ChainOrder) (xs : List ChainOrder) (ys : L
 left_or log true o xs ys h a = a
 left_or log false o xs ys h a = record { sides = ap (λ l. choice_of log o ∷ l) a.sides; each = All-cons (IsOrder log) o xs h a.each }
 
-left_from : (log : Log) (flags : List Bool) (sides : Sides) (n c : ℕ) (os : List ChainOrder) → ((k : ℕ) → k < n → slice_index_or flags k false ≡ (sides k One || sides k Two)) → c + length os ≡ n → All (IsOrder log) os → AreOrdersOf log (open_from sides c (map (choice_of log) os)) (unsettled_from flags c os)
-left_from log flags sides n c [] agree e a = record { sides = refl; each = All-nil (IsOrder log) }
-left_from log flags sides n c (o ∷ os) agree e a =
-    let rest = left_from log flags sides n (c + 1) os agree (omega (arith, e)) (All-tail (IsOrder log) o os a) in
-    let xs = unsettled_from flags (c + 1) os in
-    let ys = open_from sides (c + 1) (map (choice_of log) os) in
-    subst (λ b. AreOrdersOf log (cond b ys (choice_of log o ∷ ys)) (cond (slice_index_or flags c false) xs (o ∷ xs))) (agree c (omega (arith, e)))
-    (left_or log (slice_index_or flags c false) o xs ys (All-head (IsOrder log) o os a) rest)
+left_from : (log : Log) (entries : List LedgerEntry) (c : ℕ) (os : List ChainOrder) → All (IsOrder log) os → AreOrdersOf log (open_from (sides_in (kept_by entries)) c (map (choice_of log) os)) (unsettled_from entries c os)
+left_from log entries c [] a = record { sides = refl; each = All-nil (IsOrder log) }
+left_from log entries c (o ∷ os) a =
+    let xs = unsettled_from entries (c + 1) os in
+    let ys = open_from (sides_in (kept_by entries)) (c + 1) (map (choice_of log) os) in
+    subst (λ b. AreOrdersOf log (cond b ys (choice_of log o ∷ ys)) (cond (names_choice entries c) xs (o ∷ xs))) (sym (settled_is entries c))
+    (left_or log (names_choice entries c) o xs ys (All-head (IsOrder log) o os a) (left_from log entries (c + 1) os (All-tail (IsOrder log) o os a)))
 
-pub left_open : (ss : List ClientSession) (r : Remainder) → IsOpenHistory ss r → (entries : List LedgerEntry) → entries ≡ r.ledger.entries.items → (orders left : List ChainOrder) (flags : List Bool) → map (choice_of (log_of ss)) orders ≡ chain_choices (log_of ss) → All (IsOrder (log_of ss)) orders
-    → AreFlags (length orders) entries flags → left ≡ unsettled_from flags 0 orders → AreOrdersOf (log_of ss) r.poly.choices left
-left_open ss r h entries entries_are orders left flags same each f is =
+pub left_open : (ss : List ClientSession) (r : Remainder) → IsOpenHistory ss r → (entries : List LedgerEntry) → entries ≡ r.ledger.entries.items → (orders left : List ChainOrder) → map (choice_of (log_of ss)) orders ≡ chain_choices (log_of ss) → All (IsOrder (log_of ss)) orders
+    → left ≡ unsettled_from entries 0 orders → AreOrdersOf (log_of ss) r.poly.choices left
+left_open ss r h entries entries_are orders left same each is =
     let log = log_of ss in
-    let all = left_from log flags (sides_in (kept_by entries)) (length orders) 0 orders (λ k lt. f.each k lt ∙ sym (settled_is entries k)) (omega arith) each in
     let choices = same ∙ sym h.unpruned.chained.choices in
     let left_is : open_from (sides_in (kept_by entries)) 0 (map (choice_of log) orders) ≡ r.poly.choices = (λ z. open_from (sides_in (kept_by (entries_are z))) 0 (choices z)) ∙ sym h.left.choices in
-    subst (λ hs. AreOrdersOf log hs left) left_is (subst (AreOrdersOf log (open_from (sides_in (kept_by entries)) 0 (map (choice_of log) orders))) (sym is) all)
+    subst (λ hs. AreOrdersOf log hs left) left_is (subst (AreOrdersOf log (open_from (sides_in (kept_by entries)) 0 (map (choice_of log) orders))) (sym is) (left_from log entries 0 orders each))

@@ -26,11 +26,11 @@ pub record AreFlags (choices : ℕ) (entries : List LedgerEntry) (flags : List B
   pub count : length flags ≡ choices
   pub each : (c : ℕ) → c < choices → slice_index_or flags c false ≡ names_choice entries c
 
--- the orders whose flags are not set, where these are numbered from c
-abbrev pub unsettled_from : List Bool → ℕ → List ChainOrder → List ChainOrder
-unsettled_from flags c [] = []
-unsettled_from flags c (o ∷ os) = if slice_index_or flags c false then unsettled_from flags
-    (c + 1) os else o ∷ unsettled_from flags (c + 1) os
+-- the orders whose choices no entry speaks of, where these are numbered from c
+abbrev pub unsettled_from : List LedgerEntry → ℕ → List ChainOrder → List ChainOrder
+unsettled_from entries c [] = []
+unsettled_from entries c (o ∷ os) = if names_choice entries c then unsettled_from entries
+    (c + 1) os else o ∷ unsettled_from entries (c + 1) os
 
 -- the order of the chains by a side of the choice of which this is side one
 abbrev pub sided : Side → ChainOrder → ChainOrder
