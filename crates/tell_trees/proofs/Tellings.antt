@@ -5,7 +5,7 @@ use Rattle.std.specs.List.{All, Contains, filter_map, cons_option}
 use Rattle.std.proofs.lemmas.List.Elements.{Contains-append_left, Contains-append_right, All-nil, All-cons, All-append, All-contains, filter_map-append}
 use Rattle.list_lemmas.proofs.Lists.{front_more}
 use Rattle.known_graph.proofs.Listed.{In, In-append_left, In-append_right, In-from_Contains, Contains-from_In}
-use Rattle.serializability.specs.Polygraph.{Polygraph, Choice}
+use Rattle.serializability.specs.Polygraph.{Polygraph}
 use Rattle.pruning_laws.specs.declared.side.Side.{Side}
 use Rattle.pruning_laws.specs.declared.side.Side.TheVariants.{One, Two}
 use Rattle.log_definitions.specs.Numbers.{log_of}
@@ -28,7 +28,6 @@ use Rattle.tell_trees.specs.Visits.{IsVisited, visit_of, leaf_count}
 use Rattle.tell_trees.specs.Visits as visited
 use Rattle.tell_trees.proofs.Cubes.{child_cube, root_cube, orders_count}
 use Rattle.session_log.specs.Text.{ClientSession}
-use Rattle.tell_trees.specs.Searched.{IsSearched}
 use Rattle.tell_trees.proofs.Counted.{told_count}
 
 module _ (s : StepsView) (orders : List ChainOrder) (nodes : List TreeNode) where
@@ -135,13 +134,12 @@ pub visits_ready : (s : StepsView) (nodes : List TreeNode) (last : ℕ) (visits 
 visits_ready s nodes last visits lines v e a = all_ready s nodes v (λ l j. All-contains (λ l. IsCovered s l.now) lines l a (Contains-from_In lines l (subst (In l) (sym e) j)))
 
 -- what is told of the visits, behind the steps and how many leaves there are, is the tree told
-pub whole_told : (s : StepsView) (orders : List ChainOrder) (nodes : List TreeNode) → IsSearched s.sessions s.entries orders nodes → (visits : List Visit) (last : ℕ) → IsVisited nodes 0 0 last visits → (before mid items : List Item) → mid ≡ before ++ leaves_items (leaf_count nodes) → IsPut mid items (AreVisitsTold s orders nodes visits)
-    → (lines : List (Bor (List ℕ))) → lines ≡ filter_map (λ w. w.line) visits → (ss : List ClientSession) → s.sessions ≡ ss → AreStepsTold ss s.orders before → ((k : ℕ) → k < length s.orders → IsNamed before k ⊎ IsNeededIn ss s.orders lines k)
-    → (choices : List Choice) → AreOrdersOf (log_of ss) choices orders → IsTreeTold ss choices nodes items
-whole_told s orders nodes h visits last v before mid items mid_is put lines lines_are ss of_steps =
+pub whole_told : (s : StepsView) (orders : List ChainOrder) (nodes : List TreeNode) (p : Polygraph) → IsRefutationTree p nodes → (visits : List Visit) (last : ℕ) → IsVisited nodes 0 0 last visits → (before mid items : List Item) → mid ≡ before ++ leaves_items (leaf_count nodes) → IsPut mid items (AreVisitsTold s orders nodes visits)
+    → (lines : List (Bor (List ℕ))) → lines ≡ filter_map (λ w. w.line) visits → (ss : List ClientSession) → s.sessions ≡ ss → AreStepsTold ss s.orders before → ((k : ℕ) → k < length s.orders → IsNamed before k ⊎ IsNeededIn ss s.orders lines k) → AreOrdersOf (log_of ss) p.choices orders → IsTreeTold ss p.choices nodes items
+whole_told s orders nodes p t visits last v before mid items mid_is put lines lines_are ss of_steps =
     let whole : items ≡ before ++ (leaves_items (leaf_count nodes) ++ put.items) = put.appended ∙ ap (λ l. l ++ put.items) mid_is ∙ append_assoc before (leaves_items (leaf_count nodes)) put.items in
-    let Told : List ClientSession → Type 0 = λ zs. AreStepsTold zs s.orders before → ((k : ℕ) → k < length s.orders → IsNamed before k ⊎ IsNeededIn zs s.orders lines k) → (choices : List Choice) → AreOrdersOf (log_of zs) choices orders → IsTreeTold zs choices nodes items in
-    let told : Told s.sessions = λ steps needed choices sides. record {
+    let Told : List ClientSession → Type 0 = λ zs. AreStepsTold zs s.orders before → ((k : ℕ) → k < length s.orders → IsNamed before k ⊎ IsNeededIn zs s.orders lines k) → AreOrdersOf (log_of zs) p.choices orders → IsTreeTold zs p.choices nodes items in
+    let told : Told s.sessions = λ steps needed sides. record {
       steps = s.orders;
       orders = orders;
       before = before;
@@ -149,8 +147,8 @@ whole_told s orders nodes h visits last v before mid items mid_is put lines line
       told = steps;
       sides = sides;
       last = last;
-      root = root_told s orders nodes h.reduced.poly h.shown h.sides.each (orders_count (log_of s.sessions) h.reduced.poly.choices orders h.sides) last visits put.items v put.kind;
-      count = told_count nodes h.reduced.poly h.shown last visits v;
+      root = root_told s orders nodes p t sides.each (orders_count (log_of s.sessions) p.choices orders sides) last visits put.items v put.kind;
+      count = told_count nodes p t last visits v;
       whole = whole;
       needed = λ k lt. elim (needed k lt) [
         | inl n ↦ named_among before items k (λ x c. subst (λ l. Contains l x) (sym whole) (Contains-append_left before (leaves_items (leaf_count nodes) ++ put.items) x c)) n
