@@ -31,7 +31,7 @@ of_cycle : (ss : List ClientSession) (steps decided : List ChainOrder) (items : 
 of_cycle ss steps decided items (told.closes start inner edges h) = omega (arith, of_line ss steps decided (start ∷ (inner ++ start ∷ [])) edges h)
 
 pub of_cube : (ss : List ClientSession) (steps : List ChainOrder) (orders : List ChainOrder) (nodes : List TreeNode) (i depth : ℕ) (decided : List ChainOrder) (n m : ℕ) (items : List Item) → IsCubeTold ss steps orders nodes i depth decided n m items → n + cycles_in items ≡ m
-of_cube ss steps orders nodes i depth decided n m items (trees.leaf v d ks k round less at h) = omega (arith, of_cycle ss steps ks round h)
+of_cube ss steps orders nodes i depth decided n m items (trees.leaf v d ks k line round less at h) = omega (arith, of_cycle ss steps ks round h)
 of_cube ss steps orders nodes i depth decided n m items (trees.split v d ks k l j c first second o one two at is order h g) =
     omega (arith, joined one (item.Decided (d + 1) (turned o) ∷ two), of_cube ss steps orders nodes first (d + 1) (o ∷ ks) k l one h, of_cube ss steps orders nodes second (d + 1) (turned o ∷ ks) l j two g)
 of_cube ss steps orders nodes i depth decided n m items (trees.left_out v d ks) = omega arith

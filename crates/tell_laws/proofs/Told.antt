@@ -1,19 +1,21 @@
 -- What is told holds in each serial order.
-use Rattle.std.proofs.Common.{◌≢◌, ◌⊎◌, ℕ, ◌<◌, List, [], ◌∷◌, sym, ◌∙◌, subst, inl, inr, arith, zero, suc, ◌+◌, cond, ◌++◌, ap}
+use Rattle.std.proofs.Common.{◌≡◌, true, ◌≢◌, ◌⊎◌, ℕ, ◌<◌, List, [], ◌∷◌, sym, ◌∙◌, subst, inl, inr, arith, zero, suc, ◌+◌, cond, ◌++◌, ap}
 use Rattle.std.specs.Prelude.{map}
 use Rattle.std.specs.List.{Contains, AllByRecursion}
 use Rattle.serializability.specs.Log.{Log}
 use Rattle.serializability.specs.Replay.{IsSerial, Before}
 use Rattle.serializability.specs.Reads.{IsClean}
 use Rattle.serializability.specs.Pairs.{pairs_of}
-use Rattle.serializability.specs.Polygraph.{Keeps, KeepsOne, all_keys, Choice, Edge}
-use Rattle.serializability.proofs.Places.{Has, Has-from_Contains, Contains-from_Has, each_of_range, each_of_append, each_of_flat_map, each_of_map, each_from_append}
+use Rattle.serializability.specs.Polygraph.{Keeps, KeepsOne, all_keys, Choice, Edge, committed}
+use Rattle.serializability.proofs.Places.{each_of_range, each_of_flat_map, each_of_map, each_from_append, each_from_range, each_from_filter}
+use Rattle.serializability.proofs.EachPair.{each_pair_of}
 use Rattle.serializability.proofs.Serial.{serial_fits, arcs_kept, source_within, arc_from_read}
 use Rattle.serializability.proofs.Sources.{reads_from_source}
 use Rattle.reach_laws.proofs.Walks.{each_contained}
-use Rattle.chain_laws.specs.Chains.{heads, tail, readers, edges_to, chain_first, chain_choice}
+use Rattle.chain_laws.specs.Chains.{heads, tail, readers, edges_to, chain_first, chain_choice, is_head}
+use Rattle.chain_laws.proofs.Walks.{Head}
 use Rattle.chain_laws.proofs.Coalesced.{chains_fit, each_from_readers}
-use Rattle.std.proofs.lemmas.Bool.{le-ltb}
+use Rattle.std.proofs.lemmas.Bool.{cases_order, le-ltb}
 use Rattle.list_lemmas.proofs.Elements.{contains_at}
 use Rattle.session_log.specs.Text.{ClientSession}
 use Rattle.log_definitions.specs.Serial.{IsSerialOrder}
@@ -36,28 +38,21 @@ use Rattle.tell_trees.specs.Trees.{IsCubeTold, IsTreeTold}
 use Rattle.tell_trees.specs.Visits.{leaf_count}
 use Rattle.tell_laws.proofs.Counts.{of_cube}
 
--- what holds of each pair of a list holds of two of its elements, one way round
-either_pair : (P : (ℕ × ℕ) → Type 0) (xs : List ℕ) → AllByRecursion P (pairs_of xs) → (a b : ℕ) → Has a xs → Has b xs → a ≢ b → P (a, b) ⊎ P (b, a)
-either_pair P [] all a b ha hb apart = absurd ha
-either_pair P (x ∷ xs) all a b (inl e) (inl f) apart = absurd (apart (sym e ∙ f))
-either_pair P (x ∷ xs) all a b (inl e) (inr h) apart =
-    let first = each_of_map P (λ y. (x, y)) xs (each_of_append P (map (λ y. (x, y)) xs) (pairs_of xs) all).0 in
-    inl (subst (λ q. P (q, b)) e (each_contained (λ y. P (x, y)) xs b first (Contains-from_Has xs b h)))
-either_pair P (x ∷ xs) all a b (inr h) (inl e) apart =
-    let first = each_of_map P (λ y. (x, y)) xs (each_of_append P (map (λ y. (x, y)) xs) (pairs_of xs) all).0 in
-    inr (subst (λ q. P (q, a)) e (each_contained (λ y. P (x, y)) xs a first (Contains-from_Has xs a h)))
-either_pair P (x ∷ xs) all a b (inr h) (inr k) apart =
-    either_pair P xs (each_of_append P (map (λ y. (x, y)) xs) (pairs_of xs) all).1 a b h k apart
-
 pub either_chain_first : (log : Log) → IsClean log → (order : List ℕ) → IsSerial log order → (x a b : ℕ) → x < log.keys → Contains (heads log x) a → Contains (heads log x) b → a ≢ b → Keeps order (chain_first log x a b) ⊎ Keeps order (chain_first log x b a)
 either_chain_first log clean order serial x a b key one two apart =
     let fits = chains_fit log clean order (serial_fits log clean order serial) in
     let of_key = each_of_range (λ y. AllByRecursion (KeepsOne order) (map (chain_choice log y) (pairs_of (heads log y)))) 0 log.keys
     (each_of_flat_map (KeepsOne order) (λ y. map (chain_choice log y) (pairs_of (heads log y))) (all_keys log) fits.choices) x (omega arith) (omega (arith, key)) in
-    let pairs = each_of_map (KeepsOne order) (chain_choice log x) (pairs_of (heads log x)) of_key in
-    elim (either_pair (λ p. KeepsOne order (chain_choice log x p)) (heads log x) pairs a b (Has-from_Contains (heads log x) a one) (Has-from_Contains (heads log x) b two) apart) [
-      | inl k ↦ k
-      | inr k ↦ elim k [ inl back ↦ inr back | inr ahead ↦ inl ahead ]
+    let head : (v : ℕ) → Contains (heads log x) v → Head log x v = λ v. each_contained (Head log x) (heads log x) v
+    (each_from_filter (Head log x) (is_head log x) (committed log) (each_from_range (λ u. is_head log x u ≡ true → Head log x u) 1 log.nodes (λ u lo hi t. record { low = omega arith; high = omega arith; test = t }))) in
+    let ahead : (u v : ℕ) → Head log x u → Head log x v → u < v → KeepsOne order (chain_choice log x (u, v)) = λ u v h k lt.
+    each_pair_of (λ p. KeepsOne order (chain_choice log x p)) (is_head log x) 1 log.nodes (each_of_map (KeepsOne order) (chain_choice log x) (pairs_of (heads log x)) of_key) u v (omega (arith, h.low)) lt (omega (arith, k.high)) h.test k.test in
+    elim (cases_order a b) [
+      | inl e ↦ absurd (apart e)
+      | inr o ↦ elim o [
+        | inl lt ↦ ahead a b (head a one) (head b two) lt
+        | inr lt ↦ elim (ahead b a (head b two) (head a one) lt) [ inl k ↦ inr k | inr k ↦ inl k ]
+      ]
     ]
 
 -- where a chain stands before another head, so does its last writer
@@ -142,7 +137,7 @@ module _ (ss : List ClientSession) (order : List ℕ) (well : IsWellFormedList s
 
   -- ---- cubes
   cube_refuted : (steps : List ChainOrder) → AreKept steps → (orders : List ChainOrder) (nodes : List TreeNode) (i depth : ℕ) (decided : List ChainOrder) (n m : ℕ) (items : List Item) → IsCubeTold ss steps orders nodes i depth decided n m items → AreKept decided → m < MAX_LEAVES → ⊥
-  cube_refuted steps ks orders nodes i depth decided n m items (trees.leaf v d kd k round less at h) kept few = cycle_refuted steps kd ks kept round h
+  cube_refuted steps ks orders nodes i depth decided n m items (trees.leaf v d kd k line round less at h) kept few = cycle_refuted steps kd ks kept round h
   cube_refuted steps ks orders nodes i depth decided n m items (trees.split v d kd k l j c first second o one two at same two_chains h g) kept few =
       let first_few : l < MAX_LEAVES = omega (arith, few, of_cube ss steps orders nodes second (d + 1) (turned o ∷ kd) l j two g) in
       elim (one_way o two_chains) [

@@ -36,8 +36,7 @@ use Rattle.tell_steps.proofs.Chosen.{turned_order}
 use Rattle.tell_steps.proofs.Ledgers.{order_leads}
 use Rattle.tell_steps.proofs.Covering.{ledger_leads, round_nodes}
 use Rattle.tell_trees.specs.declared.visits.Visit.{Visit}
-use Rattle.tell_trees.specs.Orders.{AreOrdersOf, no_order, sided, order_at}
-use Rattle.tell_trees.specs.Searched.{IsSearched}
+use Rattle.tell_trees.specs.Orders.{AreOrdersOf, no_order, sided, order_at, IsSearched}
 use Rattle.tell_trees.specs.Told.{decided_at, IsUp, IsReady}
 use Rattle.tell_trees.specs.Visits.{IsTreeOver, IsGrown}
 

@@ -89,7 +89,7 @@ module _ (s : StepsView) (orders : List ChainOrder) (nodes : List TreeNode) wher
         record {
           after = h.2.cycle;
           whole = h.4 ∙ (λ z. h.2.whole z ++ h.3 z) ∙ append-nil (decision_items decided ++ h.2.cycle);
-          cube = told.leaf i (length decided) decided n h.2.cycle lt (g.node, line.now, g.here, g.is) (round_cycle s.sessions s.orders decided line.now h.2.cycle h.2.leaf);
+          cube = told.leaf i (length decided) decided n line.now h.2.cycle lt g (round_cycle s.sessions s.orders decided line.now h.2.cycle h.2.leaf);
         }
     node_told (visited.split i n m k c first second one two g va vb) items h =
         let decided = decided_at orders nodes i in
@@ -103,7 +103,7 @@ module _ (s : StepsView) (orders : List ChainOrder) (nodes : List TreeNode) wher
         record {
           after = (item.Decided (L + 1) o ∷ a.0) ++ (item.Decided (L + 1) (turned o) ∷ b.0);
           whole = h.4 ∙ (λ z. h.2.whole z ++ h.1) ∙ (λ z. (decision_items decided ++ h.2.leaf z) ++ h.1) ∙ (λ z. append-nil (decision_items decided) z ++ h.1) ∙ ap (λ l. decision_items decided ++ l) (parts.4 ∙ (λ z. a.1 z ++ b.1 z));
-          cube = told.split i L decided n m k c first second o a.0 b.0 (g.node, g.here, g.is) refl order a.2 b.2;
+          cube = told.split i L decided n m k c first second o a.0 b.0 g refl order a.2 b.2;
         }
     node_told (visited.left_out i) items h =
         let decided = decided_at orders nodes i in

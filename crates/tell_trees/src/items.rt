@@ -6,8 +6,7 @@
 ghost use Rattle.std.specs.Prelude.{◌≡◌, ◌<◌, ◌++◌, length, IfOk, OnOk};
 ghost use Rattle.std.specs.List.{All};
 ghost use Rattle.tell_steps.specs.Told.{IsPut};
-ghost use Rattle.tell_trees.specs.Orders.{order_at};
-ghost use Rattle.tell_trees.specs.Searched.{IsSearched};
+ghost use Rattle.tell_trees.specs.Orders.{order_at, IsSearched};
 ghost use Rattle.tell_trees.specs.Told.{decided_at, IsUp, IsReady, decision_items};
 ghost use Rattle.tell_trees.specs.Told.{IsVisitTold, AreVisitsTold};
 ghost use Rattle.tell_trees.specs.Trees.{leaves_items};
