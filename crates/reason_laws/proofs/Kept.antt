@@ -1,4 +1,4 @@
--- Each reason is kept by each serial order.
+-- Each reason is kept by each serial order, and none has crossed reads.
 use Rattle.std.proofs.Common.{◌≡◌, ◌≢◌, ℕ, ◌<◌, ◌≤◌, List, [], ◌∷◌, ◌++◌, None, Some, refl, sym, ap, ◌∙◌, subst, inl, inr, arith, lt-ltb, append_assoc}
 use Rattle.session_log.specs.Text.{ClientSession}
 use Rattle.session_log.specs.declared.session.Op.TheVariants.{Read, Write}
@@ -8,7 +8,7 @@ use Rattle.serializability.specs.Log.{Log}
 use Rattle.serializability.specs.Replay.{place_of, Before}
 use Rattle.serializability.specs.Reads.{last_write, IsFinal, ReadsAfter, WritesAfter, IsNumbered, IsClean}
 use Rattle.serializability.specs.Polygraph.{Fits, bipath_polygraph, source}
-use Rattle.serializability.proofs.Sources.{source_from, reads_from_source}
+use Rattle.serializability.proofs.Sources.{source_from, reads_from_source, one_final}
 use Rattle.serializability.proofs.Serial.{arcs_kept, bipaths_kept, serial_fits, some_cases, arc_from_read, rival_from, zero_first, source_within}
 use Rattle.anomaly_laws.proofs.Writes.{final_writes}
 use Rattle.anomaly_laws.proofs.Serial.{serial_clean}
@@ -19,6 +19,9 @@ use Rattle.log_definitions.proofs.Numbered.{numbered}
 use Rattle.log_definitions.proofs.Renaming.{serial_numbered}
 use Rattle.reason_laws.specs.Reasons.{IsNode, IsOpAt, AreOfSession, IsReadBy, IsOverwrittenBy, Link, AreLinked, left_by, IsOfInitialBefore, EndsBefore, ReadsAt}
 use Rattle.reason_laws.proofs.Numbers.{wrote, source_of_read, within, before_at, reads_after, writes_after, final_at, writes_some, reads_from, node_from, key_within}
+use Rattle.std.proofs.lemmas.Bool.{cases_eq}
+use Rattle.reason_laws.specs.Crossed.{AreCrossed}
+use Rattle.reason_laws.specs.declared.crossing.Crossing.{Crossing}
 
 -- ---- what is known of a log, and of a serial order of it
 pub record Serial (log : Log) (order : List ℕ) : Type 0 where
@@ -114,13 +117,11 @@ module _ (ss : List ClientSession) (order : List ℕ) (s : Serial (log_of ss) or
   all_ahead wid u (l ∷ ls) linked final ahead =
       all_ahead l.wid l.node ls linked.1.1.1 (inr (linked.0.0, within ss l.node linked.0, final_at ss l.node l.write r.key l.wid linked.1.1.0)) (behind_begins l.node l.read wid u linked.0 linked.1.0 final ahead)
 
-  initial_before : Before order a b
-  initial_before =
-      let t = all_ahead 0 0 r.links r.linked (inl (refl, refl)) (zero_first order b r.second.0) in
-      behind_begins a i (left_by 0 r.links) t.0 r.first r.reads t.1 t.2
-
 pub initial_kept : (ss : List ClientSession) (order : List ℕ) → IsWellFormedList ss → IsSerialOrder ss order → (a i b j : ℕ) → IsOfInitialBefore ss a i b j → Before order a b
-initial_kept ss order h s a i b j r = initial_before ss order (serial ss order h s) a i b j r
+initial_kept ss order h s a i b j r =
+    let facts = serial ss order h s in
+    let t = all_ahead ss order facts a i b j r 0 0 r.links r.linked (inl (refl, refl)) (zero_first order b r.second.0) in
+    behind_begins ss order facts a i b j r a i (left_by 0 r.links) t.0 r.first r.reads t.1 t.2
 
 -- who reads the key from a node reads it externally
 pub unread_source : (ss : List ClientSession) → IsClean (log_of ss) → (b : ℕ) (key : List ℕ) → 0 < b → b ≤ (log_of ss).nodes → ((i w : ℕ) → ReadsAt ss b i key w → ⊥) → source (log_of ss) b (number_in (keys_in ss) key) ≡ None
@@ -132,3 +133,42 @@ unread_source ss clean b key lo hi unread = elim (some_cases (source (log_of ss)
 pub ended_kept : (ss : List ClientSession) (order : List ℕ) → IsWellFormedList ss → IsSerialOrder ss order → (a b : ℕ) → EndsBefore ss a b → Before order a b
 ended_kept ss order h s a b r =
     s.moments a b r.first.0 r.first.1 r.second.0 r.second.1 r.apart (rw (r.ended, r.begun) (lt-ltb r.end r.begin r.earlier))
+
+-- ---- crossed reads
+-- who reads the version of u stands behind u, and where that of q is not older, not behind q
+record Between (order : List ℕ) (v u q : ℕ) : Type 0 where
+  after : Before order u v
+  ahead : place_of (0 ∷ order) u ≤ place_of (0 ∷ order) q → place_of (0 ∷ order) v ≤ place_of (0 ∷ order) q
+
+module _ (ss : List ClientSession) (order : List ℕ) (s : Serial (log_of ss) order) where
+  not_past : (v i : ℕ) (key : List ℕ) (wid y u q : ℕ) → IsNode ss v → ReadsAt ss v i key wid → IsFinal (log_of ss) u (number_in (keys_in ss) key) wid → IsFinal (log_of ss) q (number_in (keys_in ss) key) y → q ≢ u → place_of (0 ∷ order) u ≤ place_of (0 ∷ order) q → place_of (0 ∷ order) v ≤ place_of (0 ∷ order) q
+  not_past v i key wid y u q node r final (inl z) ne le = let e = ap (place_of (0 ∷ order)) z.0 in absurd (omega (arith, e, le, zero_first order u (omega (arith, z.0, ne))))
+  not_past v i key wid y u q node r final (inr w) ne le = elim (cases_eq q v) [
+    | inl same ↦ let e = ap (place_of (0 ∷ order)) same in omega (arith, e)
+    | inr other ↦ let b = overtaken ss order s v i q u key wid y node (node_from ss q w.0 w.1) r final w.2 other ne le in omega (arith, b)
+  ]
+
+  between : (v i : ℕ) (key : List ℕ) (wid y u q : ℕ) → IsNode ss v → ReadsAt ss v i key wid → IsFinal (log_of ss) u (number_in (keys_in ss) key) wid → IsFinal (log_of ss) q (number_in (keys_in ss) key) y → (wid ≡ y → ⊥) → Between order v u q
+  between v i key wid y u q node r final other apart =
+      let x = number_in (keys_in ss) key in
+      let ne : q ≢ u = λ e. apart (one_final (log_of ss) u x wid y final (subst (λ n. IsFinal (log_of ss) n x y) e other)) in
+      record {
+        after = source_before ss order s v x u node (key_within ss v i (Read key wid) r.read) (source_of_read ss s.clean v i key wid u node r final);
+        ahead = not_past v i key wid y u q node r final other ne;
+      }
+
+  pub none_crossed : (c : Crossing) → AreCrossed ss c → ⊥
+  none_crossed c h =
+      let p = wrote ss s.clean c.one_one.node c.one_one.first h.first h.one h.one_one.node h.one_one.first in
+      let q = wrote ss s.clean c.two_one.node c.two_one.first h.first h.two h.two_one.node h.two_one.first in
+      let a = wrote ss s.clean c.one_one.node c.one_one.second h.second h.this h.one_one.node h.one_one.second in
+      let b = wrote ss s.clean c.one_two.node c.one_two.second h.second h.that h.one_two.node h.one_two.second in
+      let r1 = between c.one_one.node c.one_one.first h.first h.one h.two p.node q.node h.one_one.node h.one_one.first p.final q.final h.apart in
+      let r2 = between c.one_one.node c.one_one.second h.second h.this h.that a.node b.node h.one_one.node h.one_one.second a.final b.final h.apart_too in
+      let t1 = between c.one_two.node c.one_two.first h.first h.one h.two p.node q.node h.one_two.node h.one_two.first p.final q.final h.apart in
+      let t2 = between c.one_two.node c.one_two.second h.second h.that h.this b.node a.node h.one_two.node h.one_two.second b.final a.final (λ e. h.apart_too (sym e)) in
+      let f1 = between c.two_one.node c.two_one.first h.first h.two h.one q.node p.node h.two_one.node h.two_one.first q.final p.final (λ e. h.apart (sym e)) in
+      let f2 = between c.two_one.node c.two_one.second h.second h.this h.that a.node b.node h.two_one.node h.two_one.second a.final b.final h.apart_too in
+      let g1 = between c.two_two.node c.two_two.first h.first h.two h.one q.node p.node h.two_two.node h.two_two.first q.final p.final (λ e. h.apart (sym e)) in
+      let g2 = between c.two_two.node c.two_two.second h.second h.that h.this b.node a.node h.two_two.node h.two_two.second b.final a.final (λ e. h.apart_too (sym e)) in
+      grind (arith, r1.after, r1.ahead, r2.after, r2.ahead, t1.after, t1.ahead, t2.after, t2.ahead, f1.after, f1.ahead, f2.after, f2.ahead, g1.after, g1.ahead, g2.after, g2.ahead)

@@ -2,4 +2,3 @@ pub mod Numbers
 pub mod Kept
 pub mod Links
 pub mod Found
-pub mod Crossed
