@@ -1,24 +1,34 @@
--- What the cubes of a tree's nodes decide, and what the edges of a leaf's cycle rest on.
-use Rattle.std.proofs.Common.{◌≡◌, ◌⊎◌, ℕ, zero, suc, ◌<◌, List, [], ◌∷◌, ◌++◌, length, map, Option, Some, None, refl, sym, ap, ◌∙◌, subst, inl, inr, arith, Bor}
+-- The orders that a ledger leaves open and that the cubes of a tree's nodes decide, and what the edges of a leaf's cycle rest on.
+use Rattle.std.proofs.Common.{◌≡◌, ℕ, ◌+◌, Bool, true, false, cond, eqb, ◌&&◌, ◌||◌, List, [], ◌∷◌, map, refl, sym, ap, ◌∙◌, subst, ◌⊎◌, zero, suc, ◌<◌, ◌++◌, length, Option, Some, None, inl, inr, arith, Bor}
+use Rattle.std.proofs.Math.Bool.{or_assoc, or_comm, or-false}
+use Rattle.std.specs.List.{All, list_any, Contains}
+use Rattle.std.proofs.lemmas.List.Elements.{All-nil, All-cons, All-head, All-tail, All-contains, Contains-append_left, Contains-append_right, Contains-append_cases}
+use Rattle.list_lemmas.proofs.Bools.{either_way}
+use Rattle.session_log.specs.Text.{ClientSession}
+use Rattle.serializability.specs.Log.{Log}
+use Rattle.serializability.specs.Polygraph.{Choice, Edge, Polygraph}
+use Rattle.pruning_laws.specs.declared.side.Side.TheVariants.{One, Two}
+use Rattle.pruning_laws.specs.Forced.{open_from, edges_of, kept_from}
+use Rattle.pruning_laws.specs.Ledger.{Entry, same_side, sides_in}
+use Rattle.prune_ledger.specs.Ledger.{kept_side, kept_after, side_of, edges_after}
+use Rattle.prune_ledger.specs.Pruned.{kept_by, posts_in, Remainder}
+use Rattle.prune_ledger.specs.declared.ledger.LedgerEntry.{LedgerEntry}
+use Rattle.chain_laws.specs.Chains.{chain_choices, chain_polygraph}
+use Rattle.log_definitions.specs.Numbers.{log_of}
+use Rattle.reduction.specs.Outcome.{IsOpenHistory}
+use Rattle.cube_machine.proofs.Flags.{some_side}
+use Rattle.tell_reasons.specs.declared.why.ChainOrder.{ChainOrder}
+use Rattle.tell_steps.specs.Orders.{choice_of}
+use Rattle.tell_steps.specs.Steps.{IsOrder, edges_in}
+use Rattle.tell_trees.specs.Orders.{AreOrdersOf, names_choice, unsettled_from, no_order, sided, order_at, IsSearched}
 use Rattle.std.specs.Prelude.{slice_get, slice_index, slice_index_or, IfSome}
-use Rattle.std.specs.List.{All, Contains}
 use Rattle.std.proofs.lemmas.List.{length-append}
 use Rattle.std.proofs.lemmas.Option.{same_Some, get_or_from_slice_get}
-use Rattle.std.proofs.lemmas.List.Elements.{All-nil, All-cons, All-contains, Contains-append_left, Contains-append_right, Contains-append_cases}
 use Rattle.list_lemmas.proofs.Elements.{same_item, behind}
-use Rattle.serializability.specs.Log.{Log}
-use Rattle.serializability.specs.Polygraph.{Edge, Choice, Polygraph}
 use Rattle.reach_laws.specs.Reach.{Walk}
 use Rattle.pruning_laws.specs.declared.side.Side.{Side}
-use Rattle.pruning_laws.specs.declared.side.Side.TheVariants.{One, Two}
-use Rattle.pruning_laws.specs.Forced.{edges_of, kept_from}
-use Rattle.pruning_laws.specs.Ledger.{Entry, sides_in}
 use Rattle.known_graph.proofs.Listed.{In, In-from_Contains, Contains-from_In}
 use Rattle.known_graph.proofs.Tested.{walk_of}
-use Rattle.chain_laws.specs.Chains.{chain_polygraph}
-use Rattle.log_definitions.specs.Numbers.{log_of}
-use Rattle.prune_ledger.specs.Ledger.{side_of, edges_after}
-use Rattle.prune_ledger.specs.Pruned.{kept_by}
 use Rattle.prune_ledger.proofs.Sides.{side_is, choice_of_edge, kept_cases, no_kept}
 use Rattle.cube_laws.specs.Cubes.{Cube}
 use Rattle.cube_laws.specs.declared.tree.CubeDecision.{CubeDecision}
@@ -27,18 +37,54 @@ use Rattle.cube_laws.specs.declared.tree.TreeNode.{TreeNode}
 use Rattle.cube_laws.specs.Trees.{cube_below, cube_of, IsChild, IsRefutationTree}
 use Rattle.cube_laws.proofs.Lists.{some_map, map_length}
 use Rattle.cube_laws.proofs.Upward.{cube_under, cube_top, cube_past}
-use Rattle.tell_reasons.specs.declared.why.ChainOrder.{ChainOrder}
 use Rattle.tell_steps.specs.View.{StepsView}
-use Rattle.tell_steps.specs.Orders.{choice_of}
-use Rattle.tell_steps.specs.Steps.{IsOrder, edges_in}
 use Rattle.tell_steps.specs.Lines.{IsBetween, IsLineOfNodes, IsOfLedger, OneHas, IsCovered, HasEdges, IsRound}
 use Rattle.tell_steps.proofs.Chosen.{turned_order}
 use Rattle.tell_steps.proofs.Ledgers.{order_leads}
 use Rattle.tell_steps.proofs.Covering.{ledger_leads, round_nodes}
+use Rattle.tell_trees.specs.Visits.{IsTreeOver, IsGrown, decided_at, IsUp, IsReady}
 use Rattle.tell_trees.specs.declared.visits.Visit.{Visit}
-use Rattle.tell_trees.specs.Orders.{AreOrdersOf, no_order, sided, order_at, IsSearched}
-use Rattle.tell_trees.specs.Told.{decided_at, IsUp, IsReady}
-use Rattle.tell_trees.specs.Visits.{IsTreeOver, IsGrown}
+
+-- ---- a side is kept where an entry speaks of its choice
+abbrev named_in : List Entry → ℕ → Bool
+named_in entries c = list_any (λ e. eqb e.0 c) entries
+
+kept_named : (kept : List Entry) (c : ℕ) → (sides_in kept c One || sides_in kept c Two) ≡ named_in kept c
+kept_named [] c = refl
+kept_named (e ∷ kept) c =
+    either_way (eqb e.0 c && same_side e.1 One) (sides_in kept c One) (eqb e.0 c && same_side e.1 Two) (sides_in kept c Two)
+    ∙ (λ i. some_side (eqb e.0 c) e.1 i || kept_named kept c i)
+
+named_after : (kept : List Entry) (entries : List LedgerEntry) (c : ℕ) → named_in (kept_after kept (posts_in entries)) c ≡ (names_choice entries c || named_in kept c)
+named_after kept [] c = refl
+named_after kept (x ∷ xs) c =
+    named_after (kept_side x.post ∷ kept) xs c
+    ∙ sym (or_assoc (names_choice xs c) (eqb x.post.choice c) (named_in kept c))
+    ∙ ap (λ b. b || named_in kept c) (or_comm (names_choice xs c) (eqb x.post.choice c))
+
+settled_is : (entries : List LedgerEntry) (c : ℕ) → (sides_in (kept_by entries) c One || sides_in (kept_by entries) c Two) ≡ names_choice entries c
+settled_is entries c = kept_named (kept_by entries) c ∙ named_after [] entries c ∙ or-false (names_choice entries c)
+
+-- ---- the orders that are left
+left_or : (log : Log) (b : Bool) (o : ChainOrder) (xs : List ChainOrder) (ys : List Choice) → IsOrder log o → AreOrdersOf log ys xs → AreOrdersOf log (cond b ys (choice_of log o ∷ ys)) (cond b xs (o ∷ xs))
+left_or log true o xs ys h a = a
+left_or log false o xs ys h a = record { sides = ap (λ l. choice_of log o ∷ l) a.sides; each = All-cons (IsOrder log) o xs h a.each }
+
+left_from : (log : Log) (entries : List LedgerEntry) (c : ℕ) (os : List ChainOrder) → All (IsOrder log) os → AreOrdersOf log (open_from (sides_in (kept_by entries)) c (map (choice_of log) os)) (unsettled_from entries c os)
+left_from log entries c [] a = record { sides = refl; each = All-nil (IsOrder log) }
+left_from log entries c (o ∷ os) a =
+    let xs = unsettled_from entries (c + 1) os in
+    let ys = open_from (sides_in (kept_by entries)) (c + 1) (map (choice_of log) os) in
+    subst (λ b. AreOrdersOf log (cond b ys (choice_of log o ∷ ys)) (cond (names_choice entries c) xs (o ∷ xs))) (sym (settled_is entries c))
+    (left_or log (names_choice entries c) o xs ys (All-head (IsOrder log) o os a) (left_from log entries (c + 1) os (All-tail (IsOrder log) o os a)))
+
+pub left_open : (ss : List ClientSession) (r : Remainder) → IsOpenHistory ss r → (entries : List LedgerEntry) → entries ≡ r.ledger.entries.items → (orders left : List ChainOrder) → map (choice_of (log_of ss)) orders ≡ chain_choices (log_of ss) → All (IsOrder (log_of ss)) orders
+    → left ≡ unsettled_from entries 0 orders → AreOrdersOf (log_of ss) r.poly.choices left
+left_open ss r h entries entries_are orders left same each is =
+    let log = log_of ss in
+    let choices = same ∙ sym h.unpruned.chained.choices in
+    let left_is : open_from (sides_in (kept_by entries)) 0 (map (choice_of log) orders) ≡ r.poly.choices = (λ z. open_from (sides_in (kept_by (entries_are z))) 0 (choices z)) ∙ sym h.left.choices in
+    subst (λ hs. AreOrdersOf log hs left) left_is (subst (AreOrdersOf log (open_from (sides_in (kept_by entries)) 0 (map (choice_of log) orders))) (sym is) (left_from log entries 0 orders each))
 
 -- ---- cubes
 -- a node that decides a choice beyond its parent's cube

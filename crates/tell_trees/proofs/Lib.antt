@@ -1,4 +1,3 @@
 pub mod Counted
 pub mod Cubes
-pub mod Opened
 pub mod Tellings

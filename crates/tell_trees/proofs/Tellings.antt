@@ -21,10 +21,9 @@ use Rattle.tell_steps.specs.declared.item.Item.{Item}
 use Rattle.tell_steps.specs.declared.item.Item.TheVariants as item
 use Rattle.tell_trees.specs.declared.visits.Visit.{Visit}
 use Rattle.tell_trees.specs.Orders.{no_order, order_at, AreOrdersOf}
-use Rattle.tell_trees.specs.Told.{decided_at, decision_items, IsLeafTold, IsVisitTold, AreVisitsTold, IsReady}
 use Rattle.tell_trees.specs.Trees.{IsCubeTold, IsTreeTold, leaves_items}
 use Rattle.tell_trees.specs.Trees as told
-use Rattle.tell_trees.specs.Visits.{IsVisited, visit_of, leaf_count}
+use Rattle.tell_trees.specs.Visits.{IsVisited, visit_of, leaf_count, decided_at, decision_items, IsLeafTold, IsVisitTold, AreVisitsTold, IsReady}
 use Rattle.tell_trees.specs.Visits as visited
 use Rattle.tell_trees.proofs.Cubes.{child_cube, root_cube, orders_count}
 use Rattle.session_log.specs.Text.{ClientSession}

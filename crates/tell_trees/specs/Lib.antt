@@ -1,4 +1,3 @@
 pub mod Orders
-pub mod Told
 pub mod Trees
 pub mod Visits

@@ -7,10 +7,9 @@ ghost use Rattle.std.specs.Prelude.{◌≡◌, ◌<◌, ◌++◌, length, IfOk, 
 ghost use Rattle.std.specs.List.{All};
 ghost use Rattle.tell_steps.specs.Told.{IsPut};
 ghost use Rattle.tell_trees.specs.Orders.{order_at, IsSearched};
-ghost use Rattle.tell_trees.specs.Told.{decided_at, IsUp, IsReady, decision_items};
-ghost use Rattle.tell_trees.specs.Told.{IsVisitTold, AreVisitsTold};
+ghost use Rattle.tell_trees.specs.Visits.{decided_at, IsUp, IsReady, decision_items};
 ghost use Rattle.tell_trees.specs.Trees.{leaves_items};
-ghost use Rattle.tell_trees.specs.Visits.{IsTreeOver};
+ghost use Rattle.tell_trees.specs.Visits.{IsTreeOver, IsVisitTold, AreVisitsTold};
 
 use crate::visits::Visit;
 use cube_laws::{CubeDecision, TreeNode};

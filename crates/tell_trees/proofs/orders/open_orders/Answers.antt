@@ -2,7 +2,7 @@ use Rattle.std.proofs.Common.{◌∙◌, ap}
 use Rattle.std.proofs.lemmas.Result.{IfOk-weaker}
 use Rattle.prune_ledger.specs.declared.ledger.Ledger.{Ledger}
 use Rattle.tell_trees.specs.Orders.{unsettled_from}
-use Rattle.tell_trees.proofs.Opened.{left_open}
+use Rattle.tell_trees.proofs.Cubes.{left_open}
 use Rattle.tell_trees.proofs.orders.open_orders.Goals as goal
 
 pub returns : goal.returns
