@@ -1,7 +1,6 @@
 use Rattle.std.proofs.Common.{[]}
 use Rattle.tell_steps.specs.Steps as told
-use Rattle.tell_laws.proofs.Told.{steps_stand, cycle_refuted, dead_refuted, tree_refuted}
-use Rattle.tell_laws.proofs.Counts.{cycles_are_leaves}
+use Rattle.tell_laws.proofs.Told.{cycles_are_leaves, steps_stand, cycle_refuted, dead_refuted, tree_refuted}
 use Rattle.tell_laws.proofs.laws.told_lines_rule_out_orders.Goals as goal
 
 pub returns : goal.returns
