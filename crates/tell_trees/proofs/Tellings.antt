@@ -26,7 +26,6 @@ use Rattle.tell_trees.specs.Trees as told
 use Rattle.tell_trees.specs.Visits.{IsVisited, visit_of, leaf_count, decided_at, decision_items, IsLeafTold, IsVisitTold, AreVisitsTold, IsReady}
 use Rattle.tell_trees.specs.Visits as visited
 use Rattle.tell_trees.proofs.Cubes.{child_cube, root_cube, orders_count}
-use Rattle.session_log.specs.Text.{ClientSession}
 use Rattle.tell_trees.proofs.Counted.{told_count}
 
 module _ (s : StepsView) (orders : List ChainOrder) (nodes : List TreeNode) where
@@ -112,11 +111,6 @@ module _ (s : StepsView) (orders : List ChainOrder) (nodes : List TreeNode) wher
           cube = told.left_out i (length decided) decided;
         }
 
-    pub root_told : (k : ℕ) (vs : List Visit) (items : List Item) → IsVisited nodes 0 0 k vs → AreVisitsTold s orders nodes vs items → IsCubeTold s.sessions s.orders orders nodes 0 0 [] 0 k items
-    root_told k vs items v h =
-        let r = subst (λ ds. IsNodeTold ds 0 0 k items) (ap (map (order_at orders)) (root_cube p nodes t)) (node_told v items h) in
-        subst (λ (l : List Item). IsCubeTold s.sessions s.orders orders nodes 0 0 [] 0 k l) (sym r.whole) r.cube
-
 abbrev lines_of : List Visit → List (Bor (List ℕ))
 lines_of vs = filter_map (λ v. v.line) vs
 
@@ -134,11 +128,12 @@ visits_ready s nodes last visits lines v e a = all_ready s nodes v (λ l j. All-
 
 -- what is told of the visits, behind the steps and how many leaves there are, is the tree told
 pub whole_told : (s : StepsView) (orders : List ChainOrder) (nodes : List TreeNode) (p : Polygraph) → IsRefutationTree p nodes → (visits : List Visit) (last : ℕ) → IsVisited nodes 0 0 last visits → (before mid items : List Item) → mid ≡ before ++ leaves_items (leaf_count nodes) → IsPut mid items (AreVisitsTold s orders nodes visits)
-    → (lines : List (Bor (List ℕ))) → lines ≡ filter_map (λ w. w.line) visits → (ss : List ClientSession) → s.sessions ≡ ss → AreStepsTold ss s.orders before → ((k : ℕ) → k < length s.orders → IsNamed before k ⊎ IsNeededIn ss s.orders lines k) → AreOrdersOf (log_of ss) p.choices orders → IsTreeTold ss p.choices nodes items
-whole_told s orders nodes p t visits last v before mid items mid_is put lines lines_are ss of_steps =
+    → (lines : List (Bor (List ℕ))) → lines ≡ filter_map (λ w. w.line) visits → AreStepsTold s.sessions s.orders before → ((k : ℕ) → k < length s.orders → IsNamed before k ⊎ IsNeededIn s.sessions s.orders lines k) → AreOrdersOf (log_of s.sessions) p.choices orders → IsTreeTold s.sessions p.choices nodes items
+whole_told s orders nodes p t visits last v before mid items mid_is put lines lines_are steps needed sides =
     let whole : items ≡ before ++ (leaves_items (leaf_count nodes) ++ put.items) = put.appended ∙ ap (λ l. l ++ put.items) mid_is ∙ append_assoc before (leaves_items (leaf_count nodes)) put.items in
-    let Told : List ClientSession → Type 0 = λ zs. AreStepsTold zs s.orders before → ((k : ℕ) → k < length s.orders → IsNamed before k ⊎ IsNeededIn zs s.orders lines k) → AreOrdersOf (log_of zs) p.choices orders → IsTreeTold zs p.choices nodes items in
-    let told : Told s.sessions = λ steps needed sides. record {
+    let told = node_told s orders nodes p t sides.each (orders_count (log_of s.sessions) p.choices orders sides) v put.items put.kind in
+    let root = subst (λ ds. IsNodeTold s orders nodes ds 0 0 last put.items) (ap (map (order_at orders)) (root_cube p nodes t)) told in
+    record {
       steps = s.orders;
       orders = orders;
       before = before;
@@ -146,7 +141,7 @@ whole_told s orders nodes p t visits last v before mid items mid_is put lines li
       told = steps;
       sides = sides;
       last = last;
-      root = root_told s orders nodes p t sides.each (orders_count (log_of s.sessions) p.choices orders sides) last visits put.items v put.kind;
+      root = subst (λ (l : List Item). IsCubeTold s.sessions s.orders orders nodes 0 0 [] 0 last l) (sym root.whole) root.cube;
       count = told_count nodes p t last visits v;
       whole = whole;
       needed = λ k lt. elim (needed k lt) [
@@ -155,5 +150,4 @@ whole_told s orders nodes p t visits last v before mid items mid_is put lines li
             let own = line_named s orders nodes visits put.items put.kind lines k n (subst (In n.line) lines_are (In-from_Contains lines n.line n.among)) in
             named_among put.items items k (λ x c. subst (λ l. Contains l x) (sym put.appended) (Contains-append_right mid put.items x c)) own
       ];
-    } in
-    subst Told of_steps told
+    }

@@ -28,6 +28,6 @@ returns c =
     let leaves = subst (λ n. c.put_leaves.new.items.items ≡ c.in_ok-steps.items.items ++ leaves_items n) c.count_leaves.ensures.count c.in_ok-put_leaves.ensures.added in
     let put = rw (c.deref-4.ensures.value, c.deref-3.ensures.value) at c.in_ok-put_visits.ensures.told in
     record {
-      told = rw (← c.nodes-nodes.ensures.nodes) (whole_told s orders nodes c.args.reduced.now.poly (rw c.nodes-nodes.ensures.nodes c.requires.tree) c.in_ok-visits.visits.items c.in_ok-visits.ensures.visited.0 c.in_ok-visits.ensures.visited.1 c.in_ok-steps.items.items c.put_leaves.new.items.items c.put_visits.new.items.items leaves put
-          c.deref-2.result.now lines_are c.args.history.now c.in_ok-steps.ensures.sessions c.in_ok-steps.ensures.told c.in_ok-steps.ensures.needed (rw c.requires.chains at c.in_ok-orders.ensures.orders));
+      told = rw (← c.nodes-nodes.ensures.nodes, ← c.in_ok-steps.ensures.sessions) (whole_told s orders nodes c.args.reduced.now.poly (rw c.nodes-nodes.ensures.nodes c.requires.tree) c.in_ok-visits.visits.items c.in_ok-visits.ensures.visited.0 c.in_ok-visits.ensures.visited.1 c.in_ok-steps.items.items c.put_leaves.new.items.items c.put_visits.new.items.items leaves put
+          c.deref-2.result.now lines_are (rw (← c.in_ok-steps.ensures.sessions) at c.in_ok-steps.ensures.told) (rw (← c.in_ok-steps.ensures.sessions) at c.in_ok-steps.ensures.needed) (rw (c.requires.chains, ← c.in_ok-steps.ensures.sessions) at c.in_ok-orders.ensures.orders));
     }
