@@ -39,6 +39,7 @@ use Rattle.tell_reasons.specs.declared.why.Why.{Why}
 use Rattle.tell_reasons.specs.declared.why.Why.TheVariants.{Known, Forced, Chosen}
 use Rattle.tell_trees.specs.declared.TheConstants.{MAX_LEAVES}
 
+-- ---- how many cycles are told
 joined : (front back : List Item) → cycles_in (front ++ back) ≡ cycles_in front + cycles_in back
 joined [] back = omega arith
 joined (i ∷ front) back = omega (arith, joined front back)
@@ -55,7 +56,7 @@ of_steps ss steps items (told.step before front h o two u v has inner against li
 of_cycle : (ss : List ClientSession) (steps decided : List ChainOrder) (items : List Item) → IsCycleTold ss steps decided items → cycles_in items ≡ 1
 of_cycle ss steps decided items (told.closes start inner edges h) = omega (arith, of_line ss steps decided (start ∷ (inner ++ start ∷ [])) edges h)
 
-pub of_cube : (ss : List ClientSession) (steps : List ChainOrder) (orders : List ChainOrder) (nodes : List TreeNode) (i depth : ℕ) (decided : List ChainOrder) (n m : ℕ) (items : List Item) → IsCubeTold ss steps orders nodes i depth decided n m items → n + cycles_in items ≡ m
+of_cube : (ss : List ClientSession) (steps : List ChainOrder) (orders : List ChainOrder) (nodes : List TreeNode) (i depth : ℕ) (decided : List ChainOrder) (n m : ℕ) (items : List Item) → IsCubeTold ss steps orders nodes i depth decided n m items → n + cycles_in items ≡ m
 of_cube ss steps orders nodes i depth decided n m items (trees.leaf v d ks k line round less at h) = omega (arith, of_cycle ss steps ks round h)
 of_cube ss steps orders nodes i depth decided n m items (trees.split v d ks k l j c first second o one two at is order h g) =
     omega (arith, joined one (item.Decided (d + 1) (turned o) ∷ two), of_cube ss steps orders nodes first (d + 1) (o ∷ ks) k l one h, of_cube ss steps orders nodes second (d + 1) (turned o ∷ ks) l j two g)
@@ -68,13 +69,13 @@ of_leaves count false = refl
 pub cycles_are_leaves : (ss : List ClientSession) (choices : List Choice) (nodes : List TreeNode) (items : List Item) → IsTreeTold ss choices nodes items → cycles_in items ≡ told_leaves (leaf_count nodes)
 cycles_are_leaves ss choices nodes items t =
     let leaves = leaf_count nodes in
-    let count = t.count in
     let before = joined t.before (leaves_items leaves ++ t.tree) in
     let behind = joined (leaves_items leaves) t.tree in
     let all = ap cycles_in t.whole in
-    omega (arith, count, all, before, behind, of_steps ss t.steps t.before t.told, of_leaves leaves (nat_lt 1 leaves), of_cube ss t.steps t.orders nodes 0 0 [] 0 t.last t.tree t.root)
+    omega (arith, t.count, all, before, behind, of_steps ss t.steps t.before t.told, of_leaves leaves (nat_lt 1 leaves), of_cube ss t.steps t.orders nodes 0 0 [] 0 t.last t.tree t.root)
 
-pub either_chain_first : (log : Log) → IsClean log → (order : List ℕ) → IsSerial log order → (x a b : ℕ) → x < log.keys → Contains (heads log x) a → Contains (heads log x) b → a ≢ b → Keeps order (chain_first log x a b) ⊎ Keeps order (chain_first log x b a)
+-- ---- of two chains of a key, a serial order has the one before the other
+either_chain_first : (log : Log) → IsClean log → (order : List ℕ) → IsSerial log order → (x a b : ℕ) → x < log.keys → Contains (heads log x) a → Contains (heads log x) b → a ≢ b → Keeps order (chain_first log x a b) ⊎ Keeps order (chain_first log x b a)
 either_chain_first log clean order serial x a b key one two apart =
     let fits = chains_fit log clean order (serial_fits log clean order serial) in
     let of_key = each_of_range (λ y. AllByRecursion (KeepsOne order) (map (chain_choice log y) (pairs_of (heads log y)))) 0 log.keys
@@ -96,13 +97,14 @@ edges_last : (order : List ℕ) (t b : ℕ) (rs : List ℕ) → AllByRecursion (
 edges_last order t b [] behind k = k.0
 edges_last order t b (r ∷ rs) behind k = omega (arith, behind.0, k.0)
 
-pub tail_first : (log : Log) → IsClean log → (order : List ℕ) → IsSerial log order → (x a b : ℕ) → x < log.keys → Keeps order (chain_first log x a b) → Before order (tail log x a) b
+tail_first : (log : Log) → IsClean log → (order : List ℕ) → IsSerial log order → (x a b : ℕ) → x < log.keys → Keeps order (chain_first log x a b) → Before order (tail log x a) b
 tail_first log clean order serial x a b key k =
     let t = tail log x a in
     let arcs = arcs_kept log order (serial_fits log clean order serial).known in
     edges_last order t b (readers log x t)
     (each_from_readers log x t (λ r. Before order t r) (λ r lo hi from. arcs t r (source_within log clean r x t lo hi from) hi (arc_from_read log r t lo (reads_from_source log r x t key from)))) k
 
+-- ---- in a serial order
 module _ (ss : List ClientSession) (order : List ℕ) (well : IsWellFormedList ss) (is : IsSerialOrder ss order) where
   abbrev log : Log
   log = log_of ss
