@@ -18,7 +18,7 @@ use Rattle.cube_laws.specs.Trees.{IsChild, IsRefutationTree}
 use Rattle.tell_trees.specs.declared.visits.Visit.{Visit}
 use Rattle.tell_trees.specs.declared.TheConstants.{MAX_LEAVES}
 use Rattle.tell_trees.specs.Trees.{told_leaves}
-use Rattle.tell_trees.specs.Visits.{cycle_in, leaf_count, IsGrown, IsVisited, IsTree, visit_of}
+use Rattle.tell_trees.specs.Visits.{cycle_in, leaf_count, IsGrown, IsVisited, IsTreeOver, visit_of}
 use Rattle.tell_trees.specs.Visits as visited
 use Rattle.std.specs.List.{All, sum_by}
 use Rattle.std.proofs.lemmas.List.{reverse-append}
@@ -172,7 +172,7 @@ pub record IsUnderway (nodes : List TreeNode) (waiting : List ℕ) (leaves : ℕ
   pub few : leaves ≤ MAX_LEAVES
   pub whole : Finishes nodes (reverse waiting) leaves visits
 
-module _ (nodes : List TreeNode) (t : IsTree nodes) where
+module _ (nodes : List TreeNode) {choices : ℕ} (t : IsTreeOver choices nodes) where
   -- a node is taken
   module _ {waiting : List ℕ} (rest : List ℕ) (i : ℕ) {n : ℕ} {visits : List Visit} (popped : waiting ≡ rest ++ i ∷ []) (u : IsUnderway nodes waiting n visits) where
     parts : All (λ j. j < length nodes) rest × (i < length nodes)

@@ -17,11 +17,6 @@ use Rattle.tell_steps.specs.declared.item.Item.{Item}
 use Rattle.tell_steps.specs.declared.item.Item.TheVariants as item
 use Rattle.tell_trees.specs.Orders.{order_at}
 
--- a refutation tree of some polygraph
-pub record IsTree (nodes : List TreeNode) : Type 0 where
-  pub poly : Polygraph
-  pub shown : IsRefutationTree poly nodes
-
 -- a refutation tree of some polygraph with so many choices
 pub record IsTreeOver (choices : ℕ) (nodes : List TreeNode) : Type 0 where
   pub poly : Polygraph

@@ -2,7 +2,7 @@
 
 ghost use Rattle.std.specs.Prelude.{◌≡◌, ℕ, IfOk};
 ghost use Rattle.std.specs.List.{filter_map};
-ghost use Rattle.tell_trees.specs.Visits.{IsTree, IsVisited, leaf_count};
+ghost use Rattle.tell_trees.specs.Visits.{IsTreeOver, IsVisited, leaf_count};
 
 use crate::MAX_LEAVES;
 use cube_laws::{Growth, TreeNode};
@@ -19,7 +19,7 @@ pub struct Visit<'a> {
 /// The nodes of a tree, depth first, with the first children before the second ones. Behind the
 /// last leaf that is told they have no children.
 pub fn visits<'a>(alloc: Global, nodes: &'a [TreeNode]) -> Result<Vec<Visit<'a>>, AllocError>
-    requires tree { IsTree nodes.now }
+    requires tree { (choices : ℕ) × IsTreeOver choices nodes.now }
     ensures visited { IfOk result (λ visits. (last : ℕ)
         × IsVisited nodes.now 0 0 last visits.items) }
 {
