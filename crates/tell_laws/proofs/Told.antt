@@ -1,5 +1,5 @@
 -- As many cycles are told of a tree as it has leaves, and what is told holds in each serial order.
-use Rattle.std.proofs.Common.{◌≡◌, ℕ, ◌+◌, List, [], ◌∷◌, ◌++◌, length, Bool, true, false, cond, ap, refl, arith, ◌≢◌, ◌⊎◌, ◌<◌, sym, ◌∙◌, subst, inl, inr, zero, suc}
+use Rattle.std.proofs.Common.{◌≡◌, ℕ, ◌+◌, List, [], ◌∷◌, ◌++◌, length, Bool, true, false, cond, ap, refl, arith, ◌≢◌, ◌⊎◌, ◌<◌, sym, subst, inl, inr, zero, suc}
 use Rattle.std.specs.Prelude.{nat_lt, map}
 use Rattle.session_log.specs.Text.{ClientSession}
 use Rattle.serializability.specs.Polygraph.{Choice, Keeps, KeepsOne, all_keys, Edge, committed}
@@ -26,7 +26,7 @@ use Rattle.reach_laws.proofs.Walks.{each_contained}
 use Rattle.chain_laws.specs.Chains.{heads, tail, readers, edges_to, chain_first, chain_choice, is_head}
 use Rattle.chain_laws.proofs.Walks.{Head}
 use Rattle.chain_laws.proofs.Coalesced.{chains_fit, each_from_readers}
-use Rattle.std.proofs.lemmas.Bool.{cases_order, le-ltb}
+use Rattle.std.proofs.lemmas.Bool.{cases_order}
 use Rattle.list_lemmas.proofs.Elements.{contains_at}
 use Rattle.log_definitions.specs.Serial.{IsSerialOrder}
 use Rattle.log_definitions.specs.Numbers.{IsWellFormedList, log_of}
@@ -186,6 +186,5 @@ module _ (ss : List ClientSession) (order : List ℕ) (well : IsWellFormedList s
 
   pub tree_refuted : (choices : List Choice) (nodes : List TreeNode) (items : List Item) (t : IsTreeTold ss choices nodes items) → leaf_count nodes < MAX_LEAVES → ⊥
   tree_refuted choices nodes items t less =
-      let leaves = leaf_count nodes in
-      let few : t.last < MAX_LEAVES = subst (λ n. n < MAX_LEAVES) (sym (t.count ∙ ap (λ b. cond b MAX_LEAVES leaves) (le-ltb MAX_LEAVES leaves (omega (arith, less))))) less in
+      let few : t.last < MAX_LEAVES = omega (arith, t.count, less) in
       cube_refuted t.steps (steps_kept t.steps t.before t.told) t.orders nodes 0 0 [] 0 t.last t.tree t.root tt few

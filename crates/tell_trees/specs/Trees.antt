@@ -1,6 +1,5 @@
 -- How a refutation tree is told, depth first.
-use Rattle.std.specs.Prelude.{◌≡◌, ℕ, ◌+◌, ◌<◌, nat_lt, if◌then◌else◌, List, [], ◌∷◌, ◌++◌}
-use Rattle.std.specs.Prelude.{length}
+use Rattle.std.specs.Prelude.{◌≡◌, ℕ, ◌+◌, ◌<◌, nat_lt, min, if◌then◌else◌, List, [], ◌∷◌, ◌++◌, length}
 use Rattle.session_log.specs.Text.{ClientSession}
 use Rattle.serializability.specs.Polygraph.{Choice}
 use Rattle.pruning_laws.specs.declared.side.Side.TheVariants.{One}
@@ -41,7 +40,7 @@ leaves_items count = if nat_lt 1 count then item.Leaves count ∷ [] else []
 
 -- of so many leaves so many are told: all of them, up to the greatest number
 abbrev pub told_leaves : ℕ → ℕ
-told_leaves count = if nat_lt MAX_LEAVES count then MAX_LEAVES else count
+told_leaves count = min MAX_LEAVES count
 
 -- of a tree with these nodes, over these choices: steps, each of which an edge of a cycle or of a later
 -- step's walk stands by; how many leaves it has, where it has more than one; and then the cube of its
