@@ -174,13 +174,6 @@ sided_order log o Two h = turned_order log o h
 pub orders_count : (log : Log) (choices : List Choice) (orders : List ChainOrder) → AreOrdersOf log choices orders → length orders ≡ length choices
 orders_count log choices orders h = sym (map_length (choice_of log) orders) ∙ ap length h.sides
 
--- an edge that is known in one polygraph, or of a side that is kept, is one in another one
-pub kept_in : (p q : Polygraph) → ((e : Edge) → Contains p.known e → Contains q.known e) → p.choices ≡ q.choices → (kept : List Entry) (e : Edge) → Contains (edges_after p kept) e → Contains (edges_after q kept) e
-kept_in p q known same kept e c = subst (λ (cs : List Choice). Contains (q.known ++ kept_from (sides_in kept) 0 cs) e) same (elim (Contains-append_cases p.known (kept_from (sides_in kept) 0 p.choices) e c) [
-  | inl a ↦ Contains-append_left q.known (kept_from (sides_in kept) 0 p.choices) e (known e a)
-  | inr b ↦ Contains-append_right q.known (kept_from (sides_in kept) 0 p.choices) e b
-])
-
 -- ---- a leaf's cycle
 module _ (s : StepsView) (orders : List ChainOrder) (nodes : List TreeNode) (h : IsSearched s.sessions s.entries orders nodes) where
   abbrev log : Log
@@ -197,11 +190,16 @@ module _ (s : StepsView) (orders : List ChainOrder) (nodes : List TreeNode) (h :
       side_is p.choices d.0 g.choice d.1 g.at ∙ ap (λ (z : Choice). edges_of z d.1) (sym r.2) ∙ edges_sided log r.0 d.1 ∙ ap (λ (z : ChainOrder). edges_in log (sided d.1 z)) (sym (get_or_from_slice_get orders d.0 r.0 no_order r.1)) in
       Contains-from_In (edges_in log (order_at orders d)) e (subst (In e) same i)
 
+  -- what is known of the polygraph is known of the chains, or an entry of the ledger keeps it
   known_kept : (e : Edge) → Contains p.known e → IsOfLedger s e
   known_kept e c =
       let made = h.left.unpruned.chained in
-      subst (λ kept. Contains (edges_after (chain_polygraph log) kept) e) (ap kept_by (sym h.entries_are))
-      (kept_in h.left.poly (chain_polygraph log) (λ d. (made.known d).0) made.choices (kept_by h.reduced.ledger.entries.items) e ((h.left.left.known e).0 c))
+      let kept : List Choice → List Edge = kept_from (sides_in (kept_by h.reduced.ledger.entries.items)) 0 in
+      subst (λ entries. Contains (edges_after (chain_polygraph log) (kept_by entries)) e) (sym h.entries_are)
+      (subst (λ (cs : List Choice). Contains ((chain_polygraph log).known ++ kept cs) e) made.choices (elim (Contains-append_cases h.left.poly.known (kept h.left.poly.choices) e ((h.left.left.known e).0 c)) [
+        | inl a ↦ Contains-append_left (chain_polygraph log).known (kept h.left.poly.choices) e ((made.known e).0 a)
+        | inr b ↦ Contains-append_right (chain_polygraph log).known (kept h.left.poly.choices) e b
+      ]))
 
   cube_edge : (cube : Cube) (e : Edge) → In e (edges_after p cube) → IsOfLedger s e ⊎ OneHas s.sessions (map (order_at orders) cube) e
   cube_edge [] e i = inl (known_kept e (Contains-from_In p.known e (no_kept p e i)))
