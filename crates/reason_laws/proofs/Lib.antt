@@ -1,6 +1,4 @@
-pub mod Texts
 pub mod Numbers
 pub mod Kept
 pub mod Links
 pub mod Found
-pub mod Crossed

@@ -1,6 +1,6 @@
 //! What the reasons mean, each law the contract of a function that does nothing.
 
-ghost use Rattle.std.specs.Prelude.{◌≡◌, ◌⊎◌, ℕ, ◌<◌, List};
+ghost use Rattle.std.specs.Prelude.{◌⊎◌, ℕ, ◌<◌, List};
 ghost use Rattle.std.specs.List.{Contains};
 ghost use Rattle.session_log.specs.Text.{ClientSession};
 ghost use Rattle.serializability.specs.Replay.{Before};
@@ -34,6 +34,7 @@ pub fn reasons_are_kept()
 {}
 
 /// Each edge between transactions that is known of a clean log's chains has a reason.
+#[tactic(auto, using(crate::proofs::Found::arc_reason, crate::proofs::Found::inner_reason, crate::proofs::Found::initial_reason))]
 pub fn known_edges_have_reasons()
     ensures arc { (ss : List ClientSession) → IsWellFormedList ss → IsClean (log_of ss) → (a b : ℕ)
         → 0 < a → Contains (arcs (log_of ss)) (a, b) →

@@ -1,3 +1,1 @@
-pub mod Chains
 pub mod Told
-pub mod Counts

@@ -1,7 +1,3 @@
 pub mod Counted
-pub mod Edges
-pub mod Facts
-pub mod Left
-pub mod Opened
+pub mod Cubes
 pub mod Tellings
-pub mod Walk

@@ -1,10 +1,10 @@
--- What is told of a tree's nodes, depth first, is the tree told.
-use Rattle.std.proofs.Common.{◌≡◌, ℕ, ◌+◌, List, [], ◌∷◌, ◌++◌, length, map, Option, Some, None, refl, sym, ap, ◌∙◌, subst, inl, inr, append_assoc, arith, Bor, ◌<◌, take, get_or}
+-- What is told of a tree's nodes, depth first, behind the steps, is the tree told.
+use Rattle.std.proofs.Common.{◌≡◌, ℕ, ◌+◌, List, [], ◌∷◌, ◌++◌, length, map, Option, Some, None, refl, sym, ap, ◌∙◌, subst, inl, inr, append_assoc, arith, Bor, ◌<◌, take, get_or, ◌⊎◌}
 use Rattle.std.proofs.lemmas.List.{append-nil}
 use Rattle.std.specs.List.{All, Contains, filter_map, cons_option}
-use Rattle.std.proofs.lemmas.List.Elements.{Contains-append_left, Contains-append_right}
+use Rattle.std.proofs.lemmas.List.Elements.{Contains-append_left, Contains-append_right, All-nil, All-cons, All-append, All-contains, filter_map-append}
 use Rattle.list_lemmas.proofs.Lists.{front_more}
-use Rattle.known_graph.proofs.Listed.{In}
+use Rattle.known_graph.proofs.Listed.{In, In-append_left, In-append_right, In-from_Contains, Contains-from_In}
 use Rattle.serializability.specs.Polygraph.{Polygraph}
 use Rattle.pruning_laws.specs.declared.side.Side.{Side}
 use Rattle.pruning_laws.specs.declared.side.Side.TheVariants.{One, Two}
@@ -13,31 +13,31 @@ use Rattle.cube_laws.specs.declared.tree.TreeNode.{TreeNode}
 use Rattle.cube_laws.specs.Trees.{IsChild, IsRefutationTree}
 use Rattle.tell_reasons.specs.declared.why.ChainOrder.{ChainOrder}
 use Rattle.tell_steps.specs.View.{StepsView}
-use Rattle.tell_steps.specs.Steps.{turned, IsOrder, IsNamed}
-use Rattle.tell_steps.specs.Lines.{IsNeededIn}
+use Rattle.tell_steps.specs.Steps.{turned, IsOrder, IsNamed, AreStepsTold}
+use Rattle.tell_steps.specs.Lines.{IsNeededIn, IsCovered}
 use Rattle.tell_steps.specs.Told.{IsPut, IsRoundTold}
 use Rattle.tell_steps.proofs.Telling.{round_cycle, round_named, named_among}
 use Rattle.tell_steps.specs.declared.item.Item.{Item}
 use Rattle.tell_steps.specs.declared.item.Item.TheVariants as item
 use Rattle.tell_trees.specs.declared.visits.Visit.{Visit}
-use Rattle.tell_trees.specs.Orders.{no_order, order_at}
-use Rattle.tell_trees.specs.Told.{decided_at, decision_items, IsLeafTold, IsVisitTold, AreVisitsTold}
-use Rattle.tell_trees.specs.Trees.{IsCubeTold}
+use Rattle.tell_trees.specs.Orders.{no_order, order_at, AreOrdersOf}
+use Rattle.tell_trees.specs.Trees.{IsCubeTold, IsTreeTold, leaves_items}
 use Rattle.tell_trees.specs.Trees as told
-use Rattle.tell_trees.specs.Visits.{IsVisited}
+use Rattle.tell_trees.specs.Visits.{IsVisited, visit_of, leaf_count, decided_at, decision_items, IsLeafTold, IsVisitTold, AreVisitsTold, IsReady}
 use Rattle.tell_trees.specs.Visits as visited
-use Rattle.tell_trees.proofs.Facts.{child_cube, root_cube}
+use Rattle.tell_trees.proofs.Cubes.{child_cube, root_cube, orders_count}
+use Rattle.tell_trees.proofs.Counted.{told_count}
 
 module _ (s : StepsView) (orders : List ChainOrder) (nodes : List TreeNode) where
   told_more : (vs : List Visit) (v : Visit) (a b : List Item) → AreVisitsTold s orders nodes vs a → IsVisitTold s orders nodes v b → AreVisitsTold s orders nodes (vs ++ v ∷ []) (a ++ b)
   told_more [] v a b e h = (b, [], h, refl, ap (λ l. l ++ b) e ∙ sym (append-nil b))
   told_more (w ∷ ws) v a b g h = (g.0, g.1 ++ b, g.2, told_more ws v g.1 b g.3 h, ap (λ l. l ++ b) g.4 ∙ append_assoc g.0 g.1 b)
 
-  pub more_put : (visits : List Visit) (i : ℕ) (v : Visit) (old mid new : List Item) → i < length visits → v ≡ get_or visits i v → IsPut old mid (AreVisitsTold s orders nodes (take i visits)) → IsPut mid new (IsVisitTold s orders nodes v) → IsPut old new (AreVisitsTold s orders nodes (take (i + 1) visits))
-  more_put visits i v old mid new lt is a b = record {
+  pub more_put : (t : StepsView) (visits : List Visit) (i : ℕ) (v : Visit) (old mid new : List Item) → t ≡ s → i < length visits → v ≡ get_or visits i v → IsPut old mid (AreVisitsTold s orders nodes (take i visits)) → IsPut mid new (IsVisitTold t orders nodes v) → IsPut old new (AreVisitsTold s orders nodes (take (i + 1) visits))
+  more_put t visits i v old mid new same lt is a b = record {
     items = a.items ++ b.items;
     appended = b.appended ∙ ap (λ l. l ++ b.items) a.appended ∙ append_assoc old a.items b.items;
-    kind = subst (λ vs. AreVisitsTold s orders nodes vs (a.items ++ b.items)) (sym (front_more visits i v lt is)) (told_more (take i visits) v a.items b.items a.kind b.kind);
+    kind = subst (λ vs. AreVisitsTold s orders nodes vs (a.items ++ b.items)) (sym (front_more visits i v lt is)) (told_more (take i visits) v a.items b.items a.kind (subst (λ (z : StepsView). IsVisitTold z orders nodes v b.items) same b.kind));
   }
 
   told_split : (xs ys : List Visit) (items : List Item) → AreVisitsTold s orders nodes (xs ++ ys) items → (front : List Item) × (back : List Item) × AreVisitsTold s orders nodes xs front × AreVisitsTold s orders nodes ys back × (items ≡ front ++ back)
@@ -87,7 +87,7 @@ module _ (s : StepsView) (orders : List ChainOrder) (nodes : List TreeNode) wher
         record {
           after = h.2.cycle;
           whole = h.4 ∙ (λ z. h.2.whole z ++ h.3 z) ∙ append-nil (decision_items decided ++ h.2.cycle);
-          cube = told.leaf i (length decided) decided n h.2.cycle lt (g.node, line.now, g.here, g.is) (round_cycle s.sessions s.orders decided line.now h.2.cycle h.2.leaf);
+          cube = told.leaf i (length decided) decided n line.now h.2.cycle lt g (round_cycle s.sessions s.orders decided line.now h.2.cycle h.2.leaf);
         }
     node_told (visited.split i n m k c first second one two g va vb) items h =
         let decided = decided_at orders nodes i in
@@ -101,7 +101,7 @@ module _ (s : StepsView) (orders : List ChainOrder) (nodes : List TreeNode) wher
         record {
           after = (item.Decided (L + 1) o ∷ a.0) ++ (item.Decided (L + 1) (turned o) ∷ b.0);
           whole = h.4 ∙ (λ z. h.2.whole z ++ h.1) ∙ (λ z. (decision_items decided ++ h.2.leaf z) ++ h.1) ∙ (λ z. append-nil (decision_items decided) z ++ h.1) ∙ ap (λ l. decision_items decided ++ l) (parts.4 ∙ (λ z. a.1 z ++ b.1 z));
-          cube = told.split i L decided n m k c first second o a.0 b.0 (g.node, g.here, g.is) refl order a.2 b.2;
+          cube = told.split i L decided n m k c first second o a.0 b.0 g refl order a.2 b.2;
         }
     node_told (visited.left_out i) items h =
         let decided = decided_at orders nodes i in
@@ -111,7 +111,43 @@ module _ (s : StepsView) (orders : List ChainOrder) (nodes : List TreeNode) wher
           cube = told.left_out i (length decided) decided;
         }
 
-    pub root_told : (k : ℕ) (vs : List Visit) (items : List Item) → IsVisited nodes 0 0 k vs → AreVisitsTold s orders nodes vs items → IsCubeTold s.sessions s.orders orders nodes 0 0 [] 0 k items
-    root_told k vs items v h =
-        let r = subst (λ ds. IsNodeTold ds 0 0 k items) (ap (map (order_at orders)) (root_cube p nodes t)) (node_told v items h) in
-        subst (λ (l : List Item). IsCubeTold s.sessions s.orders orders nodes 0 0 [] 0 k l) (sym r.whole) r.cube
+abbrev lines_of : List Visit → List (Bor (List ℕ))
+lines_of vs = filter_map (λ v. v.line) vs
+
+-- where the lines are covered, each visited node can be told
+all_ready : (s : StepsView) (nodes : List TreeNode) {i n k : ℕ} {vs : List Visit} → IsVisited nodes i n k vs → ((l : Bor (List ℕ)) → In l (lines_of vs) → IsCovered s l.now) → All (IsReady s nodes) vs
+all_ready s nodes (visited.leaf i n line lt g) c = All-cons (IsReady s nodes) (visit_of i (Some line)) [] (g, c line (inl refl)) (All-nil (IsReady s nodes))
+all_ready s nodes (visited.split i n m k d first second one two g a b) c =
+    let both : lines_of one ++ lines_of two ≡ lines_of (one ++ two) = sym (filter_map-append (λ (v : Visit). v.line) one two) in
+    All-cons (IsReady s nodes) (visit_of i None) (one ++ two) tt
+    (All-append (IsReady s nodes) one two (all_ready s nodes a (λ l j. c l (subst (In l) both (In-append_left l (lines_of one) (lines_of two) j)))) (all_ready s nodes b (λ l j. c l (subst (In l) both (In-append_right l (lines_of one) (lines_of two) j)))))
+all_ready s nodes (visited.left_out i) c = All-cons (IsReady s nodes) (visit_of i None) [] tt (All-nil (IsReady s nodes))
+
+pub visits_ready : (s : StepsView) (nodes : List TreeNode) (last : ℕ) (visits : List Visit) (lines : List (Bor (List ℕ))) → IsVisited nodes 0 0 last visits → lines ≡ filter_map (λ v. v.line) visits → All (λ l. IsCovered s l.now) lines → All (IsReady s nodes) visits
+visits_ready s nodes last visits lines v e a = all_ready s nodes v (λ l j. All-contains (λ l. IsCovered s l.now) lines l a (Contains-from_In lines l (subst (In l) (sym e) j)))
+
+-- what is told of the visits, behind the steps and how many leaves there are, is the tree told
+pub whole_told : (s : StepsView) (orders : List ChainOrder) (nodes : List TreeNode) (p : Polygraph) → IsRefutationTree p nodes → (visits : List Visit) (last : ℕ) → IsVisited nodes 0 0 last visits → (before mid items : List Item) → mid ≡ before ++ leaves_items (leaf_count nodes) → IsPut mid items (AreVisitsTold s orders nodes visits)
+    → (lines : List (Bor (List ℕ))) → lines ≡ filter_map (λ w. w.line) visits → AreStepsTold s.sessions s.orders before → ((k : ℕ) → k < length s.orders → IsNamed before k ⊎ IsNeededIn s.sessions s.orders lines k) → AreOrdersOf (log_of s.sessions) p.choices orders → IsTreeTold s.sessions p.choices nodes items
+whole_told s orders nodes p t visits last v before mid items mid_is put lines lines_are steps needed sides =
+    let whole : items ≡ before ++ (leaves_items (leaf_count nodes) ++ put.items) = put.appended ∙ ap (λ l. l ++ put.items) mid_is ∙ append_assoc before (leaves_items (leaf_count nodes)) put.items in
+    let told = node_told s orders nodes p t sides.each (orders_count (log_of s.sessions) p.choices orders sides) v put.items put.kind in
+    let root = subst (λ ds. IsNodeTold s orders nodes ds 0 0 last put.items) (ap (map (order_at orders)) (root_cube p nodes t)) told in
+    record {
+      steps = s.orders;
+      orders = orders;
+      before = before;
+      tree = put.items;
+      told = steps;
+      sides = sides;
+      last = last;
+      root = subst (λ (l : List Item). IsCubeTold s.sessions s.orders orders nodes 0 0 [] 0 last l) (sym root.whole) root.cube;
+      count = told_count nodes p t last visits v;
+      whole = whole;
+      needed = λ k lt. elim (needed k lt) [
+        | inl n ↦ named_among before items k (λ x c. subst (λ l. Contains l x) (sym whole) (Contains-append_left before (leaves_items (leaf_count nodes) ++ put.items) x c)) n
+        | inr n ↦
+            let own = line_named s orders nodes visits put.items put.kind lines k n (subst (In n.line) lines_are (In-from_Contains lines n.line n.among)) in
+            named_among put.items items k (λ x c. subst (λ l. Contains l x) (sym put.appended) (Contains-append_right mid put.items x c)) own
+      ];
+    }

@@ -1,6 +1,5 @@
 -- How a refutation tree is told, depth first.
-use Rattle.std.specs.Prelude.{◌≡◌, ℕ, ◌+◌, ◌<◌, nat_lt, if◌then◌else◌, List, [], ◌∷◌, ◌++◌}
-use Rattle.std.specs.Prelude.{Some, length, slice_get}
+use Rattle.std.specs.Prelude.{◌≡◌, ℕ, ◌+◌, ◌<◌, nat_lt, min, if◌then◌else◌, List, [], ◌∷◌, ◌++◌, length}
 use Rattle.session_log.specs.Text.{ClientSession}
 use Rattle.serializability.specs.Polygraph.{Choice}
 use Rattle.pruning_laws.specs.declared.side.Side.TheVariants.{One}
@@ -12,17 +11,8 @@ use Rattle.tell_steps.specs.Steps.{turned, IsOrder, AreStepsTold, IsCycleTold, I
 use Rattle.tell_steps.specs.declared.item.Item.{Item}
 use Rattle.tell_steps.specs.declared.item.Item.TheVariants as item
 use Rattle.tell_trees.specs.Orders.{AreOrdersOf, order_at}
-use Rattle.tell_trees.specs.Visits.{leaf_count}
+use Rattle.tell_trees.specs.Visits.{leaf_count, IsGrown}
 use Rattle.tell_trees.specs.declared.TheConstants.{MAX_LEAVES}
-
--- node v of a tree is a leaf; it decides choice c, and has these two children
-abbrev pub IsLeafAt : List TreeNode → ℕ → Type 0
-IsLeafAt nodes v = (x : TreeNode) × (line : List ℕ) × (slice_get nodes v ≡ Some x)
-    × (x.growth ≡ Leaf line)
-
-abbrev pub IsInnerAt : List TreeNode → ℕ → ℕ → ℕ → ℕ → Type 0
-IsInnerAt nodes v c first second = (x : TreeNode) × (slice_get nodes v ≡ Some x)
-    × (x.growth ≡ Inner c first second)
 
 -- The cube of node v of a tree, whose choices are between these orders of chains and their turned
 -- ones. In the cube these orders are decided, the newest first; it is told behind so many leaves, and
@@ -31,12 +21,12 @@ IsInnerAt nodes v c first second = (x : TreeNode) × (slice_get nodes v ≡ Some
 -- the greatest number of leaves.
 pub data IsCubeTold (ss : List ClientSession) (steps orders : List ChainOrder)
     (nodes : List TreeNode) : ℕ → ℕ → List ChainOrder → ℕ → ℕ → List Item → Type 0 where
-  leaf : (v depth : ℕ) (decided : List ChainOrder) (n : ℕ) (items : List Item) → n < MAX_LEAVES
-      → IsLeafAt nodes v → IsCycleTold ss steps decided items →
+  leaf : (v depth : ℕ) (decided : List ChainOrder) (n : ℕ) (line : List ℕ) (items : List Item)
+      → n < MAX_LEAVES → IsGrown nodes v (Leaf line) → IsCycleTold ss steps decided items →
       IsCubeTold ss steps orders nodes v depth decided n (n + 1) items
   split : (v depth : ℕ) (decided : List ChainOrder) (n m k c first second : ℕ) (o : ChainOrder)
       (one two : List Item)
-      → IsInnerAt nodes v c first second → o ≡ order_at orders (c, One) → IsOrder (log_of ss) o →
+      → IsGrown nodes v (Inner c first second) → o ≡ order_at orders (c, One) → IsOrder (log_of ss) o →
       IsCubeTold ss steps orders nodes first (depth + 1) (o ∷ decided) n m one
       → IsCubeTold ss steps orders nodes second (depth + 1) (turned o ∷ decided) m k two →
       IsCubeTold ss steps orders nodes v depth decided n k (item.Decided (depth + 1) o ∷ one
@@ -50,7 +40,7 @@ leaves_items count = if nat_lt 1 count then item.Leaves count ∷ [] else []
 
 -- of so many leaves so many are told: all of them, up to the greatest number
 abbrev pub told_leaves : ℕ → ℕ
-told_leaves count = if nat_lt MAX_LEAVES count then MAX_LEAVES else count
+told_leaves count = min MAX_LEAVES count
 
 -- of a tree with these nodes, over these choices: steps, each of which an edge of a cycle or of a later
 -- step's walk stands by; how many leaves it has, where it has more than one; and then the cube of its

@@ -6,12 +6,10 @@
 ghost use Rattle.std.specs.Prelude.{◌≡◌, ◌<◌, ◌++◌, length, IfOk, OnOk};
 ghost use Rattle.std.specs.List.{All};
 ghost use Rattle.tell_steps.specs.Told.{IsPut};
-ghost use Rattle.tell_trees.specs.Orders.{order_at};
-ghost use Rattle.tell_trees.specs.Searched.{IsSearched};
-ghost use Rattle.tell_trees.specs.Told.{decided_at, IsUp, IsReady, decision_items};
-ghost use Rattle.tell_trees.specs.Told.{IsVisitTold, AreVisitsTold};
+ghost use Rattle.tell_trees.specs.Orders.{order_at, IsSearched};
+ghost use Rattle.tell_trees.specs.Visits.{decided_at, IsUp, IsReady, decision_items};
 ghost use Rattle.tell_trees.specs.Trees.{leaves_items};
-ghost use Rattle.tell_trees.specs.Visits.{IsTreeOver};
+ghost use Rattle.tell_trees.specs.Visits.{IsTreeOver, IsVisitTold, AreVisitsTold};
 
 use crate::visits::Visit;
 use cube_laws::{CubeDecision, TreeNode};
@@ -47,6 +45,7 @@ fn order_of(orders: &[ChainOrder], decision: CubeDecision) -> ChainOrder
 }
 
 /// The order that a node decides beyond its parent's cube, and its parent.
+#[tactic(auto, using(crate::proofs::Cubes::up_past, crate::proofs::Cubes::up_top, list_lemmas::proofs::Elements::looked_up, std::proofs::lemmas::Option::slice_get_past))]
 fn order_above(
     orders: &[ChainOrder],
     nodes: &[TreeNode],

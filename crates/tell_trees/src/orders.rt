@@ -1,9 +1,9 @@
 //! The orders of chains that a search decides.
 
-ghost use Rattle.std.specs.Prelude.{◌≡◌, length, IfOk};
+ghost use Rattle.std.specs.Prelude.{◌≡◌, IfOk};
 ghost use Rattle.log_definitions.specs.Numbers.{log_of};
 ghost use Rattle.reduction.specs.Outcome.{IsOpenHistory};
-ghost use Rattle.tell_trees.specs.Orders.{AreOrdersOf, AreFlags, unsettled_from};
+ghost use Rattle.tell_trees.specs.Orders.{AreOrdersOf, unsettled_from};
 
 use prune_ledger::{LedgerEntry, Reduced};
 use std::alloc::{AllocError, Global};
@@ -22,37 +22,28 @@ pub fn open_orders(
         AreOrdersOf (log_of chains.now) reduced.now.poly.choices orders.items) }
 {
     let orders = choice_orders(alloc, chains)?;
-    let flags = settled(alloc, orders.len(), &reduced.ledger().entries)?;
-    unsettled(alloc, &orders, &flags)
+    unsettled(alloc, &orders, &reduced.ledger().entries)
 }
 
-/// Of each of so many choices whether an entry speaks of it.
-fn settled(alloc: Global, choices: usize, entries: &[LedgerEntry]) -> Result<Vec<bool>, AllocError>
-    ensures flags { IfOk result (λ flags. AreFlags choices entries.now flags.items) }
-{
-    let mut flags = vec![in alloc; false; choices]?;
-    for entry in entries {
-        let choice = entry.post.choice.get();
-        if choice < flags.len() {
-            flags[choice] = true;
-        }
-    }
-    Ok(flags)
-}
-
-/// The orders whose flags are not set.
+/// The orders of the choices that no entry speaks of.
 fn unsettled(
     alloc: Global,
     orders: &[ChainOrder],
-    flags: &[bool],
+    entries: &[LedgerEntry],
 ) -> Result<Vec<ChainOrder>, AllocError>
-    requires same { length flags.now ≡ length orders.now }
-    ensures orders { IfOk result (λ left. left.items ≡ unsettled_from flags.now 0 orders.now) }
+    ensures orders { IfOk result (λ left. left.items ≡ unsettled_from entries.now 0 orders.now) }
 {
-    let count = flags.iter().filter(|flag| !**flag).count();
+    let mut settled = vec![in alloc; false; orders.len()]?;
+    for entry in entries {
+        let choice = entry.post.choice.get();
+        if choice < settled.len() {
+            settled[choice] = true;
+        }
+    }
+    let count = settled.iter().filter(|settled| !**settled).count();
     let mut left = Vec::with_capacity(alloc, count)?;
     for (choice, order) in orders.iter().enumerate() {
-        if !flags[choice] {
+        if !settled[choice] {
             left.push(*order)?;
         }
     }

@@ -1,8 +1,8 @@
 //! The nodes of a tree, depth first.
 
-ghost use Rattle.std.specs.Prelude.{◌≡◌, ℕ, is_some, IfOk};
+ghost use Rattle.std.specs.Prelude.{◌≡◌, ℕ, IfOk};
 ghost use Rattle.std.specs.List.{filter_map};
-ghost use Rattle.tell_trees.specs.Visits.{IsTree, IsVisited, cycle_in, leaf_count};
+ghost use Rattle.tell_trees.specs.Visits.{IsTreeOver, IsVisited, leaf_count};
 
 use crate::MAX_LEAVES;
 use cube_laws::{Growth, TreeNode};
@@ -19,7 +19,7 @@ pub struct Visit<'a> {
 /// The nodes of a tree, depth first, with the first children before the second ones. Behind the
 /// last leaf that is told they have no children.
 pub fn visits<'a>(alloc: Global, nodes: &'a [TreeNode]) -> Result<Vec<Visit<'a>>, AllocError>
-    requires tree { IsTree nodes.now }
+    requires tree { (choices : ℕ) × IsTreeOver choices nodes.now }
     ensures visited { IfOk result (λ visits. (last : ℕ)
         × IsVisited nodes.now 0 0 last visits.items) }
 {
@@ -51,13 +51,10 @@ pub fn visits<'a>(alloc: Global, nodes: &'a [TreeNode]) -> Result<Vec<Visit<'a>>
 pub fn count_leaves(nodes: &[TreeNode]) -> usize
     ensures count { result ≡ leaf_count nodes.now }
 {
-    nodes.iter().filter(|node| is_leaf(&node.growth)).count()
-}
-
-fn is_leaf(growth: &Growth) -> bool
-    ensures { result ≡ is_some (cycle_in growth.now) }
-{
-    matches!(growth, Growth::Leaf(_))
+    nodes
+        .iter()
+        .filter(|node| matches!(&node.growth, Growth::Leaf(_)))
+        .count()
 }
 
 /// The cycles of the leaves that are told.

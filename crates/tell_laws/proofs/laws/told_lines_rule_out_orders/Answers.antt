@@ -1,6 +1,13 @@
-use Rattle.tell_laws.proofs.Told.{steps_stand, no_cycle, no_order_where_dead, no_order_where_tree}
-use Rattle.tell_laws.proofs.Counts.{cycles_are_leaves}
+use Rattle.std.proofs.Common.{[]}
+use Rattle.tell_steps.specs.Steps as told
+use Rattle.tell_laws.proofs.Told.{cycles_are_leaves, steps_stand, cycle_refuted, dead_refuted, tree_refuted}
 use Rattle.tell_laws.proofs.laws.told_lines_rule_out_orders.Goals as goal
 
 pub returns : goal.returns
-returns c = record { steps = steps_stand; cycle = no_cycle; dead = no_order_where_dead; tree = no_order_where_tree; counted = cycles_are_leaves }
+returns c = record {
+  steps = steps_stand;
+  cycle = λ ss well start inner items line order is. cycle_refuted ss order well is [] [] tt tt _ (told.closes start inner items line);
+  dead = λ ss well items t order is. dead_refuted ss order well is items t;
+  tree = λ ss well choices nodes items t less order is. tree_refuted ss order well is choices nodes items t less;
+  counted = cycles_are_leaves;
+}

@@ -1,5 +1,5 @@
 use Rattle.std.proofs.Common.{◌≡◌, ◌++◌}
-use Rattle.tell_trees.specs.Told.{decided_at}
+use Rattle.tell_trees.specs.Visits.{decided_at}
 use Rattle.tell_trees.proofs.items.decided_orders.Given as goal
 
 abbrev pub invariant-loop-order : goal.invariant-loop-order

@@ -1,4 +1,4 @@
-use Rattle.tell_trees.proofs.Edges.{are_orders, visit_line}
+use Rattle.tell_trees.proofs.Cubes.{are_orders, visit_line}
 use Rattle.tell_trees.proofs.items.put_visit.Goals as goal
 
 pub put_cycle-requires-clause-line : goal.put_cycle-requires-clause-line

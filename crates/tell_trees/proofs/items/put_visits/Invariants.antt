@@ -1,6 +1,6 @@
 use Rattle.std.proofs.Common.{◌≡◌, take}
 use Rattle.tell_steps.specs.Told.{IsPut}
-use Rattle.tell_trees.specs.Told.{AreVisitsTold}
+use Rattle.tell_trees.specs.Visits.{AreVisitsTold}
 use Rattle.tell_trees.proofs.items.put_visits.Given as goal
 
 abbrev pub invariant-loop-visit : goal.invariant-loop-visit

@@ -1,4 +1,4 @@
-use Rattle.tell_trees.proofs.Walk.{IsUnderway, load}
+use Rattle.tell_trees.proofs.Counted.{IsUnderway, load}
 use Rattle.tell_trees.proofs.visits.visits.Given as goal
 
 abbrev pub invariant-loop-node : goal.invariant-loop-node

@@ -1,0 +1,241 @@
+-- The orders that a ledger leaves open and that the cubes of a tree's nodes decide, and what the edges of a leaf's cycle rest on.
+use Rattle.std.proofs.Common.{◌≡◌, ℕ, ◌+◌, Bool, true, false, cond, eqb, ◌&&◌, ◌||◌, List, [], ◌∷◌, map, refl, sym, ap, ◌∙◌, subst, ◌⊎◌, zero, suc, ◌<◌, ◌++◌, length, Option, Some, None, inl, inr, arith, Bor}
+use Rattle.std.proofs.Math.Bool.{or_assoc, or_comm, or-false}
+use Rattle.std.specs.List.{All, list_any, Contains}
+use Rattle.std.proofs.lemmas.List.Elements.{All-nil, All-cons, All-head, All-tail, All-contains, Contains-append_left, Contains-append_right, Contains-append_cases}
+use Rattle.list_lemmas.proofs.Bools.{either_way}
+use Rattle.session_log.specs.Text.{ClientSession}
+use Rattle.serializability.specs.Log.{Log}
+use Rattle.serializability.specs.Polygraph.{Choice, Edge, Polygraph}
+use Rattle.pruning_laws.specs.declared.side.Side.TheVariants.{One, Two}
+use Rattle.pruning_laws.specs.Forced.{open_from, edges_of, kept_from}
+use Rattle.pruning_laws.specs.Ledger.{Entry, same_side, sides_in}
+use Rattle.prune_ledger.specs.Ledger.{kept_side, kept_after, side_of, edges_after}
+use Rattle.prune_ledger.specs.Pruned.{kept_by, posts_in, Remainder}
+use Rattle.prune_ledger.specs.declared.ledger.LedgerEntry.{LedgerEntry}
+use Rattle.chain_laws.specs.Chains.{chain_choices, chain_polygraph}
+use Rattle.log_definitions.specs.Numbers.{log_of}
+use Rattle.reduction.specs.Outcome.{IsOpenHistory}
+use Rattle.cube_machine.proofs.Flags.{some_side}
+use Rattle.tell_reasons.specs.declared.why.ChainOrder.{ChainOrder}
+use Rattle.tell_steps.specs.Orders.{choice_of}
+use Rattle.tell_steps.specs.Steps.{IsOrder, edges_in}
+use Rattle.tell_trees.specs.Orders.{AreOrdersOf, names_choice, unsettled_from, no_order, sided, order_at, IsSearched}
+use Rattle.std.specs.Prelude.{slice_get, slice_index, slice_index_or, IfSome}
+use Rattle.std.proofs.lemmas.List.{length-append}
+use Rattle.std.proofs.lemmas.Option.{same_Some, get_or_from_slice_get}
+use Rattle.list_lemmas.proofs.Elements.{same_item, behind}
+use Rattle.reach_laws.specs.Reach.{Walk}
+use Rattle.pruning_laws.specs.declared.side.Side.{Side}
+use Rattle.known_graph.proofs.Listed.{In, In-from_Contains, Contains-from_In}
+use Rattle.known_graph.proofs.Tested.{walk_of}
+use Rattle.prune_ledger.proofs.Sides.{side_is, choice_of_edge, kept_cases, no_kept}
+use Rattle.cube_laws.specs.Cubes.{Cube}
+use Rattle.cube_laws.specs.declared.tree.CubeDecision.{CubeDecision}
+use Rattle.cube_laws.specs.declared.tree.Growth.TheVariants.{Leaf}
+use Rattle.cube_laws.specs.declared.tree.TreeNode.{TreeNode}
+use Rattle.cube_laws.specs.Trees.{cube_below, cube_of, IsChild, IsRefutationTree}
+use Rattle.cube_laws.proofs.Lists.{some_map, map_length}
+use Rattle.cube_laws.proofs.Upward.{cube_under, cube_top, cube_past}
+use Rattle.tell_steps.specs.View.{StepsView}
+use Rattle.tell_steps.specs.Lines.{IsBetween, IsLineOfNodes, IsOfLedger, OneHas, IsCovered, HasEdges, IsRound}
+use Rattle.tell_steps.proofs.Chosen.{turned_order}
+use Rattle.tell_steps.proofs.Ledgers.{order_leads}
+use Rattle.tell_steps.proofs.Covering.{ledger_leads, round_nodes}
+use Rattle.tell_trees.specs.Visits.{IsTreeOver, IsGrown, decided_at, IsUp, IsReady}
+use Rattle.tell_trees.specs.declared.visits.Visit.{Visit}
+
+-- ---- a side is kept where an entry speaks of its choice
+abbrev named_in : List Entry → ℕ → Bool
+named_in entries c = list_any (λ e. eqb e.0 c) entries
+
+kept_named : (kept : List Entry) (c : ℕ) → (sides_in kept c One || sides_in kept c Two) ≡ named_in kept c
+kept_named [] c = refl
+kept_named (e ∷ kept) c =
+    either_way (eqb e.0 c && same_side e.1 One) (sides_in kept c One) (eqb e.0 c && same_side e.1 Two) (sides_in kept c Two)
+    ∙ (λ i. some_side (eqb e.0 c) e.1 i || kept_named kept c i)
+
+named_after : (kept : List Entry) (entries : List LedgerEntry) (c : ℕ) → named_in (kept_after kept (posts_in entries)) c ≡ (names_choice entries c || named_in kept c)
+named_after kept [] c = refl
+named_after kept (x ∷ xs) c =
+    named_after (kept_side x.post ∷ kept) xs c
+    ∙ sym (or_assoc (names_choice xs c) (eqb x.post.choice c) (named_in kept c))
+    ∙ ap (λ b. b || named_in kept c) (or_comm (names_choice xs c) (eqb x.post.choice c))
+
+settled_is : (entries : List LedgerEntry) (c : ℕ) → (sides_in (kept_by entries) c One || sides_in (kept_by entries) c Two) ≡ names_choice entries c
+settled_is entries c = kept_named (kept_by entries) c ∙ named_after [] entries c ∙ or-false (names_choice entries c)
+
+-- ---- the orders that are left
+left_or : (log : Log) (b : Bool) (o : ChainOrder) (xs : List ChainOrder) (ys : List Choice) → IsOrder log o → AreOrdersOf log ys xs → AreOrdersOf log (cond b ys (choice_of log o ∷ ys)) (cond b xs (o ∷ xs))
+left_or log true o xs ys h a = a
+left_or log false o xs ys h a = record { sides = ap (λ l. choice_of log o ∷ l) a.sides; each = All-cons (IsOrder log) o xs h a.each }
+
+left_from : (log : Log) (entries : List LedgerEntry) (c : ℕ) (os : List ChainOrder) → All (IsOrder log) os → AreOrdersOf log (open_from (sides_in (kept_by entries)) c (map (choice_of log) os)) (unsettled_from entries c os)
+left_from log entries c [] a = record { sides = refl; each = All-nil (IsOrder log) }
+left_from log entries c (o ∷ os) a =
+    let xs = unsettled_from entries (c + 1) os in
+    let ys = open_from (sides_in (kept_by entries)) (c + 1) (map (choice_of log) os) in
+    subst (λ b. AreOrdersOf log (cond b ys (choice_of log o ∷ ys)) (cond (names_choice entries c) xs (o ∷ xs))) (sym (settled_is entries c))
+    (left_or log (names_choice entries c) o xs ys (All-head (IsOrder log) o os a) (left_from log entries (c + 1) os (All-tail (IsOrder log) o os a)))
+
+pub left_open : (ss : List ClientSession) (r : Remainder) → IsOpenHistory ss r → (entries : List LedgerEntry) → entries ≡ r.ledger.entries.items → (orders left : List ChainOrder) → map (choice_of (log_of ss)) orders ≡ chain_choices (log_of ss) → All (IsOrder (log_of ss)) orders
+    → left ≡ unsettled_from entries 0 orders → AreOrdersOf (log_of ss) r.poly.choices left
+left_open ss r h entries entries_are orders left same each is =
+    let log = log_of ss in
+    let choices = same ∙ sym h.unpruned.chained.choices in
+    let left_is : open_from (sides_in (kept_by entries)) 0 (map (choice_of log) orders) ≡ r.poly.choices = (λ z. open_from (sides_in (kept_by (entries_are z))) 0 (choices z)) ∙ sym h.left.choices in
+    subst (λ hs. AreOrdersOf log hs left) left_is (subst (AreOrdersOf log (open_from (sides_in (kept_by entries)) 0 (map (choice_of log) orders))) (sym is) (left_from log entries 0 orders each))
+
+-- ---- cubes
+-- a node that decides a choice beyond its parent's cube
+pub record IsMade (choices : ℕ) (nodes : List TreeNode) (i : ℕ) (x : TreeNode) : Type 0 where
+  pub before : x.parent < i
+  pub made : CubeDecision
+  pub is : x.decision ≡ Some made
+  pub among : made.choice < choices
+  pub cube : cube_of nodes i ≡ (made.choice, made.side) ∷ cube_of nodes x.parent
+
+module _ (p : Polygraph) (nodes : List TreeNode) (t : IsRefutationTree p nodes) where
+  pub root_cube : cube_of nodes 0 ≡ []
+  root_cube = let r = t.root in let decision = r.decision in cube_top nodes 0 r.node r.here (omega arith) ∙ ap (cube_below []) decision
+
+  pub child_cube : (i c : ℕ) (side : Side) (j : ℕ) (k : IsChild nodes i c side j) → cube_of nodes j ≡ (c, side) ∷ cube_of nodes i
+  child_cube i c side j k =
+      let parent = k.parent in let decision = k.decision in let later = k.later in
+      cube_under nodes j k.node k.here (omega (arith, parent, later)) ∙ (λ h. cube_below (cube_of nodes (parent h)) (decision h))
+
+  -- the first node decides nothing, and each other one a choice beyond its parent's cube
+  pub made_at : (i : ℕ) (x : TreeNode) → slice_get nodes i ≡ Some x → ((x.decision ≡ None) × (cube_of nodes i ≡ [])) ⊎ IsMade (length p.choices) nodes i x
+  made_at zero x at = inl (ap (λ (z : TreeNode). z.decision) (same_item nodes 0 x t.root.node at t.root.here) ∙ t.root.decision, root_cube)
+  made_at (suc i) x at =
+      let b = t.below (suc i) x (omega arith) at in
+      let s = t.inner x.parent b.parent b.choice b.first b.second b.here b.split in
+      let made : (side : Side) → IsChild nodes x.parent b.choice side (suc i) → IsMade (length p.choices) nodes (suc i) x = λ side k. record {
+        before = b.before;
+        made = record { choice = b.choice; side = side };
+        is = ap (λ (z : TreeNode). z.decision) (same_item nodes (suc i) x k.node at k.here) ∙ k.decision;
+        among = s.choice;
+        cube = child_cube x.parent b.choice side (suc i) k;
+      } in
+      inr (elim (s.only (suc i) x (omega arith) at refl) [
+        | inl e ↦ made One (subst (IsChild nodes x.parent b.choice One) (sym e) s.one)
+        | inr e ↦ made Two (subst (IsChild nodes x.parent b.choice Two) (sym e) s.two)
+      ])
+
+  -- a cube decides choices of the polygraph alone
+  module _ (P : List Entry → Type 0) (none : P []) (more : (d : Entry) (ds : List Entry) → d.0 < length p.choices → P ds → P (d ∷ ds)) where
+    within : (n i : ℕ) (o : Option TreeNode) → i < n → slice_get nodes i ≡ o → P (cube_of nodes i)
+    within zero i o lt at = absurd (omega (arith, lt))
+    within (suc n) i None lt at = subst P (sym (cube_past nodes i at)) none
+    within (suc n) i (Some x) lt at = elim (made_at i x at) [
+      | inl root ↦ subst P (sym root.1) none
+      | inr m ↦ let before = m.before in subst P (sym m.cube) (more (m.made.choice, m.made.side) (cube_of nodes x.parent) m.among (within n x.parent (slice_get nodes x.parent) (omega (arith, lt, before)) refl))
+    ]
+
+-- ---- the way up
+module _ (orders : List ChainOrder) (nodes : List TreeNode) (t : IsTreeOver (length orders) nodes) (i : ℕ) where
+  pub up_past : slice_get nodes i ≡ None → IsUp orders nodes i None
+  up_past at = ap (map (order_at orders)) (cube_past nodes i at)
+
+  pub up_top : (x : TreeNode) → slice_get nodes i ≡ Some x → x.decision ≡ None → IsUp orders nodes i None
+  up_top x at none = elim (made_at t.poly nodes t.shown i x at) [
+    | inl root ↦ ap (map (order_at orders)) root.1
+    | inr m ↦ absurd (let is = m.is in cc)
+  ]
+
+  pub up_made : (x : TreeNode) (d : CubeDecision) → slice_get nodes i ≡ Some x → x.decision ≡ Some d → (d.choice < length orders) × ((o : ChainOrder) → o ≡ order_at orders (d.choice, d.side) → IsUp orders nodes i (Some (o, x.parent)))
+  up_made x d at is = elim (made_at t.poly nodes t.shown i x at) [
+    | inl root ↦ absurd (let none = root.0 in cc)
+    | inr m ↦
+        let same : m.made ≡ d = same_Some m.made d (sym m.is ∙ is) in
+        let among : d.choice < length t.poly.choices = subst (λ (z : CubeDecision). z.choice < length t.poly.choices) same m.among in
+        (omega (arith, among, t.count), λ o e. (m.before, ap (map (order_at orders)) (m.cube ∙ ap (λ (z : CubeDecision). (z.choice, z.side) ∷ cube_of nodes x.parent) same) ∙ ap (λ z. z ∷ decided_at orders nodes x.parent) (sym e)))
+  ]
+
+-- ---- the steps of a walk
+no_more : (x : ℕ) (front back : List ℕ) (a b : ℕ) → x ∷ [] ≡ front ++ a ∷ b ∷ back → ⊥
+no_more x front back a b e = omega (arith, ap length e, length-append front (a ∷ b ∷ back))
+
+walk_step : (edges : List Edge) (u v : ℕ) (inner front back : List ℕ) (a b : ℕ) → Walk edges u inner v → u ∷ (inner ++ v ∷ []) ≡ front ++ a ∷ b ∷ back → Contains edges (a, b)
+walk_step edges u v [] [] back a b w e = let one : u ≡ a = cc in let two : v ≡ b = cc in rw (sym one, sym two) w
+walk_step edges u v [] (y ∷ front) back a b w e = absurd (no_more v front back a b (cc))
+walk_step edges u v (x ∷ inner) [] back a b w e = let one : u ≡ a = cc in let two : x ≡ b = cc in rw (sym one, sym two) w.0
+walk_step edges u v (x ∷ inner) (y ∷ front) back a b w e = walk_step edges x v inner front back a b w.1 (cc)
+
+-- ---- the sides of a cube
+edges_sided : (log : Log) (o : ChainOrder) (s : Side) → edges_of (choice_of log o) s ≡ edges_in log (sided s o)
+edges_sided log o One = refl
+edges_sided log o Two = refl
+
+sided_order : (log : Log) (o : ChainOrder) (side : Side) → IsOrder log o → IsOrder log (sided side o)
+sided_order log o One h = h
+sided_order log o Two h = turned_order log o h
+
+pub orders_count : (log : Log) (choices : List Choice) (orders : List ChainOrder) → AreOrdersOf log choices orders → length orders ≡ length choices
+orders_count log choices orders h = sym (map_length (choice_of log) orders) ∙ ap length h.sides
+
+-- ---- a leaf's cycle
+module _ (s : StepsView) (orders : List ChainOrder) (nodes : List TreeNode) (h : IsSearched s.sessions s.entries orders nodes) where
+  abbrev log : Log
+  log = log_of s.sessions
+
+  abbrev p : Polygraph
+  p = h.reduced.poly
+
+  side_has : (d : Entry) (e : Edge) → In e (side_of p.choices d.0 d.1) → Contains (edges_in log (order_at orders d)) e
+  side_has d e i =
+      let g = choice_of_edge p.choices d.0 d.1 e i in
+      let r = some_map (choice_of log) orders d.0 g.choice (ap (λ (cs : List Choice). slice_get cs d.0) h.sides.sides ∙ g.at) in
+      let same : side_of p.choices d.0 d.1 ≡ edges_in log (order_at orders d) =
+      side_is p.choices d.0 g.choice d.1 g.at ∙ ap (λ (z : Choice). edges_of z d.1) (sym r.2) ∙ edges_sided log r.0 d.1 ∙ ap (λ (z : ChainOrder). edges_in log (sided d.1 z)) (sym (get_or_from_slice_get orders d.0 r.0 no_order r.1)) in
+      Contains-from_In (edges_in log (order_at orders d)) e (subst (In e) same i)
+
+  -- what is known of the polygraph is known of the chains, or an entry of the ledger keeps it
+  known_kept : (e : Edge) → Contains p.known e → IsOfLedger s e
+  known_kept e c =
+      let made = h.left.unpruned.chained in
+      let kept : List Choice → List Edge = kept_from (sides_in (kept_by h.reduced.ledger.entries.items)) 0 in
+      subst (λ entries. Contains (edges_after (chain_polygraph log) (kept_by entries)) e) (sym h.entries_are)
+      (subst (λ (cs : List Choice). Contains ((chain_polygraph log).known ++ kept cs) e) made.choices (elim (Contains-append_cases h.left.poly.known (kept h.left.poly.choices) e ((h.left.left.known e).0 c)) [
+        | inl a ↦ Contains-append_left (chain_polygraph log).known (kept h.left.poly.choices) e ((made.known e).0 a)
+        | inr b ↦ Contains-append_right (chain_polygraph log).known (kept h.left.poly.choices) e b
+      ]))
+
+  cube_edge : (cube : Cube) (e : Edge) → In e (edges_after p cube) → IsOfLedger s e ⊎ OneHas s.sessions (map (order_at orders) cube) e
+  cube_edge [] e i = inl (known_kept e (Contains-from_In p.known e (no_kept p e i)))
+  cube_edge (d ∷ cube) e i = elim (kept_cases p cube d e i) [
+    | inl a ↦ elim (cube_edge cube e a) [
+      | inl k ↦ inl k
+      | inr o ↦ inr (record { order = o.order; among = behind (order_at orders d) (map (order_at orders) cube) o.order o.among; has = o.has })
+    ]
+    | inr b ↦ inr (record { order = order_at orders d; among = (0, omega arith, refl); has = side_has d e b })
+  ]
+
+  module _ (i : ℕ) where
+    pub are_orders : All (IsOrder log) (decided_at orders nodes i)
+    are_orders =
+        within p nodes h.shown (λ ds. All (IsOrder log) (map (order_at orders) ds)) (All-nil (IsOrder log))
+        (λ d ds lt rest. All-cons (IsOrder log) (order_at orders d) (map (order_at orders) ds) (sided_order log (slice_index_or orders d.0 no_order) d.1 (h.sides.each d.0 no_order (omega (arith, lt, orders_count log p.choices orders h.sides)))) rest)
+        (suc i) i (slice_get nodes i) (omega arith) refl
+
+    edge_rests : (e : Edge) → Contains (edges_after p (cube_of nodes i)) e → IsOfLedger s e ⊎ OneHas s.sessions (decided_at orders nodes i) e
+    edge_rests e c = cube_edge (cube_of nodes i) e (In-from_Contains (edges_after p (cube_of nodes i)) e c)
+
+    edge_leads : (e : Edge) → Contains (edges_after p (cube_of nodes i)) e → IsBetween s.sessions e.1
+    edge_leads e c = elim (edge_rests e c) [
+      | inl k ↦ ledger_leads s.sessions s.entries h.clean e k
+      | inr o ↦ order_leads s.sessions o.order (All-contains (IsOrder log) (decided_at orders nodes i) o.order are_orders o.among) e o.has
+    ]
+
+    pub leaf_line : (line : List ℕ) → IsGrown nodes i (Leaf line) → IsLineOfNodes s.sessions line × HasEdges s (decided_at orders nodes i) line × IsRound line
+    leaf_line line g =
+        let start = slice_index line 0 in
+        let edges = edges_after p (cube_of nodes i) in
+        let w = walk_of edges line start start (h.shown.leaves i g.node line g.here g.is) in (
+          round_nodes s.sessions edges edge_leads start w.inner line w.shape w.steps,
+          record { each = λ e step. edge_rests e (walk_step edges start start w.inner step.front step.back e.0 e.1 w.steps (sym w.shape ∙ step.shape)) },
+          record { start = start; ends = record { inner = w.inner; shape = w.shape } },
+        )
+
+  pub visit_line : (v : Visit) (line : Bor (List ℕ)) → v.line ≡ Some line → IsReady s nodes v → IsLineOfNodes s.sessions line.now × HasEdges s (decided_at orders nodes v.node) line.now × IsRound line.now
+  visit_line v line e r = leaf_line v.node line.now (subst (λ (o : Option (Bor (List ℕ))). IfSome o (λ l. IsGrown nodes v.node (Leaf l.now) × IsCovered s l.now)) e r).0
