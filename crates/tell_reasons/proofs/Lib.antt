@@ -3,7 +3,4 @@ pub mod Ops
 pub mod Rows
 pub mod Texts
 pub mod Found
-pub mod Written
-pub mod Told
 pub mod Updates
-pub mod Reported

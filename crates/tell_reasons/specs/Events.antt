@@ -21,5 +21,5 @@ is_other_in x w (Read key wid) = (x == key) && not (wid == w)
 is_other_in x w (Write key wid) = false
 
 -- the place of the last operation that passes
-abbrev pub last_position : {X : Type 0} → (X → Bool) → List X → Option ℕ
+unfoldable pub last_position : {X : Type 0} → (X → Bool) → List X → Option ℕ
 last_position passes xs = option_map (λ back. length xs - (back + 1)) (position passes (reverse xs))

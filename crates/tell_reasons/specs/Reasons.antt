@@ -5,15 +5,14 @@ use Rattle.std.specs.Prelude.{codes, decimal, slice_get, unwrap_or, Option, None
 use Rattle.session_log.specs.Text.{ClientSession}
 use Rattle.session_log.specs.declared.session.Op.{Op}
 use Rattle.session_log.specs.declared.session.Op.TheVariants.{Read, Write}
-use Rattle.serializability.specs.declared.event.Event.{Event}
-use Rattle.serializability.specs.declared.event.Event.TheVariants as event
-use Rattle.serializability.specs.Events.{event_key, event_wid}
 use Rattle.log_definitions.specs.WellFormed.{keys_in}
 use Rattle.log_definitions.specs.Serial.{ops_of}
 use Rattle.session_history.specs.Tables.{name_in}
 use Rattle.order_text.specs.Text.{name_text}
 use Rattle.log_lines.specs.Placed.{place_in, op_line_in, end_line_in}
 use Rattle.log_lines.specs.declared.placed.PlacedHistory.{PlacedHistory}
+use Rattle.tell_reasons.specs.declared.phrases.Access.{Access}
+use Rattle.tell_reasons.specs.declared.phrases.Access.TheVariants as access
 
 -- a node's name, as messages have it
 abbrev pub named : PlacedHistory → ℕ → List ℕ
@@ -38,38 +37,33 @@ abbrev pub key_bytes : List ClientSession → ℕ → List ℕ
 key_bytes ss x = unwrap_or (slice_get (keys_in ss) x) []
 
 -- an operation's key and identity, with a space between; its key; its identity
-abbrev pub key_and_wid : Option Op → List ℕ
+unfoldable pub key_and_wid : Option Op → List ℕ
 key_and_wid None = []
 key_and_wid (Some (Read key wid)) = key ++ 32 ∷ decimal wid
 key_and_wid (Some (Write key wid)) = key ++ 32 ∷ decimal wid
 
 -- an operation as its line has it: `r x 7`
-abbrev pub listed_text : Option Op → List ℕ
+unfoldable pub listed_text : Option Op → List ℕ
 listed_text None = []
-listed_text (Some (Read key wid)) = codes "r " ++ key_and_wid (Some (Read key wid))
-listed_text (Some (Write key wid)) = codes "w " ++ key_and_wid (Some (Write key wid))
+listed_text (Some (Read key wid)) = codes "r " ++ (key ++ 32 ∷ decimal wid)
+listed_text (Some (Write key wid)) = codes "w " ++ (key ++ 32 ∷ decimal wid)
 
--- an event's key and identity, with a space between
-abbrev pub event_text : List ClientSession → Event → List ℕ
-event_text ss e = key_bytes ss (event_key e) ++ 32 ∷ decimal (event_wid e)
+abbrev pub view_access : Access → Op
+view_access (access.Read key wid) = Read key.now wid
+view_access (access.Write key wid) = Write key.now wid
 
--- the letter with which the line of an operation begins
-abbrev pub letter_text : Event → List ℕ
-letter_text (event.Read key wid) = codes "r "
-letter_text (event.Write key wid) = codes "w "
-
-abbrev pub key_text : Option Op → List ℕ
+unfoldable pub key_text : Option Op → List ℕ
 key_text None = []
 key_text (Some (Read key wid)) = key
 key_text (Some (Write key wid)) = key
 
-abbrev pub wid_text : Option Op → List ℕ
+unfoldable pub wid_text : Option Op → List ℕ
 wid_text None = []
 wid_text (Some (Read key wid)) = decimal wid
 wid_text (Some (Write key wid)) = decimal wid
 
 -- the identity that an operation names
-abbrev pub op_wid : Option Op → ℕ
+unfoldable pub op_wid : Option Op → ℕ
 op_wid None = 0
 op_wid (Some (Read key wid)) = wid
 op_wid (Some (Write key wid)) = wid

@@ -4,8 +4,8 @@ ghost use Rattle.std.specs.Prelude.{◌≡◌, ◌++◌, OnOk};
 ghost use Rattle.tell_reasons.specs.Words.{word_text, words_text};
 
 use crate::phrases::{
-    key_at, key_bytes, put_base, put_does, put_in_line, put_key_and_wid, put_listed, put_named,
-    put_number, put_op_in_line, put_place, put_text, put_wid,
+    key_bytes, key_in, op_of, put_base, put_does, put_in_line, put_listed, put_named, put_number,
+    put_op, put_op_in_line, put_place, put_text, put_wid,
 };
 use log_lines::PlacedHistory;
 use serializability::NodeIx;
@@ -59,10 +59,10 @@ fn put_word(out: &mut Vec<u8>, log: &PlacedHistory<'_>, word: &Word<'_>) -> Resu
         Word::Name(session, place) => put_place(out, *session, *place),
         Word::Node(node) => put_named(out, log, *node),
         Word::Key(key) => put_text(out, key_bytes(log.history, *key)),
-        Word::KeyOf(node, op) => put_text(out, key_at(log.history, *node, *op)),
-        Word::Operation(node, op) => put_key_and_wid(out, log.history, *node, *op),
-        Word::Listed(node, op) => put_listed(out, log.history, *node, *op),
-        Word::Identity(node, op) => put_wid(out, log.history, *node, *op),
+        Word::KeyOf(node, op) => put_text(out, key_in(op_of(log.history, *node, *op))),
+        Word::Operation(node, op) => put_op(out, op_of(log.history, *node, *op)),
+        Word::Listed(node, op) => put_listed(out, op_of(log.history, *node, *op)),
+        Word::Identity(node, op) => put_wid(out, op_of(log.history, *node, *op)),
         Word::AtLine(node, op) => put_op_in_line(out, log, *node, *op),
         Word::Does(node, does, op) => put_does(out, log, *node, does, *op),
         Word::Base(base) => put_base(out, *base),
