@@ -1,5 +1,5 @@
 -- Where an operation of a log stands.
-use Rattle.std.specs.Prelude.{◌≡◌, ℕ, ◌==◌, ◌&&◌, Bool, true, false, List, [], ◌∷◌, ◌++◌, take}
+use Rattle.std.specs.Prelude.{◌≡◌, ℕ, ◌==◌, ◌&&◌, Bool, true, false, List, [], ◌∷◌, take}
 use Rattle.std.specs.Prelude.{Option, None, Some, slice_get, position}
 use Rattle.std.specs.List.{flat_map, zip, AllByRecursion}
 use Rattle.std.specs.Option.{option_map, option_map_or, option_or}
@@ -52,8 +52,8 @@ abbrev pub is_write_as : Option (List ℕ) → ℕ → Op → Bool
 is_write_as key wid (Read k w) = false
 is_write_as key wid (Write k w) = (w == wid) && option_map_or (λ x. bytes_eq x k) key true
 
--- the operation passes, and is the first that does in the order of sessions, transactions and
--- operations
+-- the operation passes, and none does in an earlier session, in an earlier transaction of its
+-- session, or in front of it
 pub record IsFirst (passes : Op → Bool) (ss : List ClientSession) (table : Table) (o : OpOf)
     : Type 0 where
   pub place : ℕ
@@ -61,5 +61,7 @@ pub record IsFirst (passes : Op → Bool) (ss : List ClientSession) (table : Tab
   pub op : Op
   pub is : slice_get o.txn.ops o.i ≡ Some op
   pub holds : passes op ≡ true
-  pub first : AllByRecursion (λ op. passes op ≡ false) (ops_in (take stands.at ss)
-      ++ (flat_map (λ t. t.ops) (take stands.index stands.of.txns) ++ take o.i o.txn.ops))
+  pub sessions : AllByRecursion (λ op. passes op ≡ false) (ops_in (take stands.at ss))
+  pub txns : AllByRecursion (λ op. passes op ≡ false)
+      (flat_map (λ t. t.ops) (take stands.index stands.of.txns))
+  pub ops : AllByRecursion (λ op. passes op ≡ false) (take o.i o.txn.ops)
