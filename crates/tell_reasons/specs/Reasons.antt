@@ -7,7 +7,7 @@ use Rattle.session_log.specs.declared.session.Op.{Op}
 use Rattle.session_log.specs.declared.session.Op.TheVariants.{Read, Write}
 use Rattle.log_definitions.specs.WellFormed.{keys_in}
 use Rattle.log_definitions.specs.Serial.{ops_of}
-use Rattle.session_history.specs.Tables.{name_in}
+use Rattle.log_definitions.specs.Numbers.{log_of}
 use Rattle.order_text.specs.Text.{name_text}
 use Rattle.log_lines.specs.Placed.{place_in, op_line_in, end_line_in}
 use Rattle.log_lines.specs.declared.placed.PlacedHistory.{PlacedHistory}
@@ -15,10 +15,10 @@ use Rattle.tell_reasons.specs.declared.phrases.Access.{Access}
 use Rattle.tell_reasons.specs.declared.phrases.Access.TheVariants as access
 
 -- a node's name, as messages have it
-abbrev pub named : PlacedHistory → ℕ → List ℕ
-named log v = name_text ((name_in log.history.now v).0, place_in log v)
+unfoldable pub named : PlacedHistory → ℕ → List ℕ
+named log v = name_text ((log_of log.history.now).session v, place_in log v)
 
-abbrev pub in_line : ℕ → List ℕ
+unfoldable pub in_line : ℕ → List ℕ
 in_line k = codes " (line " ++ decimal k ++ codes ")"
 
 -- operation i of node v
@@ -69,11 +69,11 @@ op_wid (Some (Read key wid)) = wid
 op_wid (Some (Write key wid)) = wid
 
 -- a key's initial value, or its version of this identity
-abbrev pub base_text : ℕ → List ℕ
+unfoldable pub base_text : ℕ → List ℕ
 base_text base = if base == 0 then codes "the initial value" else decimal base
 
 -- node v does this, in its line
-abbrev pub does_text : PlacedHistory → ℕ → List ℕ → ℕ → List ℕ
+unfoldable pub does_text : PlacedHistory → ℕ → List ℕ → ℕ → List ℕ
 does_text log v does i = named log v ++ does ++ key_and_wid (op_at log.history.now v i)
     ++ op_in_line log v i
 
@@ -83,3 +83,7 @@ reads_text log v i = does_text log v (codes " reads ") i
 -- `A before B: ` and why
 abbrev pub before_text : PlacedHistory → ℕ → ℕ → List ℕ
 before_text log a b = named log a ++ codes " before " ++ named log b ++ codes ": "
+
+-- node v wrote what was told: `, which 11.1 wrote (line 54)`
+unfoldable pub wrote_text : PlacedHistory → ℕ → ℕ → List ℕ
+wrote_text log v i = codes ", which " ++ named log v ++ codes " wrote" ++ op_in_line log v i

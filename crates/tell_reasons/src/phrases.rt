@@ -43,6 +43,7 @@ pub fn put_number(out: &mut Vec<u8>, number: u64) -> Result<(), AllocError>
 }
 
 /// Appends a key's initial value, or the identity of its version.
+#[tactic(auto, unfolding(crate::specs::Reasons::base_text))]
 pub fn put_base(out: &mut Vec<u8>, base: u64) -> Result<(), AllocError>
     ensures text { OnOk result (out.new.items ≡ out.old.items ++ spec.base_text base) }
 {
@@ -85,7 +86,7 @@ fn place_of(log: &PlacedHistory<'_>, node: NodeIx) -> usize
 }
 
 /// Appends the name of a node.
-#[tactic(auto, using(crate::proofs::Rows::named_told))]
+#[tactic(auto, unfolding(crate::specs::Reasons::named))]
 pub fn put_named(out: &mut Vec<u8>, log: &PlacedHistory<'_>, node: NodeIx) -> Result<(), AllocError>
     ensures text { OnOk result (out.new.items ≡ out.old.items ++ named log.now node) }
 {
@@ -93,6 +94,7 @@ pub fn put_named(out: &mut Vec<u8>, log: &PlacedHistory<'_>, node: NodeIx) -> Re
 }
 
 /// Appends a line of the log, as ` (line 12)`.
+#[tactic(auto, unfolding(crate::specs::Reasons::in_line))]
 pub fn put_in_line(out: &mut Vec<u8>, line: usize) -> Result<(), AllocError>
     ensures text { OnOk result (out.new.items ≡ out.old.items ++ in_line line) }
 {
@@ -274,6 +276,7 @@ pub fn put_listed(out: &mut Vec<u8>, op: Option<Access<'_>>) -> Result<(), Alloc
 }
 
 /// Appends what a node does, as `2.1 reads x 7 (line 12)`.
+#[tactic(auto, unfolding(crate::specs::Reasons::does_text))]
 pub fn put_does(
     out: &mut Vec<u8>,
     log: &PlacedHistory<'_>,
@@ -287,5 +290,21 @@ pub fn put_does(
     put_named(out, log, node)?;
     out.extend_from_slice(does)?;
     put_op(out, op_of(log.history, node, op))?;
+    put_op_in_line(out, log, node, op)
+}
+
+/// Appends that a node wrote what was told, as `, which 11.1 wrote (line 54)`.
+#[tactic(auto, unfolding(crate::specs::Reasons::wrote_text))]
+pub fn put_wrote(
+    out: &mut Vec<u8>,
+    log: &PlacedHistory<'_>,
+    node: NodeIx,
+    op: usize,
+) -> Result<(), AllocError>
+    ensures text { OnOk result (out.new.items ≡ out.old.items ++ spec.wrote_text log.now node op) }
+{
+    out.extend_from_slice(b", which ")?;
+    put_named(out, log, node)?;
+    out.extend_from_slice(b" wrote")?;
     put_op_in_line(out, log, node, op)
 }
