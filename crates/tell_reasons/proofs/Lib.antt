@@ -1,7 +1,6 @@
 pub mod Joined
 pub mod Ops
 pub mod Rows
-pub mod Texts
 pub mod First
 pub mod Found
 pub mod Updates

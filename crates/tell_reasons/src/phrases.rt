@@ -72,6 +72,7 @@ fn element<T: Copy>(elements: &[T], at: usize) -> Option<T>
 }
 
 /// Where a node stands, if it does.
+#[tactic(auto, using(crate::proofs::Rows::row_got))]
 fn row_of<'a>(log: &PlacedHistory<'a>, node: NodeIx) -> Option<&'a TxnPlace>
     ensures row { option_map_or (λ p. view_place p.now) result no_row ≡ row_in log.now node }
 {
@@ -112,6 +113,7 @@ pub fn begin_of(log: &PlacedHistory<'_>, node: NodeIx) -> usize
 }
 
 /// The line of an operation of a transaction.
+#[tactic(auto, using(crate::proofs::Found::or_else))]
 pub fn line_among(row: &TxnPlace, op: usize) -> usize
     ensures { result ≡ line_at (view_place row.now) op }
 {

@@ -3,7 +3,7 @@
 ghost use Rattle.std.specs.Prelude.{◌≡◌, ◌+◌, ◌-◌, ◌<◌, length, take, drop, reverse, position};
 ghost use Rattle.std.specs.Prelude.{IfSome};
 ghost use Rattle.log_definitions.specs.Numbers.{log_of};
-ghost use Rattle.tell_reasons.specs.Events.{is_write_in, is_read_in, is_other_in, last_position};
+ghost use Rattle.tell_reasons.specs.Events.{is_write_in, is_read_in, last_position};
 ghost use Rattle.tell_reasons.specs.Versions.{written_before, other_before};
 ghost use Rattle.tell_reasons.specs.Anomalies as spec;
 ghost use Rattle.tell_reasons.specs.Anomalies.{next_position};
@@ -24,24 +24,11 @@ fn writes(event: Event, key: usize) -> bool
 }
 
 /// Whether an event reads the key.
-fn reads(event: Event, key: usize) -> bool
+pub fn reads(event: Event, key: usize) -> bool
     ensures { result ≡ is_read_in key event }
 {
     match event {
         Event::Read { key: read, .. } => key == read,
-        Event::Write { .. } => false,
-    }
-}
-
-/// Whether an event reads the key and names another identity.
-fn reads_other(event: Event, key: usize, wid: u64) -> bool
-    ensures { result ≡ is_other_in key wid event }
-{
-    match event {
-        Event::Read {
-            key: read,
-            wid: named,
-        } => key == read && named != wid,
         Event::Write { .. } => false,
     }
 }
@@ -60,15 +47,6 @@ pub fn last_among(events: &[Event], key: usize) -> Option<usize>
     ensures place { result ≡ last_position (is_write_in key) events.now }
 {
     back_of_last(events, key).map(|back| events.len() - (back + 1))
-}
-
-/// The first of these that reads the key and names another identity.
-fn other_among(events: &[Event], key: usize, wid: u64) -> Option<usize>
-    ensures place { result ≡ position (is_other_in key wid) events.now }
-{
-    events
-        .iter()
-        .position(|event| reads_other(*event, key, wid))
 }
 
 /// The operations of a node before operation `op`.
@@ -94,14 +72,9 @@ pub fn other_read(history: &History, node: NodeIx, op: usize) -> Option<usize>
 {
     let key = key_number(history, node, op);
     let wid = wid_at(history, node, op);
-    other_among(events_before(history, node, op), key, wid)
-}
-
-/// The first of these that reads the key.
-pub fn first_read_among(events: &[Event], key: usize) -> Option<usize>
-    ensures place { result ≡ position (is_read_in key) events.now }
-{
-    events.iter().position(|event| reads(*event, key))
+    events_before(history, node, op)
+        .iter()
+        .position(|event| reads(*event, key) && event.wid() != wid)
 }
 
 /// Whether an operation writes the key.

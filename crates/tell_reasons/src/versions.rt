@@ -12,7 +12,7 @@ ghost use Rattle.tell_reasons.specs.Versions.{since_text, of_text, from_text, he
 use crate::phrases::{
     key_number, op_of, put_base, put_does, put_named, put_text, put_wid, put_wrote, wid_at,
 };
-use crate::places::{first_read_among, last_among};
+use crate::places::{last_among, reads};
 use crate::say;
 use crate::why::ChainOrder;
 use log_lines::PlacedHistory;
@@ -31,7 +31,10 @@ pub fn left_at(history: &History, key: usize, node: NodeIx) -> Option<usize>
 pub fn read_at(history: &History, key: usize, node: NodeIx) -> Option<usize>
     ensures place { result ≡ spec.read_at history.now key node }
 {
-    first_read_among(history.events_of(node), key)
+    history
+        .events_of(node)
+        .iter()
+        .position(|event| reads(*event, key))
 }
 
 /// Appends the version of a key that a node leaves, as `25, which 11.1 wrote (line 54)`.

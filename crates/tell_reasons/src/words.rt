@@ -86,6 +86,7 @@ fn put_word(out: &mut Vec<u8>, log: &PlacedHistory<'_>, word: &Word<'_>) -> Resu
 }
 
 /// Appends what words say, one behind the other.
+#[tactic(auto, using(crate::proofs::Joined::words_next))]
 pub fn put_words(
     out: &mut Vec<u8>,
     log: &PlacedHistory<'_>,
