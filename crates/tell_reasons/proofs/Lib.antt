@@ -3,4 +3,3 @@ pub mod Ops
 pub mod Rows
 pub mod First
 pub mod Found
-pub mod Updates

@@ -1,6 +1,6 @@
 -- Versions of a key, by their writers.
 use Rattle.std.specs.Prelude.{ℕ, ◌==◌, if◌then◌else◌, List, [], ◌++◌, position, take}
-use Rattle.std.specs.Prelude.{codes, decimal, slice_get, Option}
+use Rattle.std.specs.Prelude.{codes, decimal, slice_get, Option, option_and_then}
 use Rattle.std.specs.Option.{option_map_or}
 use Rattle.serializability.specs.Polygraph.{source}
 use Rattle.serializability.specs.Events.{event_key}
@@ -23,6 +23,11 @@ read_at ss x v = position (is_read_in x) ((log_of ss).ops v)
 -- the number of the key of operation i of node v
 abbrev pub key_number : List ClientSession → ℕ → ℕ → ℕ
 key_number ss v i = option_map_or event_key (slice_get ((log_of ss).ops v) i) 0
+
+-- the node from which it reads, where it reads externally
+abbrev pub source_at : List ClientSession → ℕ → ℕ → Option ℕ
+source_at ss v i =
+    option_and_then (λ e. source (log_of ss) v (event_key e)) (slice_get ((log_of ss).ops v) i)
 
 -- the places of a node's last write before operation i of the same key, and of its first read of it
 -- that names another identity
@@ -63,7 +68,7 @@ writer_text log x base w =
 unfoldable pub behind_text : PlacedHistory → ℕ → ℕ → ℕ → List ℕ
 behind_text log base v i = if op_wid (op_at log.history.now v i) == base then [] else
     option_map_or (writer_text log (key_number log.history.now v i) base)
-    (source (log_of log.history.now) v (key_number log.history.now v i)) (update_of base)
+    (source_at log.history.now v i) (update_of base)
 
 -- over what node v wrote operation i, where that does not leave the version `base` itself
 unfoldable pub updates_text : List ClientSession → ℕ → ℕ → ℕ → List ℕ
@@ -78,7 +83,7 @@ of_text log x head = option_map_or (λ i. codes " of " ++ named log head)
 -- whose version operation i of node v reads
 unfoldable pub whose_text : PlacedHistory → ℕ → ℕ → List ℕ
 whose_text log v i = option_map_or (of_text log (key_number log.history.now v i))
-    (source (log_of log.history.now) v (key_number log.history.now v i)) []
+    (source_at log.history.now v i) []
 
 -- whose version operation i of node v reads, where that is the one that `head` leaves; or who wrote
 -- an update of it that it reads

@@ -147,7 +147,7 @@ pub fn end_of(log: &PlacedHistory<'_>, node: NodeIx) -> usize
 }
 
 /// An event of a node, if it has it.
-fn event_at(history: &History, node: NodeIx, op: usize) -> Option<Event>
+pub fn event_at(history: &History, node: NodeIx, op: usize) -> Option<Event>
     ensures event { result ≡ slice_get ((log_of history.now).ops node) op }
 {
     element(history.events_of(node), op)

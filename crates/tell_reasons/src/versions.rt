@@ -1,8 +1,6 @@
 //! Versions of a key, by their writers.
 
 ghost use Rattle.std.specs.Prelude.{◌≡◌, ◌++◌, OnOk};
-ghost use Rattle.serializability.specs.Polygraph.{source};
-ghost use Rattle.log_definitions.specs.Numbers.{log_of};
 ghost use Rattle.tell_reasons.specs.Reasons.{base_text};
 ghost use Rattle.tell_reasons.specs.Versions as spec;
 ghost use Rattle.tell_reasons.specs.Versions.{version_text, versions_text, over_text};
@@ -10,7 +8,8 @@ ghost use Rattle.tell_reasons.specs.Versions.{writer_text, behind_text, updates_
 ghost use Rattle.tell_reasons.specs.Versions.{since_text, of_text, from_text, held_text};
 
 use crate::phrases::{
-    key_number, op_of, put_base, put_does, put_named, put_text, put_wid, put_wrote, wid_at,
+    event_at, key_number, op_of, put_base, put_does, put_named, put_text, put_wid, put_wrote,
+    wid_at,
 };
 use crate::places::{last_among, reads};
 use crate::say;
@@ -117,16 +116,13 @@ fn put_writer(
     }
 }
 
-/// The node from which a node reads a key externally.
-#[tactic(auto, using(crate::proofs::Updates::no_source))]
-fn source_of(history: &History, node: NodeIx, key: usize) -> Option<NodeIx>
-    ensures { result ≡ source (log_of history.now) node key }
+/// The node from which an operation reads, where it reads externally.
+#[tactic(auto, using(reasons::proofs::Ops::key_below))]
+fn source_of(history: &History, node: NodeIx, op: usize) -> Option<NodeIx>
+    ensures { result ≡ spec.source_at history.now node op }
 {
-    if key < history.keys() {
-        history.source_of(node, key)
-    } else {
-        None
-    }
+    let event = event_at(history, node, op)?;
+    history.source_of(node, event.key())
 }
 
 /// Appends who wrote what an operation reads, and over what, where that is not the version `base`
@@ -145,7 +141,7 @@ pub fn put_behind(
         return Ok(());
     }
     let key = key_number(log.history, node, op);
-    match source_of(log.history, node, key) {
+    match source_of(log.history, node, op) {
         Some(writer) => put_writer(out, log, key, base, writer),
         None => put_before_base(out, b", an update of ", base),
     }
@@ -200,7 +196,7 @@ pub fn put_whose(
     ensures text { OnOk result (out.new.items ≡ out.old.items ++ spec.whose_text log.now node op) }
 {
     let key = key_number(log.history, node, op);
-    match source_of(log.history, node, key) {
+    match source_of(log.history, node, op) {
         Some(head) => put_of(out, log, key, head),
         None => Ok(()),
     }
