@@ -5,11 +5,11 @@ use Rattle.tell_reasons.specs.declared.why.ChainOrder.{ChainOrder}
 use Rattle.tell_reasons.specs.declared.why.Why.{Why}
 use Rattle.tell_reasons.specs.declared.why.Why.TheVariants as why
 use Rattle.log_definitions.specs.Serial.{session_of, begun_of, ended_of}
-use Rattle.log_lines.specs.Placed.{begin_in}
+use Rattle.log_lines.specs.Placed.{begin_in, end_line_in}
 use Rattle.reasons.specs.declared.reason.Reason.{Reason}
 use Rattle.reasons.specs.declared.reason.Reason.TheVariants as reason
 use Rattle.tell_reasons.specs.Reasons.{before_text, named, op_at, op_in_line, op_wid, in_line}
-use Rattle.tell_reasons.specs.Reasons.{key_and_wid, wid_text, reads_text, wrote_text, end_in_line}
+use Rattle.tell_reasons.specs.Reasons.{key_and_wid, wid_text, reads_text, wrote_text}
 use Rattle.tell_reasons.specs.Versions.{behind_text, held_text, version_text, whose_text}
 use Rattle.log_lines.specs.declared.placed.PlacedHistory.{PlacedHistory}
 
@@ -31,7 +31,7 @@ reason_text log a b (reason.Initial read begins) =
     ++ op_in_line log b begins
 reason_text log a b reason.Moments =
     named log a ++ codes " ended at " ++ decimal (unwrap_or (ended_of log.history.now a) 0)
-    ++ end_in_line log a ++ codes ", " ++ named log b ++ codes " began at "
+    ++ in_line (end_line_in log a) ++ codes ", " ++ named log b ++ codes " began at "
     ++ decimal (unwrap_or (begun_of log.history.now b) 0) ++ in_line (begin_in log b)
 
 -- what a has of the key of this order, and that by a step, or by supposition, it comes before what b

@@ -9,7 +9,7 @@ use Rattle.log_definitions.specs.WellFormed.{keys_in}
 use Rattle.log_definitions.specs.Serial.{ops_of}
 use Rattle.log_definitions.specs.Numbers.{log_of}
 use Rattle.order_text.specs.Text.{name_text}
-use Rattle.log_lines.specs.Placed.{place_in, op_line_in, end_line_in}
+use Rattle.log_lines.specs.Placed.{place_in, op_line_in}
 use Rattle.log_lines.specs.declared.placed.PlacedHistory.{PlacedHistory}
 use Rattle.tell_reasons.specs.declared.phrases.Access.{Access}
 use Rattle.tell_reasons.specs.declared.phrases.Access.TheVariants as access
@@ -27,10 +27,6 @@ op_at ss v i = slice_get (ops_of ss v) i
 
 abbrev pub op_in_line : PlacedHistory → ℕ → ℕ → List ℕ
 op_in_line log v i = in_line (op_line_in log v i)
-
--- the line that ends node v
-abbrev pub end_in_line : PlacedHistory → ℕ → List ℕ
-end_in_line log v = in_line (end_line_in log v)
 
 -- the bytes of key number x
 abbrev pub key_bytes : List ClientSession → ℕ → List ℕ

@@ -4,7 +4,7 @@ ghost use Rattle.std.specs.Prelude.{◌≡◌, ◌++◌, slice_get, decimal, OnO
 ghost use Rattle.std.specs.Option.{option_map, option_map_or};
 ghost use Rattle.log_definitions.specs.Numbers.{log_of};
 ghost use Rattle.log_lines.specs.Rows.{view_place, no_row, line_at};
-ghost use Rattle.log_lines.specs.Placed.{row_in, place_in, begin_in, op_line_in, end_line_in};
+ghost use Rattle.log_lines.specs.Placed.{row_in, begin_in, op_line_in, end_line_in};
 ghost use Rattle.order_text.specs.Text.{name_text};
 ghost use Rattle.tell_reasons.specs.Reasons as spec;
 ghost use Rattle.tell_reasons.specs.Versions as versions;
@@ -18,11 +18,11 @@ use session_history::History;
 use session_log::Op;
 use std::alloc::AllocError;
 
-/// An operation, with the bytes of its key.
+/// An operation: the bytes of its key, and the identity that it names.
 #[derive(Clone, Copy)]
 pub enum Access<'a> {
-    Read { key: &'a [u8], wid: u64 },
-    Write { key: &'a [u8], wid: u64 },
+    Read(&'a [u8], u64),
+    Write(&'a [u8], u64),
 }
 
 /// Appends a text.
@@ -40,18 +40,6 @@ pub fn put_number(out: &mut Vec<u8>, number: u64) -> Result<(), AllocError>
     let mut digits = Buffer::new();
     out.extend_from_slice(digits.format(number).as_bytes())?;
     Ok(())
-}
-
-/// Appends a key's initial value, or the identity of its version.
-#[tactic(auto, unfolding(crate::specs::Reasons::base_text))]
-pub fn put_base(out: &mut Vec<u8>, base: u64) -> Result<(), AllocError>
-    ensures text { OnOk result (out.new.items ≡ out.old.items ++ spec.base_text base) }
-{
-    if base == 0 {
-        put_text(out, b"the initial value")
-    } else {
-        put_number(out, base)
-    }
 }
 
 /// Appends the name of a transaction.
@@ -79,19 +67,13 @@ fn row_of<'a>(log: &PlacedHistory<'a>, node: NodeIx) -> Option<&'a TxnPlace>
     element(&log.nodes, node.get().checked_sub(1)?)
 }
 
-/// The place of a node in its session; that of no node is 0, as its lines are.
-fn place_of(log: &PlacedHistory<'_>, node: NodeIx) -> usize
-    ensures place { result ≡ place_in log.now node }
-{
-    row_of(log, node).map_or(0, |row| row.place)
-}
-
 /// Appends the name of a node.
 #[tactic(auto, unfolding(crate::specs::Reasons::named))]
 pub fn put_named(out: &mut Vec<u8>, log: &PlacedHistory<'_>, node: NodeIx) -> Result<(), AllocError>
     ensures text { OnOk result (out.new.items ≡ out.old.items ++ named log.now node) }
 {
-    put_place(out, log.history.session_of(node), place_of(log, node))
+    let place = row_of(log, node).map_or(0, |row| row.place);
+    put_place(out, log.history.session_of(node), place)
 }
 
 /// Appends a line of the log, as ` (line 12)`.
@@ -178,14 +160,8 @@ pub fn op_of(history: &History, node: NodeIx, op: usize) -> Option<Access<'_>>
     ensures op { option_map view_access result ≡ op_at history.now node op }
 {
     match event_at(history, node, op)? {
-        Event::Read { key, wid } => Some(Access::Read {
-            key: key_bytes(history, key),
-            wid,
-        }),
-        Event::Write { key, wid } => Some(Access::Write {
-            key: key_bytes(history, key),
-            wid,
-        }),
+        Event::Read { key, wid } => Some(Access::Read(key_bytes(history, key), wid)),
+        Event::Write { key, wid } => Some(Access::Write(key_bytes(history, key), wid)),
     }
 }
 
@@ -195,14 +171,8 @@ pub fn op_among(ops: &[Op], at: usize) -> Option<Access<'_>>
     ensures { option_map view_access result ≡ slice_get ops.now at }
 {
     match ops.get(at)? {
-        Op::Read { key, wid } => Some(Access::Read {
-            key: key.as_bytes(),
-            wid: *wid,
-        }),
-        Op::Write { key, wid } => Some(Access::Write {
-            key: key.as_bytes(),
-            wid: *wid,
-        }),
+        Op::Read { key, wid } => Some(Access::Read(key.as_bytes(), *wid)),
+        Op::Write { key, wid } => Some(Access::Write(key.as_bytes(), *wid)),
     }
 }
 
@@ -212,7 +182,7 @@ pub fn key_in<'a>(op: Option<Access<'a>>) -> &'a [u8]
     ensures bytes { result.now ≡ spec.key_text (option_map view_access op.entry) }
 {
     match op {
-        Some(Access::Read { key, .. } | Access::Write { key, .. }) => key,
+        Some(Access::Read(key, _) | Access::Write(key, _)) => key,
         None => b"",
     }
 }
@@ -223,7 +193,7 @@ pub fn wid_in(op: Option<Access<'_>>) -> u64
     ensures wid { result ≡ op_wid (option_map view_access op.entry) }
 {
     match op {
-        Some(Access::Read { wid, .. } | Access::Write { wid, .. }) => wid,
+        Some(Access::Read(_, wid) | Access::Write(_, wid)) => wid,
         None => 0,
     }
 }
@@ -242,7 +212,7 @@ pub fn put_wid(out: &mut Vec<u8>, op: Option<Access<'_>>) -> Result<(), AllocErr
         ≡ out.old.items ++ spec.wid_text (option_map view_access op.entry)) }
 {
     match op {
-        Some(Access::Read { wid, .. } | Access::Write { wid, .. }) => put_number(out, wid),
+        Some(Access::Read(_, wid) | Access::Write(_, wid)) => put_number(out, wid),
         None => Ok(()),
     }
 }
@@ -254,7 +224,7 @@ pub fn put_op(out: &mut Vec<u8>, op: Option<Access<'_>>) -> Result<(), AllocErro
         ≡ out.old.items ++ key_and_wid (option_map view_access op.entry)) }
 {
     match op {
-        Some(Access::Read { key, wid } | Access::Write { key, wid }) => {
+        Some(Access::Read(key, wid) | Access::Write(key, wid)) => {
             out.extend_from_slice(key)?;
             out.push(b' ')?;
             put_number(out, wid)
@@ -270,8 +240,8 @@ pub fn put_listed(out: &mut Vec<u8>, op: Option<Access<'_>>) -> Result<(), Alloc
         ≡ out.old.items ++ spec.listed_text (option_map view_access op.entry)) }
 {
     match op {
-        Some(Access::Read { .. }) => put_text(out, b"r ")?,
-        Some(Access::Write { .. }) => put_text(out, b"w ")?,
+        Some(Access::Read(_, _)) => put_text(out, b"r ")?,
+        Some(Access::Write(_, _)) => put_text(out, b"w ")?,
         None => {}
     }
     put_op(out, op)

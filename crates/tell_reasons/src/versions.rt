@@ -8,7 +8,7 @@ ghost use Rattle.tell_reasons.specs.Versions.{writer_text, behind_text, updates_
 ghost use Rattle.tell_reasons.specs.Versions.{since_text, of_text, from_text, held_text};
 
 use crate::phrases::{
-    event_at, key_number, op_of, put_base, put_does, put_named, put_text, put_wid, put_wrote,
+    event_at, key_number, op_of, put_does, put_named, put_number, put_text, put_wid, put_wrote,
     wid_at,
 };
 use crate::places::{last_among, reads};
@@ -63,12 +63,17 @@ fn version_of(history: &History, key: usize, node: NodeIx) -> u64
 }
 
 /// Appends words and a key's initial value, or its version of this identity.
+#[tactic(auto, unfolding(crate::specs::Reasons::base_text))]
 fn put_before_base(out: &mut Vec<u8>, words: &[u8], base: u64) -> Result<(), AllocError>
     ensures text { OnOk result (out.new.items
         ≡ out.old.items ++ (words.now ++ base_text base)) }
 {
     put_text(out, words)?;
-    put_base(out, base)
+    if base == 0 {
+        put_text(out, b"the initial value")
+    } else {
+        put_number(out, base)
+    }
 }
 
 /// Appends over what a node wrote a key, by its first read of it, as ` over 16009`.

@@ -4,8 +4,8 @@ ghost use Rattle.std.specs.Prelude.{◌≡◌, ◌++◌, OnOk};
 ghost use Rattle.tell_reasons.specs.Words.{word_text, words_text};
 
 use crate::phrases::{
-    key_bytes, key_in, op_of, put_base, put_does, put_in_line, put_listed, put_named, put_number,
-    put_op, put_op_in_line, put_place, put_text, put_wid, put_wrote,
+    key_bytes, key_in, op_of, put_does, put_in_line, put_listed, put_named, put_number, put_op,
+    put_op_in_line, put_place, put_text, put_wid, put_wrote,
 };
 use crate::versions::{put_behind, put_held, put_version, put_whose};
 use log_lines::PlacedHistory;
@@ -37,8 +37,6 @@ pub enum Word<'a> {
     AtLine(NodeIx, usize),
     /// What a node does by an operation, as `2.1 reads x 7 (line 12)`.
     Does(NodeIx, &'a [u8], usize),
-    /// A key's initial value, or its version of this identity.
-    Base(u64),
     /// That a node wrote what was told, as `, which 11.1 wrote (line 54)`.
     Wrote(NodeIx, usize),
     /// The version of a key that a node leaves, as `25, which 11.1 wrote (line 54)`.
@@ -76,7 +74,6 @@ fn put_word(out: &mut Vec<u8>, log: &PlacedHistory<'_>, word: &Word<'_>) -> Resu
         Word::Identity(node, op) => put_wid(out, op_of(log.history, *node, *op)),
         Word::AtLine(node, op) => put_op_in_line(out, log, *node, *op),
         Word::Does(node, does, op) => put_does(out, log, *node, does, *op),
-        Word::Base(base) => put_base(out, *base),
         Word::Wrote(node, op) => put_wrote(out, log, *node, *op),
         Word::Version(key, node) => put_version(out, log, *key, *node),
         Word::Behind(base, node, op) => put_behind(out, log, *base, *node, *op),
