@@ -1,16 +1,36 @@
 -- Versions of a key, by their writers.
-use Rattle.std.specs.Prelude.{ℕ, ◌==◌, if◌then◌else◌, List, [], ◌++◌, position, take}
-use Rattle.std.specs.Prelude.{codes, decimal, slice_get, Option, option_and_then}
-use Rattle.std.specs.Option.{option_map_or}
+use Rattle.std.specs.Prelude.{ℕ, ◌+◌, ◌-◌, ◌==◌, ◌&&◌, not, Bool, false, if◌then◌else◌, List, []}
+use Rattle.std.specs.Prelude.{◌++◌, length, position, reverse, take, codes, decimal, slice_get}
+use Rattle.std.specs.Prelude.{Option, option_and_then}
+use Rattle.std.specs.Option.{option_map, option_map_or}
 use Rattle.serializability.specs.Polygraph.{source}
-use Rattle.serializability.specs.Events.{event_key}
+use Rattle.serializability.specs.Events.{event_key, event_wid}
+use Rattle.serializability.specs.declared.event.Event.{Event}
+use Rattle.serializability.specs.declared.event.Event.TheVariants.{Read, Write}
 use Rattle.session_log.specs.Text.{ClientSession}
 use Rattle.log_definitions.specs.Numbers.{log_of}
-use Rattle.tell_reasons.specs.Events.{is_write_in, is_read_in, is_other_in, last_position}
 use Rattle.tell_reasons.specs.Reasons.{named, key_bytes, op_at, op_wid, wid_text, op_in_line}
 use Rattle.tell_reasons.specs.Reasons.{does_text, reads_text, wrote_text, base_text}
 use Rattle.tell_reasons.specs.declared.why.ChainOrder.{ChainOrder}
 use Rattle.log_lines.specs.declared.placed.PlacedHistory.{PlacedHistory}
+
+-- a write of key number x
+abbrev pub is_write_in : ℕ → Event → Bool
+is_write_in x (Read key wid) = false
+is_write_in x (Write key wid) = x == key
+
+-- a read of key number x
+abbrev pub is_read_in : ℕ → Event → Bool
+is_read_in x (Read key wid) = x == key
+is_read_in x (Write key wid) = false
+
+-- a read of it that names another identity
+abbrev pub is_other_in : ℕ → ℕ → Event → Bool
+is_other_in x w e = is_read_in x e && not (event_wid e == w)
+
+-- the place of the last operation that passes
+unfoldable pub last_position : {X : Type 0} → (X → Bool) → List X → Option ℕ
+last_position passes xs = option_map (λ back. length xs - (back + 1)) (position passes (reverse xs))
 
 -- the place of a node's last write of key number x, which is the version that it leaves; of its
 -- first read

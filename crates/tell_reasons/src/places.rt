@@ -3,7 +3,7 @@
 ghost use Rattle.std.specs.Prelude.{◌≡◌, ◌+◌, ◌-◌, ◌<◌, length, take, drop, reverse, position};
 ghost use Rattle.std.specs.Prelude.{IfSome};
 ghost use Rattle.log_definitions.specs.Numbers.{log_of};
-ghost use Rattle.tell_reasons.specs.Events.{is_write_in, is_read_in, last_position};
+ghost use Rattle.tell_reasons.specs.Versions.{is_write_in, is_read_in, last_position};
 ghost use Rattle.tell_reasons.specs.Versions.{written_before, other_before};
 ghost use Rattle.tell_reasons.specs.Anomalies as spec;
 ghost use Rattle.tell_reasons.specs.Anomalies.{next_position};
@@ -42,7 +42,7 @@ fn back_of_last(events: &[Event], key: usize) -> Option<usize>
 }
 
 /// The last of these that writes the key.
-#[tactic(auto, unfolding(crate::specs::Events::last_position))]
+#[tactic(auto, unfolding(crate::specs::Versions::last_position))]
 pub fn last_among(events: &[Event], key: usize) -> Option<usize>
     ensures place { result ≡ last_position (is_write_in key) events.now }
 {
