@@ -4,7 +4,8 @@ use Rattle.std.specs.Prelude.{unwrap_or, Option, None, Some}
 use Rattle.tell_reasons.specs.declared.why.ChainOrder.{ChainOrder}
 use Rattle.tell_reasons.specs.declared.why.Why.{Why}
 use Rattle.tell_reasons.specs.declared.why.Why.TheVariants as why
-use Rattle.log_definitions.specs.Serial.{session_of, begun_of, ended_of}
+use Rattle.log_definitions.specs.Serial.{begun_of, ended_of}
+use Rattle.log_definitions.specs.Numbers.{log_of}
 use Rattle.log_lines.specs.Placed.{begin_in, end_line_in}
 use Rattle.reasons.specs.declared.reason.Reason.{Reason}
 use Rattle.reasons.specs.declared.reason.Reason.TheVariants as reason
@@ -19,7 +20,7 @@ origin_text log v i = if op_wid (op_at log.history.now v i) == 0 then codes ", t
     else behind_text log 0 v i
 
 abbrev pub reason_text : PlacedHistory → ℕ → ℕ → Reason → List ℕ
-reason_text log a b reason.Session = codes "session " ++ decimal (session_of log.history.now a)
+reason_text log a b reason.Session = codes "session " ++ decimal ((log_of log.history.now).session a)
 reason_text log a b (reason.Read written read) = reads_text log b read ++ wrote_text log a written
 reason_text log a b (reason.Overwritten read overwrites) =
     reads_text log a read ++ (whose_text log a read ++ (codes ", and " ++ (named log b

@@ -30,7 +30,6 @@ fn put_origin(
 }
 
 /// Appends why the log shows that `a` stands before `b`.
-#[tactic(auto, unfolding(log_definitions::specs::Numbers::log_of))]
 fn put_reason(
     out: &mut Vec<u8>,
     log: &PlacedHistory<'_>,
