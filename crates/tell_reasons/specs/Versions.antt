@@ -74,7 +74,7 @@ over_text ss x base v =
     option_map_or (λ i. if op_wid (op_at ss v i) == base then codes " over " ++ base_text base
     else codes " over an update of " ++ base_text base) (read_at ss x v) []
 
--- a version that a node that cannot be told wrote
+-- an update of a version, where its writer is not known
 abbrev pub update_of : ℕ → List ℕ
 update_of base = codes ", an update of " ++ base_text base
 
