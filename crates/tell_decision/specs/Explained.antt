@@ -3,14 +3,13 @@ use Rattle.std.specs.Prelude.{◌≡◌, ℕ, ◌+◌, ◌==◌, Bool, true, fal
 use Rattle.std.specs.Prelude.{◌++◌, codes, take, drop, Option, None, Some}
 use Rattle.std.specs.List.{flat_map, prefix_len}
 use Rattle.session_log.specs.Text.{ClientSession}
-use Rattle.serializability.specs.declared.anomaly.Anomaly.{Anomaly}
 use Rattle.log_lines.specs.Rows.{Table, rows_of}
 use Rattle.deciding.specs.declared.decision.Decision.{Decision}
 use Rattle.deciding.specs.declared.decision.Decision.TheVariants as decision
 use Rattle.reason_laws.specs.declared.crossing.Crossing.{Crossing}
 use Rattle.reasons.specs.Crossed.{IsCrossedAnswer}
 use Rattle.reasons.specs.Runs.{without_runs}
-use Rattle.tell_reasons.specs.Anomalies.{IsAnomalyTold}
+use Rattle.tell_reasons.specs.Anomalies.{anomaly_text}
 use Rattle.tell_reasons.specs.Crossed.{crossing_text}
 use Rattle.tell_steps.specs.Lines.{HasEnds}
 use Rattle.tell_steps.specs.Steps.{IsLineTold, IsDeadTold}
@@ -109,13 +108,6 @@ abbrev pub empty_text : Format → List ℕ
 empty_text Text = []
 empty_text Dot = codes "strict digraph explanation {\nnode [shape=box];\n}\n"
 
--- the reads that show an anomaly
-pub record IsAnomalyExplained (format : Format) (log : PlacedHistory) (a : Anomaly)
-    (text : List ℕ) : Type 0 where
-  pub lines : List ℕ
-  pub told : IsAnomalyTold log a lines
-  pub written : text ≡ lines_text format lines
-
 -- the edges of a cycle, each with its reason, with each run of edges of one session as one: what is
 -- told leads from the cycle's first node back to it
 pub record IsRoundTold (ss : List ClientSession) (line : List ℕ) (items : List Item) : Type 0 where
@@ -153,7 +145,7 @@ IsTreeWritten choices nodes format log text =
 -- by what is decided; of an order and of a spent budget there is nothing to explain
 abbrev pub IsWhy : Format → PlacedHistory → Decision → List ℕ → Type 0
 IsWhy format log (decision.Serial order) text = text ≡ empty_text format
-IsWhy format log (decision.Anomalous a) text = IsAnomalyExplained format log a text
+IsWhy format log (decision.Anomalous a) text = text ≡ lines_text format (anomaly_text log a)
 IsWhy format log (decision.Cyclic line) text = IsCycleWritten line.items format log text
 IsWhy format log (decision.Dead ledger) text = IsDeadWritten format log text
 IsWhy format log (decision.Refuted left tree) text = IsTreeWritten left.poly.choices tree format log text

@@ -1,12 +1,12 @@
 //! Anomalies, cycles, dead ledgers and refutation trees.
 
 ghost use Rattle.std.specs.Prelude.{◌≡◌, IfOk};
-ghost use Rattle.serializability.specs.Anomalies.{anomaly_of};
 ghost use Rattle.serializability.specs.Reads.{IsClean};
 ghost use Rattle.log_definitions.specs.Numbers.{log_of};
 ghost use Rattle.reduction.specs.Outcome.{IsCyclicHistory, IsDeadHistory, IsOpenHistory};
 ghost use Rattle.cube_laws.specs.Trees.{IsRefutationTree};
-ghost use Rattle.tell_decision.specs.Explained.{IsAnomalyExplained, IsCycleWritten};
+ghost use Rattle.tell_reasons.specs.Anomalies.{anomaly_text};
+ghost use Rattle.tell_decision.specs.Explained.{lines_text, IsCycleWritten};
 ghost use Rattle.tell_decision.specs.Explained.{IsDeadWritten, IsTreeWritten};
 
 use crate::cycles::cycle_items;
@@ -24,15 +24,15 @@ use tell_reasons::put_anomaly;
 use tell_steps::tell_dead;
 use tell_trees::tell_tree;
 
-/// The operations that show an anomaly, which is the one of a history.
+/// The operations that show an anomaly.
 pub fn explain_anomaly(
     alloc: Global,
     log: &PlacedHistory<'_>,
     format: Format,
     anomaly: Anomaly,
 ) -> Result<Vec<u8>, AllocError>
-    requires reported { anomaly_of (log_of log.now.history.now) ≡ Some anomaly }
-    ensures explained { IfOk result (λ text. IsAnomalyExplained format log.now anomaly text.items) }
+    ensures text { IfOk result (λ text.
+        text.items ≡ lines_text format (anomaly_text log.now anomaly)) }
 {
     let mut lines = Vec::new(alloc);
     put_anomaly(&mut lines, log, anomaly)?;

@@ -1,9 +1,5 @@
 pub mod Joined
 pub mod Ops
 pub mod Rows
-pub mod Texts
+pub mod First
 pub mod Found
-pub mod Written
-pub mod Told
-pub mod Updates
-pub mod Reported

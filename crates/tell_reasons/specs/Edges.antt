@@ -4,12 +4,13 @@ use Rattle.std.specs.Prelude.{unwrap_or, Option, None, Some}
 use Rattle.tell_reasons.specs.declared.why.ChainOrder.{ChainOrder}
 use Rattle.tell_reasons.specs.declared.why.Why.{Why}
 use Rattle.tell_reasons.specs.declared.why.Why.TheVariants as why
-use Rattle.log_definitions.specs.Serial.{session_of, begun_of, ended_of}
-use Rattle.log_lines.specs.Placed.{begin_in}
+use Rattle.log_definitions.specs.Serial.{begun_of, ended_of}
+use Rattle.log_definitions.specs.Numbers.{log_of}
+use Rattle.log_lines.specs.Placed.{begin_in, end_line_in}
 use Rattle.reasons.specs.declared.reason.Reason.{Reason}
 use Rattle.reasons.specs.declared.reason.Reason.TheVariants as reason
 use Rattle.tell_reasons.specs.Reasons.{before_text, named, op_at, op_in_line, op_wid, in_line}
-use Rattle.tell_reasons.specs.Reasons.{key_and_wid, wid_text, reads_text, end_in_line}
+use Rattle.tell_reasons.specs.Reasons.{key_and_wid, wid_text, reads_text, wrote_text}
 use Rattle.tell_reasons.specs.Versions.{behind_text, held_text, version_text, whose_text}
 use Rattle.log_lines.specs.declared.placed.PlacedHistory.{PlacedHistory}
 
@@ -19,32 +20,28 @@ origin_text log v i = if op_wid (op_at log.history.now v i) == 0 then codes ", t
     else behind_text log 0 v i
 
 abbrev pub reason_text : PlacedHistory → ℕ → ℕ → Reason → List ℕ
-reason_text log a b reason.Session = codes "session " ++ decimal (session_of log.history.now a)
-reason_text log a b (reason.Read written read) =
-    reads_text log b read ++ codes ", which " ++ named log a ++ codes " wrote"
-    ++ op_in_line log a written
+reason_text log a b reason.Session = codes "session " ++ decimal ((log_of log.history.now).session a)
+reason_text log a b (reason.Read written read) = reads_text log b read ++ wrote_text log a written
 reason_text log a b (reason.Overwritten read overwrites) =
-    reads_text log a read ++ whose_text log a read ++ codes ", and " ++ named log b
-    ++ codes ", which reads it too, overwrites it with " ++ wid_text (op_at log.history.now b overwrites) ++ op_in_line log b overwrites
+    reads_text log a read ++ (whose_text log a read ++ (codes ", and " ++ (named log b
+    ++ (codes ", which reads it too, overwrites it with " ++ (wid_text (op_at log.history.now b overwrites)
+    ++ op_in_line log b overwrites)))))
 reason_text log a b (reason.Initial read begins) =
     reads_text log a read ++ origin_text log a read ++ codes ", and " ++ named log b
     ++ codes " wrote " ++ key_and_wid (op_at log.history.now b begins)
     ++ op_in_line log b begins
 reason_text log a b reason.Moments =
     named log a ++ codes " ended at " ++ decimal (unwrap_or (ended_of log.history.now a) 0)
-    ++ end_in_line log a ++ codes ", " ++ named log b ++ codes " began at "
+    ++ in_line (end_line_in log a) ++ codes ", " ++ named log b ++ codes " began at "
     ++ decimal (unwrap_or (begun_of log.history.now b) 0) ++ in_line (begin_in log b)
 
--- by which step, by its number, a version comes first, or that it is supposed to
-abbrev pub comes_by : Option ℕ → List ℕ
-comes_by (Some number) = codes ", which by [" ++ decimal number ++ codes "] comes before "
-comes_by None = codes ", which by supposition comes before "
-
--- what a has of the key of this order, and that it comes before what b wrote of it: `7.1 reads y 3
--- (line 30) of 3.1, which by [1] comes before 4, which 4.1 wrote (line 15)`
+-- what a has of the key of this order, and that by a step, or by supposition, it comes before what b
+-- wrote of it: `7.1 reads y 3 (line 30) of 3.1, which by [1] comes before 4, which 4.1 wrote (line 15)`
 abbrev pub comes_text : PlacedHistory → ChainOrder → ℕ → ℕ → Option ℕ → List ℕ
-comes_text log o a b step = held_text log o.key o.first a ++ comes_by step
-    ++ version_text log o.key b ++ codes "\n"
+comes_text log o a b (Some number) = held_text log o.key o.first a ++ (codes ", which by ["
+    ++ (decimal number ++ (codes "] comes before " ++ (version_text log o.key b ++ codes "\n"))))
+comes_text log o a b None = held_text log o.key o.first a
+    ++ (codes ", which by supposition comes before " ++ (version_text log o.key b ++ codes "\n"))
 
 abbrev pub why_text : PlacedHistory → ℕ → ℕ → Why → List ℕ
 why_text log a b (why.Known r) = before_text log a b ++ reason_text log a b r ++ 10 ∷ []

@@ -5,21 +5,20 @@ use Rattle.std.specs.Prelude.{codes, decimal, slice_get, unwrap_or, Option, None
 use Rattle.session_log.specs.Text.{ClientSession}
 use Rattle.session_log.specs.declared.session.Op.{Op}
 use Rattle.session_log.specs.declared.session.Op.TheVariants.{Read, Write}
-use Rattle.serializability.specs.declared.event.Event.{Event}
-use Rattle.serializability.specs.declared.event.Event.TheVariants as event
-use Rattle.serializability.specs.Events.{event_key, event_wid}
 use Rattle.log_definitions.specs.WellFormed.{keys_in}
 use Rattle.log_definitions.specs.Serial.{ops_of}
-use Rattle.session_history.specs.Tables.{name_in}
+use Rattle.log_definitions.specs.Numbers.{log_of}
 use Rattle.order_text.specs.Text.{name_text}
-use Rattle.log_lines.specs.Placed.{place_in, op_line_in, end_line_in}
+use Rattle.log_lines.specs.Placed.{place_in, op_line_in}
 use Rattle.log_lines.specs.declared.placed.PlacedHistory.{PlacedHistory}
+use Rattle.tell_reasons.specs.declared.phrases.Access.{Access}
+use Rattle.tell_reasons.specs.declared.phrases.Access.TheVariants as access
 
 -- a node's name, as messages have it
-abbrev pub named : PlacedHistory → ℕ → List ℕ
-named log v = name_text ((name_in log.history.now v).0, place_in log v)
+unfoldable pub named : PlacedHistory → ℕ → List ℕ
+named log v = name_text ((log_of log.history.now).session v, place_in log v)
 
-abbrev pub in_line : ℕ → List ℕ
+unfoldable pub in_line : ℕ → List ℕ
 in_line k = codes " (line " ++ decimal k ++ codes ")"
 
 -- operation i of node v
@@ -29,57 +28,48 @@ op_at ss v i = slice_get (ops_of ss v) i
 abbrev pub op_in_line : PlacedHistory → ℕ → ℕ → List ℕ
 op_in_line log v i = in_line (op_line_in log v i)
 
--- the line that ends node v
-abbrev pub end_in_line : PlacedHistory → ℕ → List ℕ
-end_in_line log v = in_line (end_line_in log v)
-
 -- the bytes of key number x
 abbrev pub key_bytes : List ClientSession → ℕ → List ℕ
 key_bytes ss x = unwrap_or (slice_get (keys_in ss) x) []
 
 -- an operation's key and identity, with a space between; its key; its identity
-abbrev pub key_and_wid : Option Op → List ℕ
+unfoldable pub key_and_wid : Option Op → List ℕ
 key_and_wid None = []
 key_and_wid (Some (Read key wid)) = key ++ 32 ∷ decimal wid
 key_and_wid (Some (Write key wid)) = key ++ 32 ∷ decimal wid
 
 -- an operation as its line has it: `r x 7`
-abbrev pub listed_text : Option Op → List ℕ
+unfoldable pub listed_text : Option Op → List ℕ
 listed_text None = []
-listed_text (Some (Read key wid)) = codes "r " ++ key_and_wid (Some (Read key wid))
-listed_text (Some (Write key wid)) = codes "w " ++ key_and_wid (Some (Write key wid))
+listed_text (Some (Read key wid)) = codes "r " ++ (key ++ 32 ∷ decimal wid)
+listed_text (Some (Write key wid)) = codes "w " ++ (key ++ 32 ∷ decimal wid)
 
--- an event's key and identity, with a space between
-abbrev pub event_text : List ClientSession → Event → List ℕ
-event_text ss e = key_bytes ss (event_key e) ++ 32 ∷ decimal (event_wid e)
+abbrev pub view_access : Access → Op
+view_access (access.Read key wid) = Read key.now wid
+view_access (access.Write key wid) = Write key.now wid
 
--- the letter with which the line of an operation begins
-abbrev pub letter_text : Event → List ℕ
-letter_text (event.Read key wid) = codes "r "
-letter_text (event.Write key wid) = codes "w "
-
-abbrev pub key_text : Option Op → List ℕ
+unfoldable pub key_text : Option Op → List ℕ
 key_text None = []
 key_text (Some (Read key wid)) = key
 key_text (Some (Write key wid)) = key
 
-abbrev pub wid_text : Option Op → List ℕ
+unfoldable pub wid_text : Option Op → List ℕ
 wid_text None = []
 wid_text (Some (Read key wid)) = decimal wid
 wid_text (Some (Write key wid)) = decimal wid
 
 -- the identity that an operation names
-abbrev pub op_wid : Option Op → ℕ
+unfoldable pub op_wid : Option Op → ℕ
 op_wid None = 0
 op_wid (Some (Read key wid)) = wid
 op_wid (Some (Write key wid)) = wid
 
 -- a key's initial value, or its version of this identity
-abbrev pub base_text : ℕ → List ℕ
+unfoldable pub base_text : ℕ → List ℕ
 base_text base = if base == 0 then codes "the initial value" else decimal base
 
 -- node v does this, in its line
-abbrev pub does_text : PlacedHistory → ℕ → List ℕ → ℕ → List ℕ
+unfoldable pub does_text : PlacedHistory → ℕ → List ℕ → ℕ → List ℕ
 does_text log v does i = named log v ++ does ++ key_and_wid (op_at log.history.now v i)
     ++ op_in_line log v i
 
@@ -89,3 +79,7 @@ reads_text log v i = does_text log v (codes " reads ") i
 -- `A before B: ` and why
 abbrev pub before_text : PlacedHistory → ℕ → ℕ → List ℕ
 before_text log a b = named log a ++ codes " before " ++ named log b ++ codes ": "
+
+-- node v wrote what was told: `, which 11.1 wrote (line 54)`
+unfoldable pub wrote_text : PlacedHistory → ℕ → ℕ → List ℕ
+wrote_text log v i = codes ", which " ++ named log v ++ codes " wrote" ++ op_in_line log v i

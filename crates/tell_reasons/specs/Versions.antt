@@ -1,16 +1,36 @@
 -- Versions of a key, by their writers.
-use Rattle.std.specs.Prelude.{ℕ, ◌==◌, if◌then◌else◌, List, [], ◌++◌, position, take}
-use Rattle.std.specs.Prelude.{codes, decimal, slice_get, Option, None, Some}
-use Rattle.std.specs.Option.{option_map_or}
+use Rattle.std.specs.Prelude.{ℕ, ◌+◌, ◌-◌, ◌==◌, ◌&&◌, not, Bool, false, if◌then◌else◌, List, []}
+use Rattle.std.specs.Prelude.{◌++◌, length, position, reverse, take, codes, decimal, slice_get}
+use Rattle.std.specs.Prelude.{Option, option_and_then}
+use Rattle.std.specs.Option.{option_map, option_map_or}
 use Rattle.serializability.specs.Polygraph.{source}
-use Rattle.serializability.specs.Events.{event_key}
+use Rattle.serializability.specs.Events.{event_key, event_wid}
+use Rattle.serializability.specs.declared.event.Event.{Event}
+use Rattle.serializability.specs.declared.event.Event.TheVariants.{Read, Write}
 use Rattle.session_log.specs.Text.{ClientSession}
 use Rattle.log_definitions.specs.Numbers.{log_of}
-use Rattle.tell_reasons.specs.Events.{is_write_in, is_read_in, is_other_in, last_position}
 use Rattle.tell_reasons.specs.Reasons.{named, key_bytes, op_at, op_wid, wid_text, op_in_line}
-use Rattle.tell_reasons.specs.Reasons.{does_text, reads_text, base_text}
+use Rattle.tell_reasons.specs.Reasons.{does_text, reads_text, wrote_text, base_text}
 use Rattle.tell_reasons.specs.declared.why.ChainOrder.{ChainOrder}
 use Rattle.log_lines.specs.declared.placed.PlacedHistory.{PlacedHistory}
+
+-- a write of key number x
+abbrev pub is_write_in : ℕ → Event → Bool
+is_write_in x (Read key wid) = false
+is_write_in x (Write key wid) = x == key
+
+-- a read of key number x
+abbrev pub is_read_in : ℕ → Event → Bool
+is_read_in x (Read key wid) = x == key
+is_read_in x (Write key wid) = false
+
+-- a read of it that names another identity
+abbrev pub is_other_in : ℕ → ℕ → Event → Bool
+is_other_in x w e = is_read_in x e && not (event_wid e == w)
+
+-- the place of the last operation that passes
+unfoldable pub last_position : {X : Type 0} → (X → Bool) → List X → Option ℕ
+last_position passes xs = option_map (λ back. length xs - (back + 1)) (position passes (reverse xs))
 
 -- the place of a node's last write of key number x, which is the version that it leaves; of its
 -- first read
@@ -24,6 +44,11 @@ read_at ss x v = position (is_read_in x) ((log_of ss).ops v)
 abbrev pub key_number : List ClientSession → ℕ → ℕ → ℕ
 key_number ss v i = option_map_or event_key (slice_get ((log_of ss).ops v) i) 0
 
+-- the node from which it reads, where it reads externally
+abbrev pub source_at : List ClientSession → ℕ → ℕ → Option ℕ
+source_at ss v i =
+    option_and_then (λ e. source (log_of ss) v (event_key e)) (slice_get ((log_of ss).ops v) i)
+
 -- the places of a node's last write before operation i of the same key, and of its first read of it
 -- that names another identity
 abbrev pub written_before : List ClientSession → ℕ → ℕ → Option ℕ
@@ -34,119 +59,93 @@ abbrev pub other_before : List ClientSession → ℕ → ℕ → Option ℕ
 other_before ss v i = position (is_other_in (key_number ss v i) (op_wid (op_at ss v i)))
     (take i ((log_of ss).ops v))
 
--- the identity of an operation, if there is one
-abbrev pub wid_of_place : List ClientSession → ℕ → Option ℕ → ℕ
-wid_of_place ss v None = 0
-wid_of_place ss v (Some i) = op_wid (op_at ss v i)
-
 -- the identity of the version of the key that a node leaves
 abbrev pub version_of : List ClientSession → ℕ → ℕ → ℕ
-version_of ss x v = wid_of_place ss v (left_at ss x v)
+version_of ss x v = option_map_or (λ i. op_wid (op_at ss v i)) (left_at ss x v) 0
 
 -- the version of the key that a node leaves: `25, which 11.1 wrote (line 54)`
-abbrev pub version_at : PlacedHistory → ℕ → Option ℕ → List ℕ
-version_at log v None = named log v
-version_at log v (Some i) = wid_text (op_at log.history.now v i) ++ codes ", which " ++ named log v
-    ++ codes " wrote" ++ op_in_line log v i
-
-abbrev pub version_text : PlacedHistory → ℕ → ℕ → List ℕ
-version_text log x v = version_at log v (left_at log.history.now x v)
+unfoldable pub version_text : PlacedHistory → ℕ → ℕ → List ℕ
+version_text log x v = option_map_or (λ i. wid_text (op_at log.history.now v i) ++ wrote_text log v i)
+    (left_at log.history.now x v) (named log v)
 
 -- over what node v wrote, by its first read of the key: ` over 16009`
-abbrev pub over_at : List ClientSession → ℕ → ℕ → Option ℕ → List ℕ
-over_at ss base v None = []
-over_at ss base v (Some i) = if op_wid (op_at ss v i) == base then codes " over " ++ base_text base
-    else codes " over an update of " ++ base_text base
+unfoldable pub over_text : List ClientSession → ℕ → ℕ → ℕ → List ℕ
+over_text ss x base v =
+    option_map_or (λ i. if op_wid (op_at ss v i) == base then codes " over " ++ base_text base
+    else codes " over an update of " ++ base_text base) (read_at ss x v) []
 
-abbrev pub over_text : List ClientSession → ℕ → ℕ → ℕ → List ℕ
-over_text ss x base v = over_at ss base v (read_at ss x v)
+-- an update of a version, where its writer is not known
+abbrev pub update_of : ℕ → List ℕ
+update_of base = codes ", an update of " ++ base_text base
 
 -- who wrote what was read, and over what: `, which 4.2 wrote (line 77) over 16009`
-abbrev pub writer_at : PlacedHistory → ℕ → ℕ → ℕ → Option ℕ → List ℕ
-writer_at log x base w None = codes ", an update of " ++ base_text base
-writer_at log x base w (Some i) = codes ", which " ++ named log w ++ codes " wrote"
-    ++ op_in_line log w i ++ over_text log.history.now x base w
-
-abbrev pub writer_text : PlacedHistory → ℕ → ℕ → Option ℕ → List ℕ
-writer_text log x base None = codes ", an update of " ++ base_text base
-writer_text log x base (Some w) = writer_at log x base w (left_at log.history.now x w)
-
-abbrev pub source_text : PlacedHistory → ℕ → ℕ → ℕ → List ℕ
-source_text log x base v = writer_text log x base (source (log_of log.history.now) v x)
+unfoldable pub writer_text : PlacedHistory → ℕ → ℕ → ℕ → List ℕ
+writer_text log x base w =
+    option_map_or (λ i. wrote_text log w i ++ over_text log.history.now x base w)
+    (left_at log.history.now x w) (update_of base)
 
 -- who wrote what operation i of node v reads, where that is not the version `base` itself
-abbrev pub behind_text : PlacedHistory → ℕ → ℕ → ℕ → List ℕ
+unfoldable pub behind_text : PlacedHistory → ℕ → ℕ → ℕ → List ℕ
 behind_text log base v i = if op_wid (op_at log.history.now v i) == base then [] else
-    source_text log (key_number log.history.now v i) base v
+    option_map_or (writer_text log (key_number log.history.now v i) base)
+    (source_at log.history.now v i) (update_of base)
 
 -- over what node v wrote operation i, where that does not leave the version `base` itself
-abbrev pub updates_text : List ClientSession → ℕ → ℕ → ℕ → List ℕ
+unfoldable pub updates_text : List ClientSession → ℕ → ℕ → ℕ → List ℕ
 updates_text ss base v i = if op_wid (op_at ss v i) == base then [] else
     over_text ss (key_number ss v i) base v
 
 -- whose version of a key it is that node `head` leaves: ` of 3.1`
-abbrev pub of_at : PlacedHistory → ℕ → Option ℕ → List ℕ
-of_at log head None = codes ", the initial value"
-of_at log head (Some i) = codes " of " ++ named log head
-
-abbrev pub of_text : PlacedHistory → ℕ → ℕ → List ℕ
-of_text log x head = of_at log head (left_at log.history.now x head)
+unfoldable pub of_text : PlacedHistory → ℕ → ℕ → List ℕ
+of_text log x head = option_map_or (λ i. codes " of " ++ named log head)
+    (left_at log.history.now x head) (codes ", the initial value")
 
 -- whose version operation i of node v reads
-abbrev pub whose_at : PlacedHistory → ℕ → Option ℕ → List ℕ
-whose_at log x None = []
-whose_at log x (Some head) = of_text log x head
-
-abbrev pub whose_text : PlacedHistory → ℕ → ℕ → List ℕ
-whose_text log v i = whose_at log (key_number log.history.now v i)
-    (source (log_of log.history.now) v (key_number log.history.now v i))
+unfoldable pub whose_text : PlacedHistory → ℕ → ℕ → List ℕ
+whose_text log v i = option_map_or (of_text log (key_number log.history.now v i))
+    (source_at log.history.now v i) []
 
 -- whose version operation i of node v reads, where that is the one that `head` leaves; or who wrote
 -- an update of it that it reads
-abbrev pub from_text : PlacedHistory → ℕ → ℕ → ℕ → ℕ → List ℕ
+unfoldable pub from_text : PlacedHistory → ℕ → ℕ → ℕ → ℕ → List ℕ
 from_text log x head v i =
     if op_wid (op_at log.history.now v i) == version_of log.history.now x head
     then of_text log x head else behind_text log (version_of log.history.now x head) v i
 
+-- a node's first read of the key, and how that goes back to the version of `head`: `7.1 reads y 3
+-- (line 30) of 3.1`, `9.16 reads k1 16013 (line 1193), which 4.2 wrote (line 77) over 16009`
+unfoldable pub had_text : PlacedHistory → ℕ → ℕ → ℕ → List ℕ
+had_text log x head v = option_map_or (λ i. reads_text log v i ++ from_text log x head v i)
+    (read_at log.history.now x v) (named log v)
+
 -- the version of a key that a node has, by its last write of it, or else by its first read, and how
--- that goes back to that of `head`: `7.1 reads y 3 (line 30) of 3.1`, `9.16 reads k1 16013 (line
--- 1193), which 4.2 wrote (line 77) over 16009`
-abbrev pub had_at : PlacedHistory → ℕ → ℕ → ℕ → Option ℕ → List ℕ
-had_at log x head v None = named log v
-had_at log x head v (Some i) = reads_text log v i ++ from_text log x head v i
-
-abbrev pub held_at : PlacedHistory → ℕ → ℕ → ℕ → Option ℕ → Option ℕ → List ℕ
-held_at log x head v None read = had_at log x head v read
-held_at log x head v (Some i) read = does_text log v (codes " wrote ") i
-    ++ updates_text log.history.now (version_of log.history.now x head) v i
-
-abbrev pub held_text : PlacedHistory → ℕ → ℕ → ℕ → List ℕ
+-- that goes back to that of `head`
+unfoldable pub held_text : PlacedHistory → ℕ → ℕ → ℕ → List ℕ
 held_text log x head v =
-    held_at log x head v (left_at log.history.now x v) (read_at log.history.now x v)
+    option_map_or (λ i. does_text log v (codes " wrote ") i
+    ++ updates_text log.history.now (version_of log.history.now x head) v i)
+    (left_at log.history.now x v) (had_text log x head v)
 
 -- which of two versions of a key comes first: `x: 25, which 11.1 wrote (line 54), comes before 20,
 -- which 6.1 wrote (line 28)`
-abbrev pub versions_text : PlacedHistory → ChainOrder → List ℕ
+unfoldable pub versions_text : PlacedHistory → ChainOrder → List ℕ
 versions_text log o =
-    key_bytes log.history.now o.key ++ codes ": " ++ version_text log o.key o.first
-    ++ codes ", comes before " ++ version_text log o.key o.second
+    key_bytes log.history.now o.key ++ (codes ": " ++ (version_text log o.key o.first
+    ++ (codes ", comes before " ++ version_text log o.key o.second)))
 
 -- node u, which comes after v, reads a version or an update of it, by operation i: so the version comes
 -- after the one that v wrote: `    14.1, which comes after 11.1, reads 20 (line 68), so 20 is the later
 -- version:`
-abbrev pub later_text : PlacedHistory → ℕ → ℕ → ℕ → ℕ → List ℕ
+unfoldable pub later_text : PlacedHistory → ℕ → ℕ → ℕ → ℕ → List ℕ
 later_text log version u v i =
-    (codes "    " ++ (named log u ++ (codes ", which comes after " ++ (named log v
-    ++ (codes ", reads " ++ (wid_text (op_at log.history.now u i) ++ op_in_line log u i))))))
-    ++ behind_text log version u i
-    ++ (codes ", so " ++ (decimal version ++ codes " is the later version:\n"))
+    codes "    " ++ (named log u ++ (codes ", which comes after " ++ (named log v
+    ++ (codes ", reads " ++ (wid_text (op_at log.history.now u i) ++ (op_in_line log u i
+    ++ (behind_text log version u i ++ (codes ", so " ++ (decimal version
+    ++ codes " is the later version:\n")))))))))
 
 -- why the first of two versions of a key comes first: u reads the other one. Nothing, where u does not
 -- read the key
-abbrev pub since_at : PlacedHistory → ℕ → ℕ → ℕ → Option ℕ → List ℕ
-since_at log version u v None = []
-since_at log version u v (Some i) = later_text log version u v i
-
-abbrev pub since_text : PlacedHistory → ChainOrder → ℕ → ℕ → List ℕ
-since_text log o u v = since_at log (version_of log.history.now o.key o.second) u v
-    (read_at log.history.now o.key u)
+unfoldable pub since_text : PlacedHistory → ChainOrder → ℕ → ℕ → List ℕ
+since_text log o u v =
+    option_map_or (later_text log (version_of log.history.now o.key o.second) u v)
+    (read_at log.history.now o.key u) []

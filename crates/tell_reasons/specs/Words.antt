@@ -3,11 +3,12 @@ use Rattle.std.specs.Prelude.{ℕ, List, [], ◌∷◌, ◌++◌, decimal}
 use Rattle.order_text.specs.Text.{name_text}
 use Rattle.log_lines.specs.declared.placed.PlacedHistory.{PlacedHistory}
 use Rattle.tell_reasons.specs.Reasons.{named, in_line, op_at, op_in_line, key_and_wid, wid_text}
-use Rattle.tell_reasons.specs.Reasons.{key_bytes, key_text, listed_text, does_text, base_text}
+use Rattle.tell_reasons.specs.Reasons.{key_bytes, key_text, listed_text, does_text, wrote_text}
+use Rattle.tell_reasons.specs.Versions.{version_text, behind_text, whose_text, held_text}
 use Rattle.tell_reasons.specs.declared.words.Word.{Word}
 use Rattle.tell_reasons.specs.declared.words.Word.TheVariants.{Text, Number, Line, Name, Node, Key}
 use Rattle.tell_reasons.specs.declared.words.Word.TheVariants.{KeyOf, Operation, Listed, Identity, AtLine}
-use Rattle.tell_reasons.specs.declared.words.Word.TheVariants.{Does, Base}
+use Rattle.tell_reasons.specs.declared.words.Word.TheVariants.{Does, Wrote, Version, Behind, Whose, Held}
 
 abbrev pub word_text : PlacedHistory → Word → List ℕ
 word_text log (Text text) = text.now
@@ -22,7 +23,11 @@ word_text log (Listed v i) = listed_text (op_at log.history.now v i)
 word_text log (Identity v i) = wid_text (op_at log.history.now v i)
 word_text log (AtLine v i) = op_in_line log v i
 word_text log (Does v does i) = does_text log v does.now i
-word_text log (Base base) = base_text base
+word_text log (Wrote v i) = wrote_text log v i
+word_text log (Version x v) = version_text log x v
+word_text log (Behind base v i) = behind_text log base v i
+word_text log (Whose v i) = whose_text log v i
+word_text log (Held x head v) = held_text log x head v
 
 -- one behind the other
 abbrev pub words_text : PlacedHistory → List Word → List ℕ

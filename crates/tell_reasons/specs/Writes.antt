@@ -1,58 +1,67 @@
--- Where an identity is written.
-use Rattle.std.specs.Prelude.{◌≡◌, ℕ, ◌==◌, ◌&&◌, Bool, true, false, List, ◌++◌, length}
-use Rattle.std.specs.Prelude.{map, take, Some, slice_get}
-use Rattle.std.specs.List.{flat_map, Contains}
+-- Where an operation of a log stands.
+use Rattle.std.specs.Prelude.{◌≡◌, ℕ, ◌==◌, ◌&&◌, Bool, true, false, List, [], ◌∷◌, take}
+use Rattle.std.specs.Prelude.{Option, None, Some, slice_get, position}
+use Rattle.std.specs.List.{flat_map, zip, AllByRecursion}
+use Rattle.std.specs.Option.{option_map, option_map_or, option_or}
 use Rattle.std.specs.Str.{bytes_eq}
-use Rattle.session_log.specs.Text.{ClientSession, view_txn}
+use Rattle.session_log.specs.Text.{ClientSession, Transaction, view_txn}
 use Rattle.session_log.specs.declared.session.Op.{Op}
 use Rattle.session_log.specs.declared.session.Op.TheVariants.{Read, Write}
-use Rattle.session_log.specs.declared.session.Txn.{Txn}
 use Rattle.log_definitions.specs.Unknown.{ops_in}
-use Rattle.log_lines.specs.Rows.{Table, view_place}
-use Rattle.log_lines.specs.declared.places.TxnPlace.{TxnPlace}
-use Rattle.tell_reasons.specs.declared.writes.Keys.{Keys}
-use Rattle.tell_reasons.specs.declared.writes.Keys.TheVariants.{This, Any}
+use Rattle.log_lines.specs.Rows.{TxnRow, Table, view_place}
+use Rattle.log_lines.specs.Places.{StandsAt}
 use Rattle.tell_reasons.specs.declared.writes.WriteAt.{WriteAt}
-use Rattle.tell_reasons.specs.Anomalies.{IsWriteAt}
 
--- whether a key is one of those under which a write is sought
-abbrev pub is_among : Keys → List ℕ → List ℕ → Bool
-is_among This key written = bytes_eq key written
-is_among Any key written = true
+-- operation i, from 0, of a transaction with this row, in the session of this number
+pub record OpOf : Type 0 where
+  pub session : ℕ
+  pub txn : Transaction
+  pub row : TxnRow
+  pub i : ℕ
 
--- a write of this identity, under this key or under any
-abbrev pub is_write_as : Keys → List ℕ → ℕ → Op → Bool
-is_write_as keys key wid (Read k w) = false
-is_write_as keys key wid (Write k w) = is_among keys key k && (w == wid)
+abbrev pub view_write : WriteAt → OpOf
+view_write w = record {
+  session = w.session;
+  txn = view_txn w.txn.now;
+  row = view_place w.place.now;
+  i = w.op;
+}
 
--- none of these operations writes this identity, under this key or under any
-pub record IsNoneWrite (keys : Keys) (key : List ℕ) (wid : ℕ) (ops : List Op) : Type 0 where
-  pub none : (written : List ℕ) → is_among keys key written ≡ true
-      → ¬ Contains ops (Write written wid)
+-- what the first of these gives that gives something
+abbrev pub first_given : {X Y : Type 0} → (X → Option Y) → List X → Option Y
+first_given f [] = None
+first_given f (x ∷ xs) = option_or (f x) (first_given f xs)
 
--- the write that was found among a session's transactions, which have these places: the first that
--- is sought
-pub record FindsIn (number : ℕ) (txns : List Txn) (places : List TxnPlace) (keys : Keys)
-    (key : List ℕ) (wid : ℕ) (w : WriteAt) : Type 0 where
-  pub written : List ℕ
-  pub index : ℕ
-  pub session : number ≡ w.session
-  pub txn : slice_get (map view_txn txns) index ≡ Some (view_txn w.txn.now)
-  pub has : slice_get (map view_place places) index ≡ Some (view_place w.place.now)
-  pub lines : length w.place.now.ops.items ≡ length w.txn.now.ops.items
-  pub among : is_among keys key written ≡ true
-  pub writes : slice_get w.txn.now.ops.items w.op ≡ Some (Write written wid)
-  pub first : IsNoneWrite keys key wid (flat_map (λ t. t.ops) (take index (map view_txn txns))
-      ++ take w.op w.txn.now.ops.items)
+-- the first operation that passes: of a transaction, of a session, and of all sessions
+abbrev pub first_of : (Op → Bool) → ℕ → Transaction × TxnRow → Option OpOf
+first_of passes session p = option_map (λ i. record {
+  session = session;
+  txn = p.0;
+  row = p.1;
+  i = i;
+}) (position passes p.0.ops)
 
--- the write that was found in the sessions, which have this table: the first that is sought
-pub record Finds (ss : List ClientSession) (table : Table) (keys : Keys) (key : List ℕ) (wid : ℕ)
-    (w : WriteAt) : Type 0 where
-  pub written : List ℕ
+abbrev pub first_in : (Op → Bool) → ClientSession → List TxnRow → Option OpOf
+first_in passes s rows = first_given (first_of passes s.number) (zip s.txns rows)
+
+abbrev pub first_op : (Op → Bool) → List ClientSession → Table → Option OpOf
+first_op passes ss table = first_given (λ p. first_in passes p.0 p.1) (zip ss table)
+
+-- a write of this identity: of this key, or of any
+abbrev pub is_write_as : Option (List ℕ) → ℕ → Op → Bool
+is_write_as key wid (Read k w) = false
+is_write_as key wid (Write k w) = (w == wid) && option_map_or (λ x. bytes_eq x k) key true
+
+-- the operation passes, and none does in an earlier session, in an earlier transaction of its
+-- session, or in front of it
+pub record IsFirst (passes : Op → Bool) (ss : List ClientSession) (table : Table) (o : OpOf)
+    : Type 0 where
   pub place : ℕ
-  pub among : is_among keys key written ≡ true
-  pub write : IsWriteAt ss table written wid w.session place (view_txn w.txn.now)
-      (view_place w.place.now) w.op
-  pub first : IsNoneWrite keys key wid (ops_in (take write.stands.at ss)
-      ++ (flat_map (λ t. t.ops) (take write.stands.index write.stands.of.txns)
-      ++ take w.op w.txn.now.ops.items))
+  pub stands : StandsAt ss table o.session place o.txn o.row
+  pub op : Op
+  pub is : slice_get o.txn.ops o.i ≡ Some op
+  pub holds : passes op ≡ true
+  pub sessions : AllByRecursion (λ op. passes op ≡ false) (ops_in (take stands.at ss))
+  pub txns : AllByRecursion (λ op. passes op ≡ false)
+      (flat_map (λ t. t.ops) (take stands.index stands.of.txns))
+  pub ops : AllByRecursion (λ op. passes op ≡ false) (take o.i o.txn.ops)

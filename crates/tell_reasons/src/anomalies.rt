@@ -1,15 +1,10 @@
 //! What is wrong with a read, or with two transactions that update one key, in the log's own lines.
 
-ghost use Rattle.std.specs.Prelude.{◌≡◌, ◌++◌, ℕ, Some, IfSome, OnOk};
-ghost use Rattle.serializability.specs.Anomalies.{anomaly_of};
-ghost use Rattle.anomaly_laws.specs.Meaning.{IsUpdate};
-ghost use Rattle.log_definitions.specs.Numbers.{log_of};
-ghost use Rattle.tell_reasons.specs.Reasons.{op_at};
+ghost use Rattle.std.specs.Prelude.{◌≡◌, ◌++◌, OnOk};
 ghost use Rattle.tell_reasons.specs.Anomalies as spec;
-ghost use Rattle.tell_reasons.specs.Anomalies.{Appends, IsRead, IsReadTold, IsDoneTold};
-ghost use Rattle.tell_reasons.specs.Anomalies.{IsBadReadTold, IsUpdateTold, IsAnomalyTold};
+ghost use Rattle.tell_reasons.specs.Anomalies.{read_text, done_text, update_text, anomaly_text};
 
-use crate::phrases::{key_at, line_of, put_does, put_text, wid_at};
+use crate::phrases::{key_in, line_of, op_of, put_does, put_text, wid_in};
 use crate::places::{last_write, other_read};
 use crate::say;
 use crate::versions::{left_at, read_at};
@@ -19,7 +14,7 @@ use serializability::{Anomaly, NodeIx};
 use std::alloc::AllocError;
 
 /// Appends the line of a read, in these words, and who wrote what it names.
-#[tactic(auto, using(crate::proofs::Told::read_told))]
+#[tactic(auto, unfolding(crate::specs::Anomalies::read_text))]
 fn put_read(
     out: &mut Vec<u8>,
     log: &PlacedHistory<'_>,
@@ -27,21 +22,17 @@ fn put_read(
     reads: &[u8],
     op: usize,
 ) -> Result<(), AllocError>
-    requires read { IsRead (op_at log.now.history.now node op) }
-    ensures told { OnOk result (Appends out.old.items out.new.items
-        (IsReadTold log.now node reads.now op)) }
+    ensures text { OnOk result (out.new.items
+        ≡ out.old.items ++ read_text log.now node reads.now op) }
 {
     let line = line_of(log, node, op);
-    let key = key_at(log.history, node, op);
-    let wid = wid_at(log.history, node, op);
+    let read = op_of(log.history, node, op);
     put_does(out, log, node, reads, op)?;
-    put_writer(out, log, line, key, wid)?;
-    put_text(out, b"\n")?;
-    Ok(())
+    put_writer(out, log, line, key_in(read), wid_in(read))?;
+    put_text(out, b"\n")
 }
 
 /// Appends what a transaction did with a key before its read: this write, else this read.
-#[tactic(auto, using(crate::proofs::Told::done_told))]
 fn put_done(
     out: &mut Vec<u8>,
     log: &PlacedHistory<'_>,
@@ -49,9 +40,8 @@ fn put_done(
     write: Option<usize>,
     read: Option<usize>,
 ) -> Result<(), AllocError>
-    requires reads { IfSome read (λ i. IsRead (op_at log.now.history.now node i)) }
-    ensures told { OnOk result (Appends out.old.items out.new.items
-        (IsDoneTold log.now node write read)) }
+    ensures text { OnOk result (out.new.items
+        ≡ out.old.items ++ done_text log.now node write read) }
 {
     match write {
         Some(write) => say!(out, log; Does(node, b" writes ", write), Text(b"\n")),
@@ -74,48 +64,55 @@ fn words_of_read(write: Option<usize>, read: Option<usize>) -> &'static [u8]
 
 /// Appends the lines of a read that is an anomaly: first what its transaction did with the key
 /// before, by its latest write, else by its first read of another identity.
-#[tactic(auto, using(crate::proofs::Told::bad_read))]
+#[tactic(auto, unfolding(crate::specs::Anomalies::bad_read_text))]
 fn put_bad_read(
     out: &mut Vec<u8>,
     log: &PlacedHistory<'_>,
     node: NodeIx,
     op: usize,
 ) -> Result<(), AllocError>
-    requires read { IsRead (op_at log.now.history.now node op) }
-    ensures told { OnOk result (Appends out.old.items out.new.items
-        (IsBadReadTold log.now node op)) }
+    ensures text { OnOk result (out.new.items
+        ≡ out.old.items ++ spec.bad_read_text log.now node op) }
 {
     let write = last_write(log.history, node, op);
     let read = other_read(log.history, node, op);
     put_done(out, log, node, write, read)?;
-    put_read(out, log, node, words_of_read(write, read), op)?;
-    Ok(())
+    put_read(out, log, node, words_of_read(write, read), op)
+}
+
+/// Appends the last write of a key in a node.
+fn put_overwrites(
+    out: &mut Vec<u8>,
+    log: &PlacedHistory<'_>,
+    node: NodeIx,
+    write: Option<usize>,
+) -> Result<(), AllocError>
+    ensures text { OnOk result (out.new.items
+        ≡ out.old.items ++ spec.overwrites_text log.now node write) }
+{
+    match write {
+        Some(write) => say!(out, log; Node(node), Text(b" overwrites it with "),
+            Identity(node, write), AtLine(node, write), Text(b"\n")),
+        None => Ok(()),
+    }
 }
 
 /// Appends the lines of an update of a key.
+#[tactic(auto, unfolding(crate::specs::Anomalies::update_text))]
 fn put_update(
     out: &mut Vec<u8>,
     log: &PlacedHistory<'_>,
     key: usize,
     node: NodeIx,
 ) -> Result<(), AllocError>
-    requires update { (source : ℕ) × IsUpdate (log_of log.now.history.now) key source node }
-    ensures told { OnOk result (Appends out.old.items out.new.items
-        (IsUpdateTold log.now key node)) }
+    ensures text { OnOk result (out.new.items ≡ out.old.items ++ update_text log.now key node) }
 {
-    let Some(read) = read_at(log.history, key, node) else {
-        unreachable!()
-    };
-    let Some(write) = left_at(log.history, key, node) else {
-        unreachable!()
-    };
-    put_read(out, log, node, b" reads ", read)?;
-    say!(out, log; Node(node), Text(b" overwrites it with "), Identity(node, write),
-        AtLine(node, write), Text(b"\n"))?;
-    Ok(())
+    put_done(out, log, node, None, read_at(log.history, key, node))?;
+    put_overwrites(out, log, node, left_at(log.history, key, node))
 }
 
 /// Appends which of two nodes did not see what the other wrote: of one session the second, else both.
+#[tactic(auto, unfolding(crate::specs::Anomalies::unseen_text))]
 fn put_unseen(
     out: &mut Vec<u8>,
     log: &PlacedHistory<'_>,
@@ -132,8 +129,9 @@ fn put_unseen(
     }
 }
 
-/// Appends two updates of a key in a sentence.
-fn put_short(
+/// Appends that two nodes update a key.
+#[tactic(auto, unfolding(crate::specs::Anomalies::both_text))]
+fn put_both(
     out: &mut Vec<u8>,
     log: &PlacedHistory<'_>,
     key: usize,
@@ -141,30 +139,28 @@ fn put_short(
     second: NodeIx,
 ) -> Result<(), AllocError>
     ensures text { OnOk result (out.new.items
-        ≡ out.old.items ++ spec.short_text log.now key first second) }
+        ≡ out.old.items ++ spec.both_text log.now key first second) }
 {
     say!(out, log; Text(b"in short: "), Node(first), Text(b" and "), Node(second),
-        Text(b" read one version of "), Key(key), Text(b" and both overwrote it; "))?;
-    put_unseen(out, log, first, second)
+        Text(b" read one version of "), Key(key), Text(b" and both overwrote it; "))
 }
 
 /// Appends two updates of a key, in a sentence and in lines.
-#[tactic(auto, using(crate::proofs::Updates::updates_told))]
+#[tactic(auto, unfolding(crate::specs::Anomalies::updates_text))]
 fn put_updates(
     out: &mut Vec<u8>,
     log: &PlacedHistory<'_>,
     key: usize,
-    nodes: (NodeIx, NodeIx),
+    first: NodeIx,
+    second: NodeIx,
 ) -> Result<(), AllocError>
-    requires first { (source : ℕ) × IsUpdate (log_of log.now.history.now) key source nodes.0 }
-    requires second { (source : ℕ) × IsUpdate (log_of log.now.history.now) key source nodes.1 }
-    ensures told { OnOk result (Appends out.old.items out.new.items
-        (spec.AreUpdatesTold log.now key nodes.0 nodes.1)) }
+    ensures text { OnOk result (out.new.items
+        ≡ out.old.items ++ spec.updates_text log.now key first second) }
 {
-    put_short(out, log, key, nodes.0, nodes.1)?;
-    put_update(out, log, key, nodes.0)?;
-    put_update(out, log, key, nodes.1)?;
-    Ok(())
+    put_both(out, log, key, first, second)?;
+    put_unseen(out, log, first, second)?;
+    put_update(out, log, key, first)?;
+    put_update(out, log, key, second)
 }
 
 /// Appends the lines that show the anomaly of a log. Where memory runs out, a part of them may have
@@ -174,9 +170,7 @@ pub fn put_anomaly(
     log: &PlacedHistory<'_>,
     anomaly: Anomaly,
 ) -> Result<(), AllocError>
-    requires reported { anomaly_of (log_of log.now.history.now) ≡ Some anomaly }
-    ensures told { OnOk result (Appends out.old.items out.new.items
-        (IsAnomalyTold log.now anomaly)) }
+    ensures text { OnOk result (out.new.items ≡ out.old.items ++ anomaly_text log.now anomaly) }
 {
     match anomaly {
         Anomaly::Read { node, op, .. } => put_bad_read(out, log, node, op.saturating_sub(1)),
@@ -185,6 +179,6 @@ pub fn put_anomaly(
             first,
             second,
             ..
-        } => put_updates(out, log, key, (first, second)),
+        } => put_updates(out, log, key, first, second),
     }
 }

@@ -13,13 +13,8 @@ use std::alloc::AllocError;
 fn put_pair(out: &mut Vec<u8>, log: &PlacedHistory<'_>, pair: PairRead) -> Result<(), AllocError>
     ensures text { OnOk result (out.new.items ≡ out.old.items ++ pair_text log.now pair) }
 {
-    let PairRead {
-        node,
-        first,
-        second,
-    } = pair;
-    say!(out, log; Text(b"    "), Does(node, b" reads ", first), Text(b" and "),
-        Operation(node, second), AtLine(node, second), Text(b"\n"))
+    say!(out, log; Text(b"    "), Does(pair.node, b" reads ", pair.first), Text(b" and "),
+        Operation(pair.node, pair.second), AtLine(pair.node, pair.second), Text(b"\n"))
 }
 
 /// Appends that all four pairs of two versions of a key and two of another were read, and what that

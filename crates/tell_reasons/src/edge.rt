@@ -1,13 +1,11 @@
 //! Why one node stands before another, in a line.
 
 ghost use Rattle.std.specs.Prelude.{◌≡◌, ◌++◌, OnOk};
-ghost use Rattle.reasons.specs.declared.reason.Reason.TheVariants as kind;
 ghost use Rattle.tell_reasons.specs.Edges.{origin_text, reason_text, why_text, comes_text};
-ghost use Rattle.tell_reasons.specs.Edges.{comes_by};
 
 use crate::phrases::{begin_of, end_of, put_text, wid_at};
 use crate::say;
-use crate::versions::{put_behind, put_held, put_version, put_whose};
+use crate::versions::put_behind;
 use crate::why::{ChainOrder, Why};
 use log_lines::PlacedHistory;
 use reasons::Reason;
@@ -31,24 +29,7 @@ fn put_origin(
     }
 }
 
-/// Appends that `b` reads what `a` wrote.
-fn put_read(
-    out: &mut Vec<u8>,
-    log: &PlacedHistory<'_>,
-    a: NodeIx,
-    b: NodeIx,
-    written: usize,
-    read: usize,
-) -> Result<(), AllocError>
-    ensures text { OnOk result (out.new.items ≡ out.old.items
-        ++ reason_text log.now a b (kind.Read written read)) }
-{
-    say!(out, log; Does(b, b" reads ", read), Text(b", which "), Node(a), Text(b" wrote"),
-        AtLine(a, written))
-}
-
 /// Appends why the log shows that `a` stands before `b`.
-#[tactic(auto, unfolding(log_definitions::specs::Numbers::log_of))]
 fn put_reason(
     out: &mut Vec<u8>,
     log: &PlacedHistory<'_>,
@@ -63,13 +44,12 @@ fn put_reason(
             let session = log.history.session_of(a);
             say!(out, log; Text(b"session "), Number(u64::from(session)))
         }
-        Reason::Read { written, read } => put_read(out, log, a, b, written, read),
-        Reason::Overwritten { read, overwrites } => {
-            say!(out, log; Does(a, b" reads ", read))?;
-            put_whose(out, log, a, read)?;
-            say!(out, log; Text(b", and "), Node(b), Text(b", which reads it too, overwrites it with "),
-                Identity(b, overwrites), AtLine(b, overwrites))
-        }
+        Reason::Read { written, read } => say!(out, log;
+            Does(b, b" reads ", read), Wrote(a, written)),
+        Reason::Overwritten { read, overwrites } => say!(out, log;
+            Does(a, b" reads ", read), Whose(a, read), Text(b", and "), Node(b),
+            Text(b", which reads it too, overwrites it with "), Identity(b, overwrites),
+            AtLine(b, overwrites)),
         Reason::Initial {
             read,
             begins: write,
@@ -88,24 +68,8 @@ fn put_reason(
     }
 }
 
-/// Appends by which forced step a version comes first, or that it is supposed to.
-fn put_comes_by(
-    out: &mut Vec<u8>,
-    log: &PlacedHistory<'_>,
-    number: Option<usize>,
-) -> Result<(), AllocError>
-    ensures text { OnOk result (out.new.items ≡ out.old.items ++ comes_by number) }
-{
-    match number {
-        Some(number) => say!(out, log;
-            Text(b", which by ["), Number(number as u64), Text(b"] comes before ")),
-        None => put_text(out, b", which by supposition comes before "),
-    }
-}
-
 /// Appends what `a` has of a key, and that a forced step puts it before what `b` wrote of it, or
 /// that by supposition it comes before that, and ends the line.
-#[tactic(auto, using(std::proofs::Common::append_assoc))]
 fn put_comes(
     out: &mut Vec<u8>,
     log: &PlacedHistory<'_>,
@@ -117,10 +81,14 @@ fn put_comes(
     ensures text { OnOk result (out.new.items ≡ out.old.items
         ++ comes_text log.now order a b number) }
 {
-    put_held(out, log, order.key, order.first, a)?;
-    put_comes_by(out, log, number)?;
-    put_version(out, log, order.key, b)?;
-    put_text(out, b"\n")
+    match number {
+        Some(number) => say!(out, log;
+            Held(order.key, order.first, a), Text(b", which by ["), Number(number as u64),
+            Text(b"] comes before "), Version(order.key, b), Text(b"\n")),
+        None => say!(out, log;
+            Held(order.key, order.first, a), Text(b", which by supposition comes before "),
+            Version(order.key, b), Text(b"\n")),
+    }
 }
 
 /// Appends the line that says why `a` stands before `b`. Where memory runs out, a part of the line

@@ -6,6 +6,7 @@
 mod anomalies;
 mod crossed;
 mod edge;
+pub mod laws;
 pub mod names;
 mod phrases;
 mod places;

@@ -1,10 +1,9 @@
 //! The places of operations of a key among a node's.
 
-ghost use Rattle.std.specs.Prelude.{◌≡◌, ◌+◌, ◌<◌, ◌≤◌, length, take, drop, reverse, position};
+ghost use Rattle.std.specs.Prelude.{◌≡◌, ◌+◌, ◌-◌, ◌<◌, length, take, drop, reverse, position};
 ghost use Rattle.std.specs.Prelude.{IfSome};
 ghost use Rattle.log_definitions.specs.Numbers.{log_of};
-ghost use Rattle.tell_reasons.specs.Reasons.{op_at};
-ghost use Rattle.tell_reasons.specs.Events.{is_write_in, is_read_in, is_other_in, last_position};
+ghost use Rattle.tell_reasons.specs.Versions.{is_write_in, is_read_in, last_position};
 ghost use Rattle.tell_reasons.specs.Versions.{written_before, other_before};
 ghost use Rattle.tell_reasons.specs.Anomalies as spec;
 ghost use Rattle.tell_reasons.specs.Anomalies.{next_position};
@@ -25,24 +24,11 @@ fn writes(event: Event, key: usize) -> bool
 }
 
 /// Whether an event reads the key.
-fn reads(event: Event, key: usize) -> bool
+pub fn reads(event: Event, key: usize) -> bool
     ensures { result ≡ is_read_in key event }
 {
     match event {
         Event::Read { key: read, .. } => key == read,
-        Event::Write { .. } => false,
-    }
-}
-
-/// Whether an event reads the key and names another identity.
-fn reads_other(event: Event, key: usize, wid: u64) -> bool
-    ensures { result ≡ is_other_in key wid event }
-{
-    match event {
-        Event::Read {
-            key: read,
-            wid: named,
-        } => key == read && named != wid,
         Event::Write { .. } => false,
     }
 }
@@ -56,19 +42,11 @@ fn back_of_last(events: &[Event], key: usize) -> Option<usize>
 }
 
 /// The last of these that writes the key.
+#[tactic(auto, unfolding(crate::specs::Versions::last_position))]
 pub fn last_among(events: &[Event], key: usize) -> Option<usize>
     ensures place { result ≡ last_position (is_write_in key) events.now }
 {
     back_of_last(events, key).map(|back| events.len() - (back + 1))
-}
-
-/// The first of these that reads the key and names another identity.
-fn other_among(events: &[Event], key: usize, wid: u64) -> Option<usize>
-    ensures place { result ≡ position (is_other_in key wid) events.now }
-{
-    events
-        .iter()
-        .position(|event| reads_other(*event, key, wid))
 }
 
 /// The operations of a node before operation `op`.
@@ -91,18 +69,12 @@ pub fn last_write(history: &History, node: NodeIx, op: usize) -> Option<usize>
 /// The first read of the same key before operation `op` of a node that names another identity.
 pub fn other_read(history: &History, node: NodeIx, op: usize) -> Option<usize>
     ensures place { result ≡ other_before history.now node op }
-    ensures read { IfSome result (λ i. spec.IsRead (op_at history.now node i)) }
 {
     let key = key_number(history, node, op);
     let wid = wid_at(history, node, op);
-    other_among(events_before(history, node, op), key, wid)
-}
-
-/// The first of these that reads the key.
-pub fn first_read_among(events: &[Event], key: usize) -> Option<usize>
-    ensures place { result ≡ position (is_read_in key) events.now }
-{
-    events.iter().position(|event| reads(*event, key))
+    events_before(history, node, op)
+        .iter()
+        .position(|event| reads(*event, key) && event.wid() != wid)
 }
 
 /// Whether an operation writes the key.
@@ -123,20 +95,18 @@ fn first_among(ops: &[Op], key: &[u8]) -> Option<usize>
     ops.iter().position(|op| is_write_of(op, key))
 }
 
-/// All but the first `count` of these.
-fn ops_behind(ops: &[Op], count: usize) -> &[Op]
-    requires { count ≤ length ops.now }
-    ensures rest { result.now ≡ drop count ops.now }
-    ensures size { length result.now + count ≡ length ops.now }
+/// The operations behind operation `op`.
+#[tactic(auto, using(std::proofs::lemmas::List::drop_min))]
+fn ops_behind(ops: &[Op], op: usize) -> &[Op]
+    ensures rest { result.now ≡ drop (op + 1) ops.now }
+    ensures size { length result.now ≡ length ops.now - (op + 1) }
 {
-    let (_, behind) = ops.split_at(count);
-    behind
+    &ops[op.saturating_add(1).min(ops.len())..]
 }
 
 /// The next write of the key behind operation `op`.
 pub fn next_write(ops: &[Op], key: &[u8], op: usize) -> Option<usize>
-    requires op { op < length ops.now }
     ensures place { result ≡ next_position (spec.is_write_of key.now) ops.now op }
 {
-    first_among(ops_behind(ops, op + 1), key).map(|more| op + 1 + more)
+    first_among(ops_behind(ops, op), key).map(|more| op + 1 + more)
 }

@@ -4,9 +4,10 @@ ghost use Rattle.std.specs.Prelude.{◌≡◌, ◌++◌, OnOk};
 ghost use Rattle.tell_reasons.specs.Words.{word_text, words_text};
 
 use crate::phrases::{
-    key_at, key_bytes, put_base, put_does, put_in_line, put_key_and_wid, put_listed, put_named,
-    put_number, put_op_in_line, put_place, put_text, put_wid,
+    key_bytes, key_in, op_of, put_does, put_in_line, put_listed, put_named, put_number, put_op,
+    put_op_in_line, put_place, put_text, put_wid, put_wrote,
 };
+use crate::versions::{put_behind, put_held, put_version, put_whose};
 use log_lines::PlacedHistory;
 use serializability::NodeIx;
 use std::alloc::AllocError;
@@ -36,8 +37,16 @@ pub enum Word<'a> {
     AtLine(NodeIx, usize),
     /// What a node does by an operation, as `2.1 reads x 7 (line 12)`.
     Does(NodeIx, &'a [u8], usize),
-    /// A key's initial value, or its version of this identity.
-    Base(u64),
+    /// That a node wrote what was told, as `, which 11.1 wrote (line 54)`.
+    Wrote(NodeIx, usize),
+    /// The version of a key that a node leaves, as `25, which 11.1 wrote (line 54)`.
+    Version(usize, NodeIx),
+    /// Who wrote what a node's operation reads, where that is not the version of this identity.
+    Behind(u64, NodeIx, usize),
+    /// Whose version a node's operation reads, as ` of 3.1`.
+    Whose(NodeIx, usize),
+    /// The version of a key, and how it goes back to that of the first node, that the other node has.
+    Held(usize, NodeIx, NodeIx),
 }
 
 /// Appends words: `say!(out, log; Node(a), Text(b" before "), Node(b))`.
@@ -59,17 +68,22 @@ fn put_word(out: &mut Vec<u8>, log: &PlacedHistory<'_>, word: &Word<'_>) -> Resu
         Word::Name(session, place) => put_place(out, *session, *place),
         Word::Node(node) => put_named(out, log, *node),
         Word::Key(key) => put_text(out, key_bytes(log.history, *key)),
-        Word::KeyOf(node, op) => put_text(out, key_at(log.history, *node, *op)),
-        Word::Operation(node, op) => put_key_and_wid(out, log.history, *node, *op),
-        Word::Listed(node, op) => put_listed(out, log.history, *node, *op),
-        Word::Identity(node, op) => put_wid(out, log.history, *node, *op),
+        Word::KeyOf(node, op) => put_text(out, key_in(op_of(log.history, *node, *op))),
+        Word::Operation(node, op) => put_op(out, op_of(log.history, *node, *op)),
+        Word::Listed(node, op) => put_listed(out, op_of(log.history, *node, *op)),
+        Word::Identity(node, op) => put_wid(out, op_of(log.history, *node, *op)),
         Word::AtLine(node, op) => put_op_in_line(out, log, *node, *op),
         Word::Does(node, does, op) => put_does(out, log, *node, does, *op),
-        Word::Base(base) => put_base(out, *base),
+        Word::Wrote(node, op) => put_wrote(out, log, *node, *op),
+        Word::Version(key, node) => put_version(out, log, *key, *node),
+        Word::Behind(base, node, op) => put_behind(out, log, *base, *node, *op),
+        Word::Whose(node, op) => put_whose(out, log, *node, *op),
+        Word::Held(key, head, node) => put_held(out, log, *key, *head, *node),
     }
 }
 
 /// Appends what words say, one behind the other.
+#[tactic(auto, using(crate::proofs::Joined::words_next))]
 pub fn put_words(
     out: &mut Vec<u8>,
     log: &PlacedHistory<'_>,

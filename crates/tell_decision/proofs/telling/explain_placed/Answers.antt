@@ -3,9 +3,6 @@ use Rattle.reduction.specs.Outcome.{IsCyclicHistory}
 use Rattle.headline.proofs.Answered.{clean_log}
 use Rattle.tell_decision.proofs.telling.explain_placed.Goals as goal
 
-pub explain_anomaly-requires : goal.explain_anomaly-requires
-explain_anomaly-requires c = record { reported = (rw c.in-Anomalous.is at c.requires.decided.decides).1 }
-
 pub explain_cycle-requires : goal.explain_cycle-requires
 explain_cycle-requires c =
     let ss = c.args.log.now.history.now in

@@ -1,8 +1,9 @@
-use Rattle.std.proofs.Common.{map, take}
+use Rattle.std.proofs.Common.{◌≡◌, map, drop}
+use Rattle.std.specs.Option.{option_copied}
 use Rattle.session_log.specs.Text.{view}
-use Rattle.log_definitions.specs.Unknown.{ops_in}
-use Rattle.tell_reasons.specs.Writes.{IsNoneWrite}
+use Rattle.log_lines.specs.Rows.{view_place, rows_of}
+use Rattle.tell_reasons.specs.Writes.{first_op, is_write_as}
 use Rattle.tell_reasons.proofs.writes.write_at.Given as goal
 
 abbrev pub invariant-loop-at : goal.invariant-loop-at
-invariant-loop-at l = IsNoneWrite l.keys l.key l.wid (ops_in (map view (take l.at l.sessions)))
+invariant-loop-at l = first_op (is_write_as (option_copied l.key) l.wid) (map view (drop l.at l.sessions)) (map (λ s. map view_place s.items) (drop l.at l.log.places.now.sessions.items)) ≡ first_op (is_write_as (option_copied l.key) l.wid) l.log.history.now (rows_of l.log.places.now)

@@ -1,8 +1,10 @@
-use Rattle.std.proofs.Common.{map, take}
-use Rattle.session_log.specs.Text.{view_txn}
-use Rattle.tell_reasons.specs.Writes.{IsNoneWrite}
-use Rattle.tell_reasons.proofs.Written.{txn_ops}
+use Rattle.std.proofs.Common.{◌≡◌, map, drop}
+use Rattle.std.specs.List.{zip}
+use Rattle.std.specs.Option.{option_copied}
+use Rattle.session_log.specs.Text.{view, view_txn}
+use Rattle.log_lines.specs.Rows.{view_place}
+use Rattle.tell_reasons.specs.Writes.{first_given, first_of, first_in, is_write_as}
 use Rattle.tell_reasons.proofs.writes.write_in.Given as goal
 
 abbrev pub invariant-loop-at : goal.invariant-loop-at
-invariant-loop-at l = IsNoneWrite l.keys l.key l.wid (txn_ops (map view_txn (take l.at l.txns)))
+invariant-loop-at l = first_given (first_of (is_write_as (option_copied l.key) l.wid) l.session.number) (zip (map view_txn (drop l.at l.session.txns.items)) (map view_place (drop l.at l.places))) ≡ first_in (is_write_as (option_copied l.key) l.wid) (view l.session) (map view_place l.places)
