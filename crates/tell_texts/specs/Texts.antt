@@ -22,20 +22,17 @@ versions_line log o = versions_text log o ++ codes ":\n"
 abbrev pub reader_text : PlacedHistory → ChainOrder → ℕ → ℕ → List ℕ
 reader_text log o u v = if u == o.second then [] else since_text log o u v
 
--- that a tree has several leaves; how many, where that is more than are told
-abbrev pub leaves_line : ℕ → List ℕ
-leaves_line count = if nat_lt 1000 count
-    then codes "proof: whichever of these versions came first, a cycle closes, " ++ decimal count
-    ++ codes " in all; the first 1000 of them:\n"
-    else codes "proof: whichever of these versions came first, a cycle closes:\n"
-
+-- of several leaves how many, where that is more than are told
 abbrev pub item_line : PlacedHistory → Item → List ℕ
 item_line log (Step number o u v) = codes "[" ++ decimal number ++ codes "] " ++ versions_line log o
     ++ reader_text log o u v
 item_line log (Edge a b why) = why_text log a b why
 item_line log (Cycle start edges) = codes "cycle from " ++ named log start ++ codes ":\n"
 item_line log (Decided depth o) = codes "suppose " ++ versions_line log o
-item_line log (Leaves count) = leaves_line count
+item_line log (Leaves count) = if nat_lt 1000 count
+    then codes "proof: whichever of these versions came first, a cycle closes, " ++ decimal count
+    ++ codes " in all; the first 1000 of them:\n"
+    else codes "proof: whichever of these versions came first, a cycle closes:\n"
 
 -- whether an edge behind an item is of a step's walk, where one in its place is or is not
 abbrev pub walks_behind : Bool → Item → Bool

@@ -20,18 +20,6 @@ fn put_indent(out: &mut Vec<u8>, depth: usize) -> Result<(), AllocError>
     Ok(())
 }
 
-/// Appends which of two versions of a key comes first, and ends the line.
-fn put_order(
-    out: &mut Vec<u8>,
-    log: &PlacedHistory<'_>,
-    order: ChainOrder,
-) -> Result<(), AllocError>
-    ensures text { OnOk result (out.new.items ≡ out.old.items ++ spec.versions_line log.now order) }
-{
-    put_versions(out, log, order)?;
-    say!(out, log; Text(b":\n"))
-}
-
 /// Appends by which read a step's walk ends at this node, where that is not the writer of the
 /// second version itself.
 fn put_reader(
@@ -51,19 +39,7 @@ fn put_reader(
     }
 }
 
-/// Appends that there are several leaves; how many, where that is more than are told.
-fn put_leaves(out: &mut Vec<u8>, log: &PlacedHistory<'_>, count: usize) -> Result<(), AllocError>
-    ensures text { OnOk result (out.new.items ≡ out.old.items ++ spec.leaves_line count) }
-{
-    if 1000 < count {
-        say!(out, log; Text(b"proof: whichever of these versions came first, a cycle closes, "),
-            Number(count as u64), Text(b" in all; the first 1000 of them:\n"))
-    } else {
-        say!(out, log; Text(b"proof: whichever of these versions came first, a cycle closes:\n"))
-    }
-}
-
-/// Appends the lines of an item.
+/// Appends the lines of an item; of several leaves how many, where that is more than are told.
 fn put_item(out: &mut Vec<u8>, log: &PlacedHistory<'_>, item: Item) -> Result<(), AllocError>
     ensures text { OnOk result (out.new.items ≡ out.old.items ++ spec.item_line log.now item) }
 {
@@ -75,7 +51,8 @@ fn put_item(out: &mut Vec<u8>, log: &PlacedHistory<'_>, item: Item) -> Result<()
             target,
         } => {
             say!(out, log; Text(b"["), Number(number as u64), Text(b"] "))?;
-            put_order(out, log, order)?;
+            put_versions(out, log, order)?;
+            say!(out, log; Text(b":\n"))?;
             put_reader(out, log, &order, source, target)
         }
         Item::Edge { first, second, why } => put_edge(out, log, first, second, why),
@@ -84,9 +61,19 @@ fn put_item(out: &mut Vec<u8>, log: &PlacedHistory<'_>, item: Item) -> Result<()
         }
         Item::Decided { depth: _, order } => {
             say!(out, log; Text(b"suppose "))?;
-            put_order(out, log, order)
+            put_versions(out, log, order)?;
+            say!(out, log; Text(b":\n"))
         }
-        Item::Leaves { count } => put_leaves(out, log, count),
+        Item::Leaves { count } => {
+            if 1000 < count {
+                say!(out, log;
+                    Text(b"proof: whichever of these versions came first, a cycle closes, "),
+                    Number(count as u64), Text(b" in all; the first 1000 of them:\n"))
+            } else {
+                say!(out, log;
+                    Text(b"proof: whichever of these versions came first, a cycle closes:\n"))
+            }
+        }
     }
 }
 
