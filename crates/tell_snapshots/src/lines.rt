@@ -95,45 +95,36 @@ impl<'a, 'b> Telling<'a, 'b> {
         indent: &str,
         way: &Way<'a>,
     ) -> Result<(), AllocError> {
-        if let Some(
-            Edge {
-                first,
-                second,
-                why: Why::Missed(read, write),
-                ..
-            },
-        ) = &way.overwritten
+        if let Some(edge) = &way.overwritten
+            && let Why::Missed(read, write) = edge.why
         {
-            let (of, wid, line) = (self.whose(read)?, write.wid, write.line);
+            let (first, second, of) = (edge.first, edge.second, self.whose(&read)?);
+            let (wid, line) = (write.wid, write.line);
             lines.push(format!(in self.alloc;
                 "    {first}'s snapshot comes after {second}'s commit, but {read}{of}, which {second} would have overwritten with {wid} (line {line}):"
             )?)?;
         }
         for edge in &way.edges {
             let (first, second, reason) = (edge.first, edge.second, self.reason(edge)?);
-            lines.push(if edge.is_missed() {
-                format!(in self.alloc;
-                    "{indent}{first}'s snapshot before {second}'s commit: {reason}"
-                )
+            let (from, to) = if edge.is_missed() {
+                ("snapshot", "commit")
             } else {
-                format!(in self.alloc;
-                    "{indent}{first}'s commit before {second}'s snapshot: {reason}"
-                )
-            }?)?;
+                ("commit", "snapshot")
+            };
+            lines.push(format!(in self.alloc;
+                "{indent}{first}'s {from} before {second}'s {to}: {reason}"
+            )?)?;
         }
         Ok(())
     }
 
     /// That two write a key: the lines of their first writes of it.
     fn both(&self, key: &str, one: Node<'a>, other: Node<'a>) -> Result<String, AllocError> {
-        let one = self
-            .part
-            .first_write(one, key)
-            .map_or(0, |write| write.line);
-        let other = self
-            .part
-            .first_write(other, key)
-            .map_or(0, |write| write.line);
+        let (one, other) = (
+            self.part.first_write(one, key),
+            self.part.first_write(other, key),
+        );
+        let (one, other) = (one.map_or(0, |it| it.line), other.map_or(0, |it| it.line));
         format!(in self.alloc; "both write {key} (lines {one} and {other})")
     }
 
