@@ -52,7 +52,8 @@ pub fn explain_cycle(
     ensures written { IfOk result (λ text. IsCycleWritten line.now format log.now text.items) }
 {
     let items = cycle_items(alloc, log.history, line)?;
-    written(alloc, log, format, Told::Cycle, &items)
+    let text = written(alloc, log, format, Told::Cycle, &items)?;
+    Ok(text)
 }
 
 /// Reads that rule out every order, where there are such and they are sought; the forced steps that
