@@ -120,10 +120,8 @@ impl<'a, 'b> Telling<'a, 'b> {
 
     /// That two write a key: the lines of their first writes of it.
     fn both(&self, key: &str, one: Node<'a>, other: Node<'a>) -> Result<String, AllocError> {
-        let (one, other) = (
-            self.part.first_write(one, key),
-            self.part.first_write(other, key),
-        );
+        let part = self.part;
+        let (one, other) = (part.first_write(one, key), part.first_write(other, key));
         let (one, other) = (one.map_or(0, |it| it.line), other.map_or(0, |it| it.line));
         format!(in self.alloc; "both write {key} (lines {one} and {other})")
     }

@@ -201,33 +201,28 @@ impl<'a, 'b> Search<'a, 'b> {
         self.steps.push(taken)?;
         Ok(())
     }
-
-    /// A round: a circle; else steps that what is known shows; else those that are forced.
-    fn go_round(&mut self) -> Result<(Vec<Step<'a>>, Option<Ending<'a>>), AllocError> {
-        self.graph.learn_costs();
-        if let Some(circle) = self.graph.circle(self.alloc)? {
-            return Ok((Vec::new(self.alloc), Some(Ending::Circle(circle))));
-        }
-        let shown = self.shown()?;
-        if !shown.is_empty() {
-            return Ok((shown, None));
-        }
-        let (forced, neither) = self.forced()?;
-        Ok((forced, neither.map(Ending::Neither)))
-    }
 }
 
 /// Why the points of a part have no order: the steps that follow from what is known of them, and to
-/// what they lead; `None` where these do not show it.
+/// what they lead; `None` where these do not show it. In each round a circle is sought; else steps
+/// that what is known shows; else those that are forced.
 pub fn refute<'a>(
     alloc: Global,
     part: &Part<'a>,
 ) -> Result<Option<(Vec<Step<'a>>, Ending<'a>)>, AllocError> {
     let mut search = Search::of(alloc, part)?;
     for _ in 0..MANY_ROUNDS {
-        let (steps, ending) = search.go_round()?;
-        if let Some(ending) = ending {
-            return Ok(Some((search.steps, ending)));
+        search.graph.learn_costs();
+        if let Some(circle) = search.graph.circle(alloc)? {
+            return Ok(Some((search.steps, Ending::Circle(circle))));
+        }
+        let mut steps = search.shown()?;
+        if steps.is_empty() {
+            let (forced, neither) = search.forced()?;
+            if let Some(two) = neither {
+                return Ok(Some((search.steps, Ending::Neither(two))));
+            }
+            steps = forced;
         }
         if steps.is_empty() {
             break;
