@@ -33,15 +33,6 @@ abbrev pub known_as : List ℕ → List ℕ
 known_as [] = []
 known_as (b ∷ bs) = codes "known as: " ++ (b ∷ bs) ++ codes "\n"
 
-abbrev pub cycle_text : PlacedHistory → List Item → List ℕ
-cycle_text log items = short_text log items ++ items_text log 0 false items
-    ++ known_as (name_of log.history.now items)
-
--- reads that rule out every order, where such were found
-abbrev pub crossed_text : PlacedHistory → Option Crossing → List ℕ
-crossed_text log (Some c) = crossing_text log c
-crossed_text log None = []
-
 -- of a step: itself, or an edge of its walk
 abbrev pub is_of_step : Item → Bool
 is_of_step (Step number o u v) = true
@@ -68,40 +59,36 @@ steps_last log name items = items_text log 0 false (drop (of_steps items) items)
 abbrev pub edges_behind : List Item → List Item
 edges_behind items = drop (of_steps items + 1) items
 
--- such reads; the cycle in a sentence; and the cycle, its name, and the steps before it
-abbrev pub dead_text : PlacedHistory → Option Crossing → List Item → List ℕ
-dead_text log found items = crossed_text log found ++ short_text log (edges_behind items)
-    ++ steps_last log (name_behind log.history.now items) items
+-- reads that rule out every order; where none were found, before a tree what the transactions did
+abbrev pub front_text : PlacedHistory → Told → List Item → List ℕ
+front_text log (Dead (Some c)) items = crossing_text log c
+front_text log (Tree (Some c)) items = crossing_text log c
+front_text log (Tree None) items = table_text log items
+front_text log _ items = []
 
--- before a tree: such reads; where none were found, what the transactions did
-abbrev pub front_text : PlacedHistory → Option Crossing → List Item → List ℕ
-front_text log (Some c) items = crossing_text log c
-front_text log None items = table_text log items
-
--- and the tree, and the steps before it
-abbrev pub tree_text : PlacedHistory → Option Crossing → List Item → List ℕ
-tree_text log found items = front_text log found items ++ steps_last log [] items
+-- such reads; the cycle in a sentence and in lines, and its name, or the tree; and the steps before it
+abbrev pub text_of : PlacedHistory → Told → List Item → List ℕ
+text_of log Cycle items = short_text log items ++ items_text log 0 false items
+    ++ known_as (name_of log.history.now items)
+text_of log (Dead found) items = front_text log (Dead found) items
+    ++ short_text log (edges_behind items) ++ steps_last log (name_behind log.history.now items) items
+text_of log (Tree found) items = front_text log (Tree found) items ++ steps_last log [] items
 
 -- as lines of text; or the items as a graph
 abbrev pub told_text : Format → PlacedHistory → Told → List Item → List ℕ
-told_text Text log Cycle items = cycle_text log items
-told_text Text log (Dead found) items = dead_text log found items
-told_text Text log (Tree found) items = tree_text log found items
+told_text Text log told items = text_of log told items
 told_text Dot log told items = graph_text log items
 
 -- in a label a line break is a backslash and n
 abbrev pub label_byte : ℕ → List ℕ
 label_byte b = if b == 10 then 92 ∷ 110 ∷ [] else b ∷ []
 
--- lines in the one box of a graph
-abbrev pub box_text : List ℕ → List ℕ
-box_text lines =
-    codes "strict digraph explanation {\nnode [shape=box];\n\"anomaly\" [label=\""
-    ++ flat_map label_byte lines ++ codes "\"];\n}\n"
-
+-- lines as they are, or in the one box of a graph
 abbrev pub lines_text : Format → List ℕ → List ℕ
 lines_text Text lines = lines
-lines_text Dot lines = box_text lines
+lines_text Dot lines =
+    codes "strict digraph explanation {\nnode [shape=box];\n\"anomaly\" [label=\""
+    ++ flat_map label_byte lines ++ codes "\"];\n}\n"
 
 -- where there is nothing to explain: no line, or a graph without boxes
 abbrev pub empty_text : Format → List ℕ

@@ -1,6 +1,6 @@
 -- A cycle in a sentence: what each of its transactions saw of another one, and what not: `in short:
 -- 2.1 saw 1.1's x, but did not see 1.1's y`.
-use Rattle.std.specs.Prelude.{ℕ, ◌-◌, ◌||◌, Bool, true, not, nat_lt, if◌then◌else◌, List, [], ◌∷◌}
+use Rattle.std.specs.Prelude.{ℕ, ◌-◌, ◌||◌, ◌&&◌, Bool, true, not, nat_lt, if◌then◌else◌, List, [], ◌∷◌}
 use Rattle.std.specs.Prelude.{◌++◌, codes, decimal, length, take, drop, reverse, nat_eq, Option, None, Some}
 use Rattle.std.specs.List.{prefix_len}
 use Rattle.session_log.specs.Text.{ClientSession}
@@ -14,29 +14,24 @@ use Rattle.tell_steps.specs.declared.item.Item.{Item}
 use Rattle.tell_steps.specs.declared.item.Item.TheVariants.{Edge}
 use Rattle.tell_decision.specs.Names.{kind_of}
 use Rattle.tell_decision.specs.declared.short.TheConstants.{MOST_EDGES}
-use Rattle.tell_decision.specs.declared.short.Before.{Before}
-use Rattle.tell_decision.specs.declared.short.Before.TheVariants.{Nothing, Same, Other}
 use Rattle.log_lines.specs.declared.placed.PlacedHistory.{PlacedHistory}
 
--- whether the first transaction of an edge did not see a write of the second one
-abbrev pub is_missed : List ClientSession → ℕ → Why → Bool
-is_missed ss a w = nat_lt 0 (kind_of ss a w).missed
+-- no edge, or one whose first transaction did not see a write of the second one
+abbrev pub misses : List ClientSession → Item → Bool
+misses ss (Edge a b w) = nat_lt 0 (kind_of ss a w).missed
+misses ss _ = true
 
--- what leads to the words of an edge: they go on the words before, where both are of one
--- transaction
-abbrev pub lead_text : PlacedHistory → Before → Bool → ℕ → List ℕ
-lead_text log Nothing missed v = codes "in short: " ++ named log v
-lead_text log Same true v = codes ", but"
-lead_text log _ missed v = codes "; " ++ named log v
+-- what leads to the words of an edge, which misses a write or does not, from those of another one,
+-- where there is such: they go on these, where both are of one transaction
+abbrev pub lead_text : PlacedHistory → Option Bool → Bool → ℕ → List ℕ
+lead_text log None missed v = codes "in short: " ++ named log v
+lead_text log (Some was) missed v =
+    if missed && not was then codes ", but" else codes "; " ++ named log v
 
--- a write that is not seen, by its key; and what a transaction wrote of a key
+-- a write that is not seen, by its key
 abbrev pub unseen_text : PlacedHistory → ℕ → ℕ → List ℕ
 unseen_text log v i = codes " did not see "
     ++ (named log v ++ (codes "'s " ++ key_text (op_at log.history.now v i)))
-
-abbrev pub unseen_at : PlacedHistory → ℕ → Option ℕ → List ℕ
-unseen_at log v None = codes " did not see " ++ named log v
-unseen_at log v (Some i) = unseen_text log v i
 
 abbrev pub known_text : PlacedHistory → ℕ → ℕ → Reason → List ℕ
 known_text log a b reason.Session = codes " came after " ++ (named log a ++ codes " in its session")
@@ -46,40 +41,34 @@ known_text log a b (reason.Read written read) = codes " saw "
 known_text log a b (reason.Overwritten read overwrites) = unseen_text log b overwrites
 known_text log a b (reason.Initial read begins) = unseen_text log b begins
 
--- by an order of two versions of a key: from who wrote it, or from who reads it
-abbrev pub ordered_at : PlacedHistory → ℕ → ℕ → ℕ → Option ℕ → List ℕ
-ordered_at log x a b None = unseen_at log b (left_at log.history.now x b)
-ordered_at log x a b (Some i) = codes " wrote "
+-- by an order of two versions of a key: from who wrote it, at this place, or from who reads it, to who
+-- wrote it
+abbrev pub ordered_at : PlacedHistory → ℕ → ℕ → Option ℕ → Option ℕ → List ℕ
+ordered_at log a b (Some i) j = codes " wrote "
     ++ (key_text (op_at log.history.now a i) ++ (codes " after " ++ named log a))
+ordered_at log a b None (Some j) = unseen_text log b j
+ordered_at log a b None None = codes " did not see " ++ named log b
 
 abbrev pub ordered_text : PlacedHistory → ℕ → ℕ → ℕ → List ℕ
-ordered_text log x a b = ordered_at log x a b (left_at log.history.now x a)
+ordered_text log x a b = ordered_at log a b (left_at log.history.now x a) (left_at log.history.now x b)
 
--- by which step
-abbrev pub by_text : ℕ → List ℕ
-by_text number = codes " (by [" ++ (decimal number ++ codes "])")
-
--- what an edge says, but for the transaction with which that begins
+-- what an edge says, and by which step, but for the transaction with which that begins
 abbrev pub said_text : PlacedHistory → ℕ → ℕ → Why → List ℕ
 said_text log a b (why.Known r) = known_text log a b r
-said_text log a b (why.Forced number o) = ordered_text log o.key a b ++ by_text number
+said_text log a b (why.Forced number o) = ordered_text log o.key a b
+    ++ (codes " (by [" ++ (decimal number ++ codes "])"))
 said_text log a b (why.Chosen o) = ordered_text log o.key a b
 
 -- the words begin with the transaction that did not see a write, else with the second one
-abbrev pub words_of : PlacedHistory → Before → Item → List ℕ
-words_of log before (Edge a b w) = lead_text log before (is_missed log.history.now a w)
-    (if is_missed log.history.now a w then a else b) ++ said_text log a b w
+abbrev pub words_of : PlacedHistory → Option Bool → Item → List ℕ
+words_of log before (Edge a b w) = lead_text log before (misses log.history.now (Edge a b w))
+    (if misses log.history.now (Edge a b w) then a else b) ++ said_text log a b w
 words_of log before _ = []
 
--- no edge, or one whose words say what a transaction did not see
-abbrev pub misses : List ClientSession → Item → Bool
-misses ss (Edge a b w) = is_missed ss a w
-misses ss _ = true
-
-abbrev pub all_words : PlacedHistory → Before → List Item → List ℕ
+abbrev pub all_words : PlacedHistory → Option Bool → List Item → List ℕ
 all_words log before [] = []
 all_words log before (i ∷ items) = words_of log before i
-    ++ all_words log (if misses log.history.now i then Other else Same) items
+    ++ all_words log (Some (misses log.history.now i)) items
 
 -- how many of these edges stand behind the last one that misses a write
 abbrev pub count_behind : List ClientSession → List Item → ℕ
@@ -89,15 +78,8 @@ count_behind ss items = prefix_len (λ i. not (misses ss i)) (reverse items)
 abbrev pub turned : ℕ → List Item → List Item
 turned n items = drop n items ++ take n items
 
-abbrev pub round_text : PlacedHistory → List Item → List ℕ
-round_text log items =
-    all_words log Nothing (turned (length items - count_behind log.history.now items) items)
-
--- what follows from so many edges, where two do not show it at a glance
-abbrev pub end_text : ℕ → List ℕ
-end_text n = if nat_lt 2 n then codes "; no serial order has all of this\n" else codes "\n"
-
--- the edges of a cycle, where they are few
+-- the edges of a cycle, where they are few; and what follows, where two do not show it at a glance
 abbrev pub short_text : PlacedHistory → List Item → List ℕ
 short_text log items = if nat_eq (length items) 0 || nat_lt MOST_EDGES (length items) then []
-    else round_text log items ++ end_text (length items)
+    else all_words log None (turned (length items - count_behind log.history.now items) items)
+    ++ (if nat_lt 2 (length items) then codes "; no serial order has all of this\n" else codes "\n")

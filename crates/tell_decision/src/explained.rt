@@ -52,7 +52,8 @@ pub fn explain_cycle(
     ensures written { IfOk result (λ text. IsCycleWritten line.now format log.now text.items) }
 {
     let items = cycle_items(alloc, log.history, line)?;
-    written(alloc, log, format, Told::Cycle, &items)
+    let text = written(alloc, log, format, Told::Cycle, &items)?;
+    Ok(text)
 }
 
 /// Reads that rule out every order, where there are such and they are sought; the forced steps that
@@ -71,7 +72,8 @@ pub fn explain_dead(
     let chains = open_chains(alloc, log.history)?;
     let items = tell_dead(alloc, log.history, &chains, ledger)?;
     let found = crossed_reads(alloc, log.history)?;
-    written(alloc, log, format, Told::Dead(found), &items)
+    let text = written(alloc, log, format, Told::Dead(found), &items)?;
+    Ok(text)
 }
 
 /// Reads that rule out every order, where there are such and they are sought; the forced steps that
@@ -92,5 +94,6 @@ pub fn explain_tree(
     let chains = open_chains(alloc, log.history)?;
     let items = tell_tree(alloc, log.history, &chains, reduced, tree)?;
     let found = crossed_reads(alloc, log.history)?;
-    written(alloc, log, format, Told::Tree(found), &items)
+    let text = written(alloc, log, format, Told::Tree(found), &items)?;
+    Ok(text)
 }

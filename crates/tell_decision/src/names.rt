@@ -97,21 +97,14 @@ fn milder_with(history: &History, circle: Shape, item: Item, behind: &[Item]) ->
     }
 }
 
-/// The mildest of what refutes the other order of each step, and of the cycle behind the steps: the
-/// log does not say which of these orders the store had.
-fn mildest(history: &History, items: &[Item]) -> Shape
-    ensures { result ≡ spec.mildest_after history.now NO_EDGES items.now }
+/// The name of the cycle behind these steps: of the mildest of it and of what refutes the other order
+/// of each step. The log does not say which of these orders the store had.
+pub fn name_behind(history: &History, items: &[Item]) -> &'static str
+    ensures { result.now ≡ spec.name_behind history.now items.now }
 {
     let mut circle = NO_EDGES;
     for i in 0..items.len() {
         circle = milder_with(history, circle, items[i], &items[i + 1..]);
     }
-    circle
-}
-
-/// The name of the cycle behind these steps: of the mildest of these.
-pub fn name_behind(history: &History, items: &[Item]) -> &'static str
-    ensures { result.now ≡ spec.name_behind history.now items.now }
-{
-    cycle_name(mildest(history, items))
+    cycle_name(circle)
 }

@@ -1,9 +1,7 @@
 //! A cycle in a sentence: what each of its transactions saw of another one, and what not.
 
-ghost use Rattle.std.specs.Prelude.{◌≡◌, ◌≤◌, ◌++◌, length, OnOk};
-ghost use Rattle.tell_reasons.specs.Versions.{left_at};
+ghost use Rattle.std.specs.Prelude.{◌≡◌, ◌≤◌, ◌++◌, length, None, OnOk};
 ghost use Rattle.tell_decision.specs.Short as spec;
-ghost use Rattle.tell_decision.specs.declared.short.Before.TheVariants.{Nothing};
 
 use crate::names::kind_of;
 use log_lines::PlacedHistory;
@@ -17,39 +15,33 @@ use tell_steps::Item;
 /// A cycle of more edges is not told in a sentence.
 pub const MOST_EDGES: usize = 6;
 
-/// What stands before the words of an edge.
-#[derive(Clone, Copy)]
-pub enum Before {
-    Nothing,
-    /// Words that begin with the transaction from which the edge leads.
-    Same,
-    /// Other words.
-    Other,
-}
-
-/// Whether an edge says that its first transaction did not see a write of its second one.
-fn is_missed(history: &History, first: NodeIx, why: &Why) -> bool
-    ensures { result ≡ spec.is_missed history.now first why.now }
+/// Whether an item is no edge, or one that says that its first transaction did not see a write of
+/// its second one.
+fn misses(history: &History, item: &Item) -> bool
+    ensures { result ≡ spec.misses history.now item.now }
 {
-    kind_of(history, first, *why).missed > 0
+    match item {
+        Item::Edge { first, why, .. } => kind_of(history, *first, *why).missed > 0,
+        _ => true,
+    }
 }
 
-/// Appends what leads from other words to those of an edge, up to the transaction with which they
-/// begin.
+/// Appends what leads to the words of an edge from those of another one, where there is such, up to
+/// the transaction with which they begin: each edge misses a write or does not.
 fn put_lead(
     out: &mut Vec<u8>,
     log: &PlacedHistory<'_>,
-    before: Before,
+    before: Option<bool>,
     is_missed: bool,
     whose: NodeIx,
 ) -> Result<(), AllocError>
     ensures text { OnOk result (out.new.items
         ≡ out.old.items ++ spec.lead_text log.now before is_missed whose) }
 {
-    match (before, is_missed) {
-        (Before::Nothing, _) => say!(out, log; Text(b"in short: "), Node(whose)),
-        (Before::Same, true) => say!(out, log; Text(b", but")),
-        _ => say!(out, log; Text(b"; "), Node(whose)),
+    match before {
+        None => say!(out, log; Text(b"in short: "), Node(whose)),
+        Some(was_missed) if is_missed && !was_missed => say!(out, log; Text(b", but")),
+        Some(_) => say!(out, log; Text(b"; "), Node(whose)),
     }
 }
 
@@ -64,22 +56,6 @@ fn put_unseen(
         ≡ out.old.items ++ spec.unseen_text log.now writer op) }
 {
     say!(out, log; Text(b" did not see "), Node(writer), Text(b"'s "), KeyOf(writer, op))
-}
-
-/// Appends that what a transaction wrote of a key is not seen.
-fn put_unseen_of(
-    out: &mut Vec<u8>,
-    log: &PlacedHistory<'_>,
-    key: usize,
-    writer: NodeIx,
-) -> Result<(), AllocError>
-    ensures text { OnOk result (out.new.items
-        ≡ out.old.items ++ spec.unseen_at log.now writer (left_at log.now.history.now key writer)) }
-{
-    match left_at(log.history, key, writer) {
-        Some(op) => put_unseen(out, log, writer, op),
-        None => say!(out, log; Text(b" did not see "), Node(writer)),
-    }
 }
 
 /// Appends what an edge says that the log shows, but for the transaction with which that begins.
@@ -122,24 +98,11 @@ fn put_ordered(
         Some(op) => {
             say!(out, log; Text(b" wrote "), KeyOf(first, op), Text(b" after "), Node(first))
         }
-        None => put_unseen_of(out, log, key, second),
+        None => match left_at(log.history, key, second) {
+            Some(op) => put_unseen(out, log, second, op),
+            None => say!(out, log; Text(b" did not see "), Node(second)),
+        },
     }
-}
-
-/// Appends the same, and by which step the order stands.
-fn put_forced(
-    out: &mut Vec<u8>,
-    log: &PlacedHistory<'_>,
-    number: usize,
-    key: usize,
-    first: NodeIx,
-    second: NodeIx,
-) -> Result<(), AllocError>
-    ensures text { OnOk result (out.new.items
-        ≡ out.old.items ++ (spec.ordered_text log.now key first second ++ spec.by_text number)) }
-{
-    put_ordered(out, log, key, first, second)?;
-    say!(out, log; Text(b" (by ["), Number(number as u64), Text(b"])"))
 }
 
 /// Appends what an edge says, but for the transaction with which that begins.
@@ -148,14 +111,17 @@ fn put_said(
     log: &PlacedHistory<'_>,
     first: NodeIx,
     second: NodeIx,
-    why: &Why,
+    why: Why,
 ) -> Result<(), AllocError>
     ensures text { OnOk result (out.new.items
-        ≡ out.old.items ++ spec.said_text log.now first second why.now) }
+        ≡ out.old.items ++ spec.said_text log.now first second why) }
 {
     match why {
-        Why::Known(reason) => put_known(out, log, first, second, *reason),
-        Why::Forced { number, order } => put_forced(out, log, *number, order.key, first, second),
+        Why::Known(reason) => put_known(out, log, first, second, reason),
+        Why::Forced { number, order } => {
+            put_ordered(out, log, order.key, first, second)?;
+            say!(out, log; Text(b" (by ["), Number(number as u64), Text(b"])"))
+        }
         Why::Chosen(order) => put_ordered(out, log, order.key, first, second),
     }
 }
@@ -164,7 +130,7 @@ fn put_said(
 fn put_words(
     out: &mut Vec<u8>,
     log: &PlacedHistory<'_>,
-    before: Before,
+    before: Option<bool>,
     item: &Item,
 ) -> Result<(), AllocError>
     ensures text { OnOk result (out.new.items
@@ -172,38 +138,24 @@ fn put_words(
 {
     match item {
         Item::Edge { first, second, why } => {
-            let missed = is_missed(log.history, *first, why);
+            let missed = misses(log.history, item);
             let begins = if missed { *first } else { *second };
             put_lead(out, log, before, missed, begins)?;
-            put_said(out, log, *first, *second, why)
+            put_said(out, log, *first, *second, *why)
         }
         _ => Ok(()),
-    }
-}
-
-/// Whether an item is no edge, or one whose words say what a transaction did not see.
-fn misses(history: &History, item: &Item) -> bool
-    ensures { result ≡ spec.misses history.now item.now }
-{
-    match item {
-        Item::Edge { first, why, .. } => is_missed(history, *first, why),
-        _ => true,
     }
 }
 
 /// Appends the words of edges.
 fn put_all(out: &mut Vec<u8>, log: &PlacedHistory<'_>, items: &[Item]) -> Result<(), AllocError>
     ensures text { OnOk result (out.new.items
-        ≡ out.old.items ++ spec.all_words log.now Nothing items.now) }
+        ≡ out.old.items ++ spec.all_words log.now None items.now) }
 {
-    let mut before = Before::Nothing;
+    let mut before = None;
     for item in items {
         put_words(out, log, before, item)?;
-        before = if misses(log.history, item) {
-            Before::Other
-        } else {
-            Before::Same
-        };
+        before = Some(misses(log.history, item));
     }
     Ok(())
 }
@@ -220,34 +172,8 @@ fn count_behind(history: &History, edges: &[Item]) -> usize
         .count()
 }
 
-/// Appends the words of edges that close, so that the last ones say what a transaction did not see.
-fn put_round(
-    alloc: Global,
-    out: &mut Vec<u8>,
-    log: &PlacedHistory<'_>,
-    edges: &[Item],
-) -> Result<(), AllocError>
-    ensures text { OnOk result (out.new.items
-        ≡ out.old.items ++ spec.round_text log.now edges.now) }
-{
-    let count = edges.len() - count_behind(log.history, edges);
-    let mut turned = Vec::from_slice(alloc, &edges[count..])?;
-    turned.extend_from_slice(&edges[..count])?;
-    put_all(out, log, &turned)
-}
-
-/// Appends what follows from so many edges, where two do not show it at a glance, and ends the line.
-fn put_end(out: &mut Vec<u8>, log: &PlacedHistory<'_>, edges: usize) -> Result<(), AllocError>
-    ensures text { OnOk result (out.new.items ≡ out.old.items ++ spec.end_text edges) }
-{
-    if edges > 2 {
-        say!(out, log; Text(b"; no serial order has all of this\n"))
-    } else {
-        say!(out, log; Text(b"\n"))
-    }
-}
-
-/// Appends the edges of a cycle as a sentence, where they are few.
+/// Appends the edges of a cycle as a sentence, where they are few, so that the last ones say what a
+/// transaction did not see; and what follows from them, where two do not show it at a glance.
 pub fn put_short(
     alloc: Global,
     out: &mut Vec<u8>,
@@ -259,6 +185,13 @@ pub fn put_short(
     if edges.is_empty() || edges.len() > MOST_EDGES {
         return Ok(());
     }
-    put_round(alloc, out, log, edges)?;
-    put_end(out, log, edges.len())
+    let count = edges.len() - count_behind(log.history, edges);
+    let mut turned = Vec::from_slice(alloc, &edges[count..])?;
+    turned.extend_from_slice(&edges[..count])?;
+    put_all(out, log, &turned)?;
+    if edges.len() > 2 {
+        say!(out, log; Text(b"; no serial order has all of this\n"))
+    } else {
+        say!(out, log; Text(b"\n"))
+    }
 }

@@ -2,10 +2,9 @@
 
 ghost use Rattle.std.specs.Prelude.{◌≡◌, ◌≤◌, ◌++◌, length, IfOk, OnOk};
 ghost use Rattle.std.specs.List.{flat_map};
-ghost use Rattle.tell_decision.specs.Explained.{known_as, cycle_text, crossed_text, edges_behind};
-ghost use Rattle.tell_decision.specs.Explained.{is_of_step, of_steps, forced_text, steps_last, dead_text};
-ghost use Rattle.tell_decision.specs.Explained.{headed_text, front_text, tree_text, told_text};
-ghost use Rattle.tell_decision.specs.Explained.{lines_text, label_byte, box_text};
+ghost use Rattle.tell_decision.specs.Explained.{known_as, edges_behind, is_of_step, of_steps};
+ghost use Rattle.tell_decision.specs.Explained.{headed_text, forced_text, steps_last, front_text, text_of};
+ghost use Rattle.tell_decision.specs.Explained.{told_text, lines_text, label_byte};
 
 use crate::names::{name_behind, name_of};
 use crate::short::put_short;
@@ -28,20 +27,6 @@ pub enum Told {
     Tree(Option<Crossing>),
 }
 
-/// Appends reads that rule out every order, where such were found.
-fn put_crossed(
-    out: &mut Vec<u8>,
-    log: &PlacedHistory<'_>,
-    found: Option<Crossing>,
-) -> Result<(), AllocError>
-    ensures text { OnOk result (out.new.items ≡ out.old.items ++ crossed_text log.now found) }
-{
-    match found {
-        Some(crossing) => put_crossing(out, log, crossing),
-        None => Ok(()),
-    }
-}
-
 /// Appends a name, where there is one, as a line.
 fn put_known_as(out: &mut Vec<u8>, name: &str) -> Result<(), AllocError>
     ensures text { OnOk result (out.new.items ≡ out.old.items ++ known_as name.now) }
@@ -55,20 +40,6 @@ fn put_known_as(out: &mut Vec<u8>, name: &str) -> Result<(), AllocError>
             Ok(())
         }
     }
-}
-
-/// Appends the edges of a cycle, in a sentence and as lines, and its name.
-fn put_cycle(
-    alloc: Global,
-    out: &mut Vec<u8>,
-    log: &PlacedHistory<'_>,
-    items: &[Item],
-) -> Result<(), AllocError>
-    ensures text { OnOk result (out.new.items ≡ out.old.items ++ cycle_text log.now items.now) }
-{
-    put_short(alloc, out, log, items)?;
-    put_items(out, log, items)?;
-    put_known_as(out, name_of(log.history, items))
 }
 
 /// How many of these items are of steps, before all else.
@@ -132,54 +103,50 @@ fn put_steps_last(
     put_forced(out, log, steps)
 }
 
-/// Appends reads that rule out every order, where such were found; a cycle, in a sentence and in
-/// lines, its name, and the steps that it rests on.
-fn put_dead(
-    alloc: Global,
-    out: &mut Vec<u8>,
-    log: &PlacedHistory<'_>,
-    found: Option<Crossing>,
-    items: &[Item],
-) -> Result<(), AllocError>
-    ensures text { OnOk result (out.new.items
-        ≡ out.old.items ++ dead_text log.now found items.now) }
-{
-    put_crossed(out, log, found)?;
-    put_short(alloc, out, log, edges_behind(items))?;
-    put_steps_last(out, log, name_behind(log.history, items), items)
-}
-
 /// Appends reads that rule out every order, where such were found, else what the transactions of a
 /// tree did.
 fn put_front(
     alloc: Global,
     out: &mut Vec<u8>,
     log: &PlacedHistory<'_>,
-    found: Option<Crossing>,
+    told: &Told,
     items: &[Item],
 ) -> Result<(), AllocError>
     ensures text { OnOk result (out.new.items
-        ≡ out.old.items ++ front_text log.now found items.now) }
+        ≡ out.old.items ++ front_text log.now told.now items.now) }
 {
-    match found {
-        Some(crossing) => put_crossing(out, log, crossing),
-        None => put_table(alloc, out, log, items),
+    match told {
+        Told::Dead(Some(crossing)) => put_crossing(out, log, *crossing),
+        Told::Tree(Some(crossing)) => put_crossing(out, log, *crossing),
+        Told::Tree(None) => put_table(alloc, out, log, items),
+        _ => Ok(()),
     }
 }
 
-/// Appends such reads, or what the transactions did; a tree; and the steps that it rests on.
-fn put_tree(
+/// Appends such reads, or what the transactions did; a cycle, in a sentence and in lines, with its
+/// name, or a tree; and the steps that it rests on.
+fn put_told(
     alloc: Global,
     out: &mut Vec<u8>,
     log: &PlacedHistory<'_>,
-    found: Option<Crossing>,
+    told: Told,
     items: &[Item],
 ) -> Result<(), AllocError>
-    ensures text { OnOk result (out.new.items
-        ≡ out.old.items ++ tree_text log.now found items.now) }
+    ensures text { OnOk result (out.new.items ≡ out.old.items ++ text_of log.now told items.now) }
 {
-    put_front(alloc, out, log, found, items)?;
-    put_steps_last(out, log, "", items)
+    put_front(alloc, out, log, &told, items)?;
+    match told {
+        Told::Cycle => {
+            put_short(alloc, out, log, items)?;
+            put_items(out, log, items)?;
+            put_known_as(out, name_of(log.history, items))
+        }
+        Told::Dead(_) => {
+            put_short(alloc, out, log, edges_behind(items))?;
+            put_steps_last(out, log, name_behind(log.history, items), items)
+        }
+        Told::Tree(_) => put_steps_last(out, log, "", items),
+    }
 }
 
 /// What is told, as lines of text, or the items as a graph.
@@ -193,11 +160,9 @@ pub fn written(
     ensures text { IfOk result (λ text. text.items ≡ told_text format log.now told items.now) }
 {
     let mut out = Vec::new(alloc);
-    match (format, told) {
-        (Format::Text, Told::Cycle) => put_cycle(alloc, &mut out, log, items)?,
-        (Format::Text, Told::Dead(found)) => put_dead(alloc, &mut out, log, found, items)?,
-        (Format::Text, Told::Tree(found)) => put_tree(alloc, &mut out, log, found, items)?,
-        (Format::Dot, _) => put_graph(alloc, &mut out, log, items)?,
+    match format {
+        Format::Text => put_told(alloc, &mut out, log, told, items)?,
+        Format::Dot => put_graph(alloc, &mut out, log, items)?,
     }
     Ok(out)
 }
@@ -216,25 +181,20 @@ fn put_label(out: &mut Vec<u8>, lines: &[u8]) -> Result<(), AllocError>
     Ok(())
 }
 
-/// A graph of one box with these lines.
-fn boxed(alloc: Global, lines: &[u8]) -> Result<Vec<u8>, AllocError>
-    ensures text { IfOk result (λ text. text.items ≡ box_text lines.now) }
-{
-    let mut out = Vec::new(alloc);
-    out.extend_from_slice(
-        b"strict digraph explanation {\nnode [shape=box];\n\"anomaly\" [label=\"",
-    )?;
-    put_label(&mut out, lines)?;
-    out.extend_from_slice(b"\"];\n}\n")?;
-    Ok(out)
-}
-
 /// Lines as they are, or in the one box of a graph.
 pub fn written_lines(alloc: Global, format: Format, lines: Vec<u8>) -> Result<Vec<u8>, AllocError>
     ensures text { IfOk result (λ text. text.items ≡ lines_text format lines.items) }
 {
     match format {
         Format::Text => Ok(lines),
-        Format::Dot => boxed(alloc, &lines),
+        Format::Dot => {
+            let mut out = Vec::new(alloc);
+            out.extend_from_slice(
+                b"strict digraph explanation {\nnode [shape=box];\n\"anomaly\" [label=\"",
+            )?;
+            put_label(&mut out, &lines)?;
+            out.extend_from_slice(b"\"];\n}\n")?;
+            Ok(out)
+        }
     }
 }

@@ -5,14 +5,11 @@
 //! part's own transactions. Nothing is promised of the words; tests hold each line against the log.
 #![tactic(auto)]
 
-mod edges;
 mod graph;
 mod lines;
-mod names;
 mod nodes;
 mod short;
 mod steps;
 mod told;
-mod ways;
 
 pub use told::{Told, tell_snapshots};

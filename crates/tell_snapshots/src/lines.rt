@@ -1,11 +1,9 @@
 //! The lines that tell steps, and what they lead to.
 
-use crate::graph::{Edge, Why};
-use crate::nodes::{Access, Part, Writes};
+use crate::graph::{Edge, Way, Why};
+use crate::nodes::{Access, Node, Part, has_same};
 use crate::steps::{Ending, Neither, Step};
-use crate::ways::Way;
 use std::alloc::{AllocError, Global};
-use std::fmt;
 
 /// What stands before the lines of a step, and of what cannot be.
 const INDENT: &str = "    ";
@@ -15,25 +13,14 @@ const INDENT: &str = "    ";
 pub struct Telling<'a, 'b> {
     pub alloc: Global,
     pub part: &'b Part<'a>,
-    /// The steps that are told.
-    pub is_needed: &'b [bool],
-}
-
-/// That it reads what it does.
-impl fmt::Display for Access<'_> {
-    fn fmt<W: fmt::Write>(&self, f: &mut fmt::Formatter<W>) -> fmt::Result {
-        let (node, key, wid, line) = (self.node, self.key, self.wid, self.line);
-        write!(f, "{node} reads {key} {wid} (line {line})")
-    }
+    /// The steps that are told, by their numbers.
+    pub steps: &'b [(usize, &'b Step<'a>)],
 }
 
 /// The only edge of a way, where it is one that misses a write: the read.
 fn only_missed<'a>(way: &Way<'a>) -> Option<Access<'a>> {
-    match way.edges.as_slice() {
-        [edge] => match edge.why {
-            Why::Missed { read, .. } => Some(read),
-            _ => None,
-        },
+    match (way.edges.first()?.why, way.edges.len()) {
+        (Why::Missed(read, _), 1) => Some(read),
         _ => None,
     }
 }
@@ -46,13 +33,9 @@ pub fn lost<'a>(two: &Neither<'a>) -> Option<Access<'a>> {
 }
 
 impl<'a, 'b> Telling<'a, 'b> {
-    /// The number under which a step is told.
-    pub fn number(&self, step: usize) -> usize {
-        self.is_needed
-            .iter()
-            .take(step.saturating_add(1))
-            .filter(|is_needed| **is_needed)
-            .count()
+    /// The number under which a step is told, and 0 where there is none.
+    pub fn number(&self, step: Option<usize>) -> usize {
+        self.steps.iter().filter(|it| Some(it.0) <= step).count()
     }
 
     /// Whose version is read, as ` of 3.1`, or that it is the initial value.
@@ -67,6 +50,7 @@ impl<'a, 'b> Telling<'a, 'b> {
     /// Why one point stands before another.
     fn reason(&self, edge: &Edge<'a>) -> Result<String, AllocError> {
         let (alloc, first, second) = (self.alloc, edge.first, edge.second);
+        let step = self.number(edge.step);
         match edge.why {
             Why::Session => format!(in alloc; "session {}", first.session),
             Why::Moments => {
@@ -76,77 +60,69 @@ impl<'a, 'b> Telling<'a, 'b> {
                     "{first} ended at {ended} (line {end}), {second} began at {begun} (line {begin})"
                 )
             }
-            Why::Written { step, .. } => format!(in alloc; "by [{}]", self.number(step)),
-            Why::Read { read, write } if first.number == second.number => {
-                let line = write.line;
-                format!(in alloc; "{read}, which {first} writes itself only later (line {line})")
+            Why::Written(_) => format!(in alloc; "by [{step}]"),
+            Why::Read(read, write) => {
+                let is_own = first.number == second.number;
+                let wrote = if is_own {
+                    "writes itself only later"
+                } else {
+                    "wrote"
+                };
+                format!(in alloc; "{read}, which {first} {wrote} (line {})", write.line)
             }
-            Why::Read { read, write } => {
-                format!(in alloc; "{read}, which {first} wrote (line {})", write.line)
-            }
-            Why::Missed { read, write } if self.part.also_reads(second, &read) => {
-                let (of, wid, line) = (self.whose(&read)?, write.wid, write.line);
-                format!(in alloc;
-                    "{read}{of}, and {second}, which reads it too, overwrites it with {wid} (line {line})"
-                )
-            }
-            Why::Missed { read, write } => {
-                let (key, wid, line) = (write.key, write.wid, write.line);
-                format!(in alloc;
-                    "{read}, the initial value, and {second} wrote {key} {wid} (line {line})"
-                )
-            }
-            Why::Behind { read, write, step } => {
-                let (of, step) = (self.whose(&read)?, self.number(step));
-                let (wid, line) = (write.wid, write.line);
-                format!(in alloc;
-                    "{read}{of}, which by [{step}] comes before {wid}, which {second} wrote (line {line})"
-                )
+            Why::Missed(read, write) => {
+                let (of, key, wid, line) = (self.whose(&read)?, write.key, write.wid, write.line);
+                if step > 0 {
+                    format!(in alloc;
+                        "{read}{of}, which by [{step}] comes before {wid}, which {second} wrote (line {line})"
+                    )
+                } else if has_same(&self.part.reads, second, &read) {
+                    format!(in alloc;
+                        "{read}{of}, and {second}, which reads it too, overwrites it with {wid} (line {line})"
+                    )
+                } else {
+                    format!(in alloc; "{read}{of}, and {second} wrote {key} {wid} (line {line})")
+                }
             }
         }
     }
 
-    /// The line that tells an edge.
-    fn edge_line(&self, indent: &str, edge: &Edge<'a>) -> Result<String, AllocError> {
-        let (first, second, reason) = (edge.first, edge.second, self.reason(edge)?);
-        if edge.is_missed() {
-            format!(in self.alloc; "{indent}{first}'s snapshot before {second}'s commit: {reason}")
-        } else {
-            format!(in self.alloc; "{indent}{first}'s commit before {second}'s snapshot: {reason}")
-        }
-    }
-
-    /// The line of a read that would be overwritten, if its writer committed first.
-    fn overwritten_line(&self, edge: &Edge<'a>) -> Result<String, AllocError> {
-        let (Why::Missed { read, write } | Why::Behind { read, write, .. }) = edge.why else {
-            return Ok(String::new(self.alloc));
-        };
-        let (reader, node, of) = (read.node, write.node, self.whose(&read)?);
-        let (wid, line) = (write.wid, write.line);
-        format!(in self.alloc;
-            "    {reader}'s snapshot comes after {node}'s commit, but {read}{of}, which {node} would have overwritten with {wid} (line {line}):"
-        )
-    }
-
-    /// Tells a way, a line for each of its edges.
+    /// Tells a way: a read that would be overwritten, if its writer committed first, and a line for
+    /// each edge.
     fn put_way(
         &self,
         lines: &mut Vec<String>,
         indent: &str,
         way: &Way<'a>,
     ) -> Result<(), AllocError> {
-        if let Some(edge) = &way.overwritten {
-            lines.push(self.overwritten_line(edge)?)?;
+        if let Some(edge) = &way.overwritten
+            && let Why::Missed(read, write) = edge.why
+        {
+            let (first, second, of) = (edge.first, edge.second, self.whose(&read)?);
+            let (wid, line) = (write.wid, write.line);
+            lines.push(format!(in self.alloc;
+                "    {first}'s snapshot comes after {second}'s commit, but {read}{of}, which {second} would have overwritten with {wid} (line {line}):"
+            )?)?;
         }
         for edge in &way.edges {
-            lines.push(self.edge_line(indent, edge)?)?;
+            let (first, second, reason) = (edge.first, edge.second, self.reason(edge)?);
+            let (from, to) = if edge.is_missed() {
+                ("snapshot", "commit")
+            } else {
+                ("commit", "snapshot")
+            };
+            lines.push(format!(in self.alloc;
+                "{indent}{first}'s {from} before {second}'s {to}: {reason}"
+            )?)?;
         }
         Ok(())
     }
 
-    /// That two write a key.
-    fn both(&self, writes: Writes<'a>) -> Result<String, AllocError> {
-        let (key, one, other) = (writes.first.key, writes.first.line, writes.second.line);
+    /// That two write a key: the lines of their first writes of it.
+    fn both(&self, key: &str, one: Node<'a>, other: Node<'a>) -> Result<String, AllocError> {
+        let part = self.part;
+        let (one, other) = (part.first_write(one, key), part.first_write(other, key));
+        let (one, other) = (one.map_or(0, |it| it.line), other.map_or(0, |it| it.line));
         format!(in self.alloc; "both write {key} (lines {one} and {other})")
     }
 
@@ -157,18 +133,17 @@ impl<'a, 'b> Telling<'a, 'b> {
         number: usize,
         step: &Step<'a>,
     ) -> Result<(), AllocError> {
-        let (alloc, one, other) = (self.alloc, step.writes.first.node, step.writes.second.node);
-        let number = format!(in alloc; "[{number}] ")?;
+        let (alloc, one, other) = (self.alloc, step.pair.first, step.pair.second);
+        let number = format!(in alloc; "[{}] ", self.number(Some(number)))?;
         if !step.is_forced && step.way.edges.len() == 1 {
             return self.put_way(lines, &number, &step.way);
         }
-        let shown = format!(in alloc; "{number}{one}'s commit before {other}'s snapshot:")?;
+        let mut shown = format!(in alloc; "{number}{one}'s commit before {other}'s snapshot:")?;
         if step.is_forced {
-            let both = self.both(step.writes)?;
-            lines.push(format!(in alloc; "{shown} {both}, and {other} cannot commit first:")?)?;
-        } else {
-            lines.push(shown)?;
+            let both = self.both(step.pair.key, one, other)?;
+            write!(shown, " {both}, and {other} cannot commit first:")?;
         }
+        lines.push(shown)?;
         self.put_way(lines, INDENT, &step.way)
     }
 
@@ -178,33 +153,19 @@ impl<'a, 'b> Telling<'a, 'b> {
         lines: &mut Vec<String>,
         ending: &Ending<'a>,
     ) -> Result<(), AllocError> {
+        lines.extend(self.in_short(ending)?)?;
         match ending {
-            Ending::Circle(way) => {
-                lines.extend(self.short_circle(way)?)?;
-                self.put_way(lines, "", way)
-            }
-            Ending::Neither(two) => {
-                lines.extend(self.short_neither(two)?)?;
-                self.put_neither(lines, two)
-            }
+            Ending::Circle(way) => self.put_way(lines, "", way),
+            Ending::Neither(two) => self.put_neither(lines, two),
         }
     }
 
-    /// The writes by which two exclude each other: those of the key of which both lost an update,
-    /// where they did.
-    fn told_writes(&self, two: &Neither<'a>) -> Option<Writes<'a>> {
-        let key = lost(two)?.key;
-        Some(Writes {
-            first: self.part.first_write(two.writes.first.node, key)?,
-            second: self.part.first_write(two.writes.second.node, key)?,
-        })
-    }
-
-    /// Tells two of which neither can commit first.
+    /// Tells two of which neither can commit first: that they write the key of which both lost an
+    /// update, where they did.
     fn put_neither(&self, lines: &mut Vec<String>, two: &Neither<'a>) -> Result<(), AllocError> {
-        let (alloc, writes) = (self.alloc, two.writes);
-        let (one, other) = (writes.first.node, writes.second.node);
-        let both = self.both(self.told_writes(two).unwrap_or(writes))?;
+        let (alloc, one, other) = (self.alloc, two.pair.first, two.pair.second);
+        let key = lost(two).map_or(two.pair.key, |read| read.key);
+        let both = self.both(key, one, other)?;
         lines.push(format!(in alloc;
             "{one} and {other} {both}, so one of them commits before the other takes its snapshot"
         )?)?;

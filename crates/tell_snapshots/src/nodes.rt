@@ -14,6 +14,18 @@ pub struct Node<'a> {
     pub at: &'a TxnPlace,
 }
 
+impl Node<'_> {
+    /// The number of its snapshot among the points of the part.
+    pub fn snapshot(&self) -> usize {
+        self.number.saturating_mul(2)
+    }
+
+    /// The number of its commit.
+    pub fn commit(&self) -> usize {
+        self.snapshot().saturating_add(1)
+    }
+}
+
 /// Its name.
 impl fmt::Display for Node<'_> {
     fn fmt<W: fmt::Write>(&self, f: &mut fmt::Formatter<W>) -> fmt::Result {
@@ -31,39 +43,30 @@ pub struct Access<'a> {
     pub wid: u64,
 }
 
-/// The first writes of a key that two nodes write.
-#[derive(Clone, Copy)]
-pub struct Writes<'a> {
-    pub first: Access<'a>,
-    pub second: Access<'a>,
-}
-
-impl<'a> Writes<'a> {
-    /// The same two the other way round.
-    pub fn turned(self) -> Writes<'a> {
-        Writes {
-            first: self.second,
-            second: self.first,
-        }
-    }
-
-    /// The numbers of the two nodes, the lesser one first.
-    pub fn numbers(&self) -> (usize, usize) {
-        let (one, other) = (self.first.node.number, self.second.node.number);
-        (one.min(other), one.max(other))
+/// What it reads.
+impl fmt::Display for Access<'_> {
+    fn fmt<W: fmt::Write>(&self, f: &mut fmt::Formatter<W>) -> fmt::Result {
+        let (node, key, wid, line) = (self.node, self.key, self.wid, self.line);
+        write!(f, "{node} reads {key} {wid} (line {line})")
     }
 }
 
-impl<'a> Access<'a> {
+impl Access<'_> {
+    /// Whether it is the node's, and of this key.
+    fn is_of(&self, node: Node<'_>, key: &str) -> bool {
+        self.node.number == node.number && self.key == key
+    }
+
     /// Whether another operation is of the same key and identity.
     pub fn is_same(&self, other: &Access<'_>) -> bool {
         self.wid == other.wid && self.key == other.key
     }
+}
 
-    /// Whether it is the node's, and of this key.
-    fn is_of(&self, node: usize, key: &str) -> bool {
-        self.node.number == node && self.key == key
-    }
+/// Whether one of these operations is the node's, and of the key and identity of another one.
+pub fn has_same(ops: &[Access<'_>], node: Node<'_>, other: &Access<'_>) -> bool {
+    ops.iter()
+        .any(|op| op.node.number == node.number && op.is_same(other))
 }
 
 /// The nodes of a part, the first read of each key from a node's snapshot, and all writes.
@@ -113,68 +116,41 @@ impl<'a> Part<'a> {
 
     fn add_op(&mut self, node: Node<'a>, op: &'a Op, line: usize) -> Result<(), AllocError> {
         let (Op::Read { key, wid } | Op::Write { key, wid }) = op;
-        let key = std::str::from_utf8(key.as_bytes()).unwrap_or("");
+        let (key, wid) = (std::str::from_utf8(key.as_bytes()).unwrap_or(""), *wid);
+        let mut all = self.reads.iter().chain(&self.writes);
+        let is_first = !all.any(|it| it.is_of(node, key));
         let access = Access {
             node,
             line,
             key,
-            wid: *wid,
+            wid,
         };
         if op.is_write() {
             self.writes.push(access)?;
-        } else if !self.has_op(node, key) {
+        } else if is_first {
             self.reads.push(access)?;
         }
         Ok(())
     }
 
-    /// Whether one of the operations is the node's, and of this key.
-    fn has_op(&self, node: Node<'_>, key: &str) -> bool {
-        let mut all = self.reads.iter().chain(&self.writes);
-        all.any(|it| it.is_of(node.number, key))
-    }
-
-    /// Whether a node reads this from its snapshot too.
-    pub fn also_reads(&self, node: Node<'_>, read: &Access<'_>) -> bool {
-        self.reads
-            .iter()
-            .any(|it| it.node.number == node.number && it.is_same(read))
-    }
-
-    /// Whether a node wrote what is read.
-    pub fn wrote(&self, node: Node<'_>, read: &Access<'_>) -> bool {
-        self.writes
-            .iter()
-            .any(|it| it.node.number == node.number && it.is_same(read))
-    }
-
     /// The first write of this key by a node.
     pub fn first_write(&self, node: Node<'_>, key: &str) -> Option<Access<'a>> {
-        self.writes
-            .iter()
-            .find(|it| it.is_of(node.number, key))
-            .copied()
+        let mut writes = self.writes.iter();
+        writes.find(|it| it.is_of(node, key)).copied()
     }
 
     /// The last write of this key by a node.
     pub fn last_write(&self, node: Node<'_>, key: &str) -> Option<Access<'a>> {
-        self.writes
-            .iter()
-            .rev()
-            .find(|it| it.is_of(node.number, key))
-            .copied()
+        let mut writes = self.writes.iter().rev();
+        writes.find(|it| it.is_of(node, key)).copied()
     }
 
-    /// The first writes of a key that both nodes write.
-    pub fn both_write(&self, one: Node<'_>, other: Node<'_>) -> Option<Writes<'a>> {
-        for write in &self.writes {
-            if write.node.number == one.number
-                && let Some(second) = self.first_write(other, write.key)
-            {
-                let first = *write;
-                return Some(Writes { first, second });
-            }
-        }
-        None
+    /// The first key that one node writes, of those that another one writes too.
+    pub fn both_write(&self, one: Node<'_>, other: Node<'_>) -> Option<&'a str> {
+        self.writes
+            .iter()
+            .filter(|write| write.node.number == one.number)
+            .map(|write| write.key)
+            .find(|key| self.first_write(other, key).is_some())
     }
 }

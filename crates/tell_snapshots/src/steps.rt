@@ -1,8 +1,7 @@
 //! Which of two that write a key commits first, where the other way round closes a circle.
 
-use crate::graph::{Edge, Graph, Why, commit, snapshot};
-use crate::nodes::{Node, Part, Writes};
-use crate::ways::{Way, Ways};
+use crate::graph::{Edge, Graph, Way, Why};
+use crate::nodes::{Node, Part, has_same};
 use std::alloc::{AllocError, Global};
 
 /// At most so many rounds of steps are gone.
@@ -11,10 +10,18 @@ const MANY_ROUNDS: usize = 100;
 /// What it costs to tell that a read would be overwritten.
 const READ_COST: usize = 1_000_000;
 
+/// Two nodes, and the first key that the first one writes of those that both write.
+#[derive(Clone, Copy)]
+pub struct Pair<'a> {
+    pub first: Node<'a>,
+    pub second: Node<'a>,
+    pub key: &'a str,
+}
+
 /// Of two that write a key the first commits before the second takes its snapshot.
 #[derive(Drop)]
 pub struct Step<'a> {
-    pub writes: Writes<'a>,
+    pub pair: Pair<'a>,
     /// Whether it is so since the second cannot commit first; else the way leads from the first
     /// one's commit to the second one's snapshot.
     pub is_forced: bool,
@@ -24,7 +31,7 @@ pub struct Step<'a> {
 /// Two that write a key, and why neither can commit first.
 #[derive(Drop)]
 pub struct Neither<'a> {
-    pub writes: Writes<'a>,
+    pub pair: Pair<'a>,
     pub not_first: Way<'a>,
     pub not_second: Way<'a>,
 }
@@ -37,82 +44,44 @@ pub enum Ending<'a> {
     Neither(Neither<'a>),
 }
 
-/// The steps that follow from what is known of the points of a part, and to what they lead.
-#[derive(Drop)]
-pub struct Refuted<'a> {
-    pub steps: Vec<Step<'a>>,
-    pub ending: Ending<'a>,
-}
-
-/// A part, the steps so far, and the writes of each two nodes, in both orders, of which no step says
-/// which commits first.
-#[derive(Drop)]
-struct Steps<'a, 'b> {
-    alloc: Global,
-    part: &'b Part<'a>,
-    steps: Vec<Step<'a>>,
-    open: Vec<Writes<'a>>,
-}
-
-/// What a round of steps comes to, and what the ending costs, where there is one.
-#[derive(Drop)]
-struct Round<'a> {
-    steps: Vec<Step<'a>>,
-    ending: Option<Ending<'a>>,
-    cost: usize,
-}
-
-impl<'a> Round<'a> {
-    /// Takes in why neither, or one, of two that write a key cannot commit first.
-    fn take(
-        &mut self,
-        writes: Writes<'a>,
-        not_first: Option<Way<'a>>,
-        not_second: Option<Way<'a>>,
-    ) -> Result<(), AllocError> {
-        let is_forced = true;
-        match (not_first, not_second) {
-            (None, None) => {}
-            (None, Some(way)) => self.steps.push(Step {
-                writes,
-                is_forced,
-                way,
-            })?,
-            (Some(way), None) => self.steps.push(Step {
-                writes: writes.turned(),
-                is_forced,
-                way,
-            })?,
-            (Some(not_first), Some(not_second)) => {
-                let cost = not_first.cost.saturating_add(not_second.cost);
-                if self.ending.is_none() || cost < self.cost {
-                    self.cost = cost;
-                    self.ending = Some(Ending::Neither(Neither {
-                        writes,
-                        not_first,
-                        not_second,
-                    }));
-                }
-            }
+impl Ending<'_> {
+    /// Whether it rests on a step.
+    pub fn rests_on(&self, step: usize) -> bool {
+        match self {
+            Ending::Circle(way) => way.rests_on(step),
+            Ending::Neither(two) => two.not_first.rests_on(step) || two.not_second.rests_on(step),
         }
-        Ok(())
     }
 }
 
-impl<'a, 'b> Steps<'a, 'b> {
-    /// Those of a part, of which there are none yet.
-    fn of(alloc: Global, part: &'b Part<'a>) -> Result<Steps<'a, 'b>, AllocError> {
+/// A part, what is known of its points, the steps so far, and each two nodes, in both orders, that
+/// write a key and of which no step says which commits first.
+#[derive(Drop)]
+struct Search<'a, 'b> {
+    alloc: Global,
+    part: &'b Part<'a>,
+    graph: Graph<'a>,
+    steps: Vec<Step<'a>>,
+    open: Vec<Pair<'a>>,
+}
+
+impl<'a, 'b> Search<'a, 'b> {
+    /// What a part itself says, with no step.
+    fn of(alloc: Global, part: &'b Part<'a>) -> Result<Search<'a, 'b>, AllocError> {
         let mut open = Vec::new(alloc);
-        for one in &part.nodes {
-            for other in &part.nodes {
-                if one.number != other.number {
-                    open.extend(part.both_write(*one, *other))?;
+        for first in part.nodes.iter().copied() {
+            for second in part.nodes.iter().copied() {
+                if first.number != second.number
+                    && let Some(key) = part.both_write(first, second)
+                {
+                    open.push(Pair { first, second, key })?;
                 }
             }
         }
-        Ok(Steps {
+        Ok(Search {
             alloc,
             part,
+            graph: Graph::of(alloc, part)?,
             steps: Vec::new(alloc),
             open,
         })
@@ -123,135 +92,143 @@ impl<'a, 'b> Steps<'a, 'b> {
     /// other's commit; then it is a way from that commit to that snapshot.
     fn way_against(
         &self,
-        ways: &Ways<'a, '_>,
         first: Node<'a>,
         second: Node<'a>,
     ) -> Result<Option<Way<'a>>, AllocError> {
-        let plain = ways.cost(snapshot(second), commit(first));
-        let best = self
-            .part
+        let (part, graph, from) = (self.part, &self.graph, second.commit());
+        let best = part
             .reads
             .iter()
             .filter(|read| read.node.number != first.number && read.node.number != second.number)
-            .filter(|read| self.part.wrote(first, read))
-            .filter_map(|read| Some((*read, self.part.first_write(second, read.key)?)))
-            .min_by_key(|(read, _)| ways.cost(commit(second), snapshot(read.node)));
+            .filter(|read| has_same(&part.writes, first, read))
+            .filter_map(|read| Some((*read, part.first_write(second, read.key)?)))
+            .min_by_key(|(read, _)| graph.cost(from, read.node.snapshot()));
+        let plain = graph.cost(second.snapshot(), first.commit());
         if let Some((read, write)) = best
-            && let cost = ways.cost(commit(second), snapshot(read.node))
-            && cost.saturating_add(READ_COST) < plain
+            && let to = read.node.snapshot()
+            && graph.cost(from, to).saturating_add(READ_COST) < plain
         {
-            let way = ways.way(self.alloc, commit(second), snapshot(read.node))?;
             let overwritten = Some(Edge {
                 first: read.node,
                 second,
-                why: Why::Missed { read, write },
+                why: Why::Missed(read, write),
+                step: None,
             });
+            let way = graph.way(self.alloc, from, to)?;
             return Ok(way.map(|way| Way { overwritten, ..way }));
         }
-        ways.way(self.alloc, snapshot(second), commit(first))
+        graph.way(self.alloc, second.snapshot(), first.commit())
     }
 
     /// Each two that write a key, of whom what is known shows which commits first.
-    fn put_shown(&self, ways: &Ways<'a, '_>, shown: &mut Vec<Step<'a>>) -> Result<(), AllocError> {
-        for writes in &self.open {
-            let (from, to) = (commit(writes.first.node), snapshot(writes.second.node));
-            if let Some(way) = ways.way(self.alloc, from, to)? {
+    fn shown(&self) -> Result<Vec<Step<'a>>, AllocError> {
+        let mut shown = Vec::new(self.alloc);
+        for pair in self.open.iter().copied() {
+            let (from, to) = (pair.first.commit(), pair.second.snapshot());
+            if let Some(way) = self.graph.way(self.alloc, from, to)? {
+                let is_forced = false;
                 shown.push(Step {
-                    writes: *writes,
-                    is_forced: false,
+                    pair,
+                    is_forced,
                     way,
                 })?;
             }
         }
-        Ok(())
+        Ok(shown)
     }
 
-    /// Judges each two that write a key, of whom it is not known which commits first.
-    fn judge(&self, ways: &Ways<'a, '_>, round: &mut Round<'a>) -> Result<(), AllocError> {
-        for writes in &self.open {
-            let (one, other) = (writes.first.node, writes.second.node);
-            if one.number < other.number {
-                let not_first = self.way_against(ways, one, other)?;
-                let not_second = self.way_against(ways, other, one)?;
-                round.take(*writes, not_first, not_second)?;
+    /// Each two that write a key, of whom one cannot commit first; and the two of whom neither can,
+    /// where there are such: those that are told for least.
+    fn forced(&self) -> Result<(Vec<Step<'a>>, Option<Neither<'a>>), AllocError> {
+        let (mut forced, mut neither, mut least) = (Vec::new(self.alloc), None, usize::MAX);
+        for pair in self.open.iter().copied() {
+            let Pair { first, second, key } = pair;
+            if first.number > second.number {
+                continue;
+            }
+            let is_forced = true;
+            match (
+                self.way_against(first, second)?,
+                self.way_against(second, first)?,
+            ) {
+                (None, None) => {}
+                (None, Some(way)) => forced.push(Step {
+                    pair,
+                    is_forced,
+                    way,
+                })?,
+                (Some(way), None) => {
+                    let (first, second) = (second, first);
+                    let pair = Pair { first, second, key };
+                    forced.push(Step {
+                        pair,
+                        is_forced,
+                        way,
+                    })?;
+                }
+                (Some(not_first), Some(not_second)) => {
+                    let cost = not_first.cost.saturating_add(not_second.cost);
+                    if cost < least {
+                        least = cost;
+                        neither = Some(Neither {
+                            pair,
+                            not_first,
+                            not_second,
+                        });
+                    }
+                }
             }
         }
-        Ok(())
+        Ok((forced, neither))
     }
 
     /// Takes a step, with what it adds to what is known.
-    fn take(&mut self, graph: &mut Graph<'a>, taken: Step<'a>) -> Result<(), AllocError> {
-        let step = self.steps.len();
-        let (first, second, key) = (
-            taken.writes.first.node,
-            taken.writes.second.node,
-            taken.writes.first.key,
-        );
-        graph.add(Edge {
-            first,
-            second,
-            why: Why::Written { key, step },
-        });
-        for read in &self.part.reads {
+    fn take(&mut self, taken: Step<'a>) -> Result<(), AllocError> {
+        let Pair { first, second, key } = taken.pair;
+        let step = Some(self.steps.len());
+        self.graph.add(first, second, Why::Written(key), step);
+        for read in self.part.reads.iter().copied() {
             if read.node.number != second.number
-                && self.part.wrote(first, read)
+                && has_same(&self.part.writes, first, &read)
                 && let Some(write) = self.part.last_write(second, read.key)
             {
-                let read = *read;
-                graph.add(Edge {
-                    first: read.node,
-                    second,
-                    why: Why::Behind { read, write, step },
-                });
+                let why = Why::Missed(read, write);
+                self.graph.add(read.node, second, why, step);
             }
         }
-        let numbers = taken.writes.numbers();
-        self.open.retain(|writes| writes.numbers() != numbers);
+        let two = [first.number, second.number];
+        self.open.retain(|it| !two.contains(&it.first.number) || !two.contains(&it.second.number));
         self.steps.push(taken)?;
         Ok(())
     }
-
-    /// A round: a circle; else steps that what is known shows; else those that are forced.
-    fn go_round(&self, graph: &Graph<'a>) -> Result<Round<'a>, AllocError> {
-        let ways = Ways::of(self.alloc, graph)?;
-        let mut round = Round {
-            steps: Vec::new(self.alloc),
-            ending: ways.circle(self.alloc)?.map(Ending::Circle),
-            cost: 0,
-        };
-        if round.ending.is_none() {
-            self.put_shown(&ways, &mut round.steps)?;
-            if round.steps.is_empty() {
-                self.judge(&ways, &mut round)?;
-            }
-        }
-        Ok(round)
-    }
 }
 
-/// Why the points of a part have no order, by what is known of them and steps that follow; `None`
-/// where these do not show it.
+/// Why the points of a part have no order: the steps that follow from what is known of them, and to
+/// what they lead; `None` where these do not show it. In each round a circle is sought; else steps
+/// that what is known shows; else those that are forced.
 pub fn refute<'a>(
     alloc: Global,
     part: &Part<'a>,
-    graph: &mut Graph<'a>,
-) -> Result<Option<Refuted<'a>>, AllocError> {
-    let mut steps = Steps::of(alloc, part)?;
+) -> Result<Option<(Vec<Step<'a>>, Ending<'a>)>, AllocError> {
+    let mut search = Search::of(alloc, part)?;
     for _ in 0..MANY_ROUNDS {
-        let Round {
-            steps: more,
-            ending,
-            ..
-        } = steps.go_round(graph)?;
-        if let Some(ending) = ending {
-            let steps = steps.steps;
-            return Ok(Some(Refuted { steps, ending }));
+        search.graph.learn_costs();
+        if let Some(circle) = search.graph.circle(alloc)? {
+            return Ok(Some((search.steps, Ending::Circle(circle))));
         }
-        if more.is_empty() {
+        let mut steps = search.shown()?;
+        if steps.is_empty() {
+            let (forced, neither) = search.forced()?;
+            if let Some(two) = neither {
+                return Ok(Some((search.steps, Ending::Neither(two))));
+            }
+            steps = forced;
+        }
+        if steps.is_empty() {
             break;
         }
-        for step in more {
-            steps.take(graph, step)?;
+        for step in steps {
+            search.take(step)?;
         }
     }
     Ok(None)

@@ -1,15 +1,13 @@
 //! What is told of a part that has no snapshot order.
 
-use crate::edges::known_edges;
+use crate::graph::Way;
 use crate::lines::{Telling, lost};
-use crate::names::{either, name_of, shape_of};
 use crate::nodes::Part;
-use crate::steps::{Ending, Refuted, refute};
-use crate::ways::Way;
+use crate::steps::{Ending, Step, refute};
 use log_lines::LogPlaces;
 use session_log::Session;
 use std::alloc::{AllocError, Global};
-use tell_reasons::names::{NO_EDGES, Shape, followed, with_orders};
+use tell_reasons::names::{MISSED, NO_EDGES, Shape, WRITTEN, cycle_name, followed, with_orders};
 
 /// Of a part with more committed transactions, or with more operations in them, nothing is told.
 const MANY_NODES: usize = 48;
@@ -27,63 +25,79 @@ pub struct Told {
     pub known_as: Option<&'static str>,
 }
 
-/// Marks the steps that a way rests on.
-fn mark(is_needed: &mut [bool], way: &Way<'_>) {
-    for step in way.edges.iter().filter_map(|edge| edge.step()) {
-        if let Some(is_needed) = is_needed.get_mut(step) {
-            *is_needed = true;
-        }
-    }
+/// What the edges of a way are.
+fn shape_of(way: &Way<'_>) -> Shape {
+    way.edges
+        .iter()
+        .fold(NO_EDGES, |line, edge| followed(line, edge.shape()))
 }
 
-/// Which steps the ending rests on, and those steps in turn.
-fn needed_steps(alloc: Global, refuted: &Refuted<'_>) -> Result<Vec<bool>, AllocError> {
-    let mut is_needed = vec![in alloc; false; refuted.steps.len()]?;
-    match &refuted.ending {
-        Ending::Circle(way) => mark(&mut is_needed, way),
-        Ending::Neither(two) => {
-            mark(&mut is_needed, &two.not_first);
-            mark(&mut is_needed, &two.not_second);
-        }
-    }
-    for (number, step) in refuted.steps.iter().enumerate().rev() {
-        if is_needed.get(number).copied().unwrap_or(false) {
-            mark(&mut is_needed, &step.way);
-        }
-    }
-    Ok(is_needed)
+/// The circle that would close if one of two that write a key committed first, by the way against
+/// that.
+fn supposed(way: &Way<'_>) -> Shape {
+    let last = match way.overwritten {
+        Some(_) => MISSED,
+        None => WRITTEN,
+    };
+    followed(shape_of(way), last)
 }
 
-/// The name of what steps of these edges lead to, where it has one.
+/// The name of what steps of these edges lead to, where it has one. Two that write a key have the
+/// name of either of the circles that would close if one of them committed first, where as many of
+/// their edges miss a write, as names have it. Of the edges of a circle no two that follow each other
+/// miss a write.
 fn name(ending: &Ending<'_>, orders: Shape) -> Option<&'static str> {
     let circle = match ending {
         Ending::Circle(way) => shape_of(way),
         Ending::Neither(two) if lost(two).is_some() => return Some("lost update"),
-        Ending::Neither(two) => either(two)?,
+        Ending::Neither(two) => {
+            let (one, other) = (supposed(&two.not_first), supposed(&two.not_second));
+            if one.missed.min(2) != other.missed.min(2) {
+                return None;
+            }
+            Shape {
+                missed: one.missed,
+                ..followed(one, other)
+            }
+        }
     };
-    Some(name_of(with_orders(circle, orders)))
+    Some(cycle_name(Shape {
+        first: false,
+        beside: false,
+        ..with_orders(circle, orders)
+    }))
 }
 
-/// Tells what a part comes to.
-fn tell<'a>(alloc: Global, part: &Part<'a>, refuted: &Refuted<'a>) -> Result<Told, AllocError> {
-    let is_needed = needed_steps(alloc, refuted)?;
+/// Tells what a part comes to by these steps: those that it rests on, and those on which these rest
+/// in turn.
+fn tell<'a>(
+    alloc: Global,
+    part: &Part<'a>,
+    steps: &[Step<'a>],
+    ending: &Ending<'a>,
+) -> Result<Told, AllocError> {
+    let mut needed: Vec<(usize, &Step<'a>)> = Vec::new(alloc);
+    for (number, step) in steps.iter().enumerate().rev() {
+        let mut later = needed.iter();
+        if ending.rests_on(number) || later.any(|it| it.1.way.rests_on(number)) {
+            needed.push((number, step))?;
+        }
+    }
     let telling = Telling {
         alloc,
         part,
-        is_needed: &is_needed,
+        steps: &needed,
     };
     let (mut lines, mut steps, mut orders) = (Vec::new(alloc), Vec::new(alloc), NO_EDGES);
-    telling.put_ending(&mut lines, &refuted.ending)?;
-    for (number, (step, is_needed)) in refuted.steps.iter().zip(&is_needed).enumerate() {
-        if *is_needed {
-            telling.put_step(&mut steps, telling.number(number), step)?;
-            orders = followed(orders, shape_of(&step.way));
-        }
+    telling.put_ending(&mut lines, ending)?;
+    for (number, step) in needed.iter().rev() {
+        telling.put_step(&mut steps, *number, step)?;
+        orders = followed(orders, shape_of(&step.way));
     }
     Ok(Told {
         lines,
         steps,
-        known_as: name(&refuted.ending, orders),
+        known_as: name(ending, orders),
     })
 }
 
@@ -99,9 +113,8 @@ pub fn tell_snapshots(
     if part.nodes.len() > MANY_NODES || ops > MANY_OPS {
         return Ok(None);
     }
-    let mut graph = known_edges(alloc, &part)?;
-    match refute(alloc, &part, &mut graph)? {
-        Some(refuted) => Ok(Some(tell(alloc, &part, &refuted)?)),
+    match refute(alloc, &part)? {
+        Some((steps, ending)) => Ok(Some(tell(alloc, &part, &steps, &ending)?)),
         None => Ok(None),
     }
 }

@@ -1,10 +1,9 @@
 -- An explanation as a graph in the language of Graphviz: a box for each transaction that takes
 -- part, with those of its operations that reasons name, in their lines, and an arrow for each edge,
 -- labelled and coloured by its kind.
-use Rattle.std.specs.Prelude.{ℕ, ◌==◌, ◌&&◌, ◌||◌, Bool, false, List, [], ◌∷◌, ◌++◌}
-use Rattle.std.specs.Prelude.{length, codes, decimal}
-use Rattle.std.specs.List.{filter, flat_map, list_any, range_with_len}
-use Rattle.log_definitions.specs.Serial.{ops_of}
+use Rattle.std.specs.Prelude.{ℕ, zero, suc, ◌==◌, ◌&&◌, ◌||◌, Bool, false, if◌then◌else◌, List, [], ◌∷◌}
+use Rattle.std.specs.Prelude.{◌++◌, length, codes, decimal}
+use Rattle.std.specs.List.{filter, flat_map, list_any}
 use Rattle.log_definitions.specs.Numbers.{log_of}
 use Rattle.log_lines.specs.declared.placed.PlacedHistory.{PlacedHistory}
 use Rattle.reasons.specs.declared.reason.Reason.{Reason}
@@ -26,34 +25,22 @@ reason_names a b (reason.Overwritten read overwrites) = (a, read) ∷ (b, overwr
 reason_names a b (reason.Initial read begins) = (a, read) ∷ (b, begins) ∷ []
 reason_names a b reason.Moments = []
 
-abbrev pub why_names : ℕ → ℕ → Why → List (ℕ × ℕ)
-why_names a b (why.Known r) = reason_names a b r
-why_names a b (why.Forced number o) = []
-why_names a b (why.Chosen o) = []
-
 abbrev pub item_names : Item → List (ℕ × ℕ)
-item_names (Edge a b w) = why_names a b w
+item_names (Edge a b (why.Known r)) = reason_names a b r
 item_names _ = []
 
 -- whether an operation of the node stands among these
 abbrev pub is_named : List (ℕ × ℕ) → ℕ → ℕ → Bool
 is_named named v i = list_any (λ x. (x.0 == v) && (x.1 == i)) named
 
--- whether some item names this operation of the node
-abbrev pub names : List Item → ℕ → ℕ → Bool
-names items v i = is_named (flat_map item_names items) v i
-
--- whether one of these items does
+-- whether one of these items names this operation of the node
 abbrev pub one_names : List Item → ℕ → ℕ → Bool
 one_names items v i = list_any (λ x. is_named (item_names x) v i) items
 
--- whether some item is an edge of the node
+-- whether an item is an edge of the node
 abbrev pub is_edge_of : ℕ → Item → Bool
 is_edge_of v (Edge a b w) = (a == v) || (b == v)
 is_edge_of v _ = false
-
-abbrev pub takes_part : List Item → ℕ → Bool
-takes_part items v = list_any (is_edge_of v) items
 
 -- ---- boxes, and lines in their place
 -- before an operation: in a box the line break of a label, a backslash and n
@@ -61,14 +48,15 @@ abbrev pub before_op : Look → List ℕ
 before_op look.Box = codes "\\n"
 before_op look.Line = codes "  "
 
-abbrev pub op_label : Look → PlacedHistory → ℕ → ℕ → List ℕ
-op_label look log v i =
-    before_op look ++ listed_text (op_at log.history.now v i) ++ op_in_line log v i
+-- an operation and its line, where one of these items names it
+abbrev pub op_label : Look → PlacedHistory → List Item → ℕ → ℕ → List ℕ
+op_label look log items v i = if one_names items v i
+    then before_op look ++ listed_text (op_at log.history.now v i) ++ op_in_line log v i else []
 
--- the first so many operations of the node, without those that fail the test
-unfoldable pub op_labels : Look → PlacedHistory → ℕ → (ℕ → Bool) → ℕ → List ℕ
-op_labels look log v test count =
-    flat_map (op_label look log v) (filter test (range_with_len 0 count))
+-- the first so many operations of the node, those that these items name
+abbrev pub op_labels : Look → PlacedHistory → List Item → ℕ → ℕ → List ℕ
+op_labels look log items v zero = []
+op_labels look log items v (suc n) = op_labels look log items v n ++ op_label look log items v n
 
 -- with these labels: `"2.1" [label="2.1\nr x 7 (line 12)"];`, or `    2.1  r x 7 (line 12)`
 abbrev pub box_with : Look → PlacedHistory → ℕ → List ℕ → List ℕ
@@ -76,14 +64,17 @@ box_with look.Box log v labels = codes "\"" ++ named log v ++ codes "\" [label=\
     ++ labels ++ codes "\"];\n"
 box_with look.Line log v labels = codes "    " ++ named log v ++ labels ++ codes "\n"
 
-abbrev pub box : Look → PlacedHistory → List Item → ℕ → List ℕ
-box look log items v =
-    box_with look log v (op_labels look log v (names items v) (length (ops_of log.history.now v)))
+-- a node takes part that has edges: with those of its operations that these name
+abbrev pub box : Look → PlacedHistory → ℕ → List Item → List ℕ
+box look log v [] = []
+box look log v (e ∷ edges) = box_with look log v
+    (op_labels look log (e ∷ edges) v (length ((log_of log.history.now).ops v)))
 
--- the boxes of the first so many nodes, without those that take no part
-unfoldable pub boxes : Look → PlacedHistory → List Item → ℕ → List ℕ
-boxes look log items count =
-    flat_map (box look log items) (filter (takes_part items) (range_with_len 1 count))
+-- the boxes of the first so many nodes
+abbrev pub boxes : Look → PlacedHistory → List Item → ℕ → List ℕ
+boxes look log items zero = []
+boxes look log items (suc n) = boxes look log items n
+    ++ box look log (suc n) (filter (is_edge_of (suc n)) items)
 
 -- a line for each transaction that takes part
 abbrev pub table_text : PlacedHistory → List Item → List ℕ
@@ -104,20 +95,14 @@ why_look log (why.Known r) = reason_look r
 why_look log (why.Forced number o) = codes "forced [" ++ decimal number ++ codes "]\" color=\"orange"
 why_look log (why.Chosen o) = versions_text log o ++ codes "\" color=\"gray"
 
--- `"1.1" -> "2.1" [label="read" color="blue"];`
-abbrev pub arrow_text : PlacedHistory → ℕ → ℕ → Why → List ℕ
-arrow_text log a b w = codes "\"" ++ named log a ++ codes "\" -> \"" ++ named log b
-    ++ codes "\" [label=\"" ++ why_look log w ++ codes "\"];\n"
-
+-- of an edge: `"1.1" -> "2.1" [label="read" color="blue"];`
 abbrev pub arrow : PlacedHistory → Item → List ℕ
-arrow log (Edge a b w) = arrow_text log a b w
+arrow log (Edge a b w) = codes "\"" ++ named log a ++ codes "\" -> \"" ++ named log b
+    ++ codes "\" [label=\"" ++ why_look log w ++ codes "\"];\n"
 arrow log _ = []
-
-unfoldable pub arrows : PlacedHistory → List Item → List ℕ
-arrows log items = flat_map (arrow log) items
 
 -- two arrows between the same boxes are drawn as one
 abbrev pub graph_text : PlacedHistory → List Item → List ℕ
 graph_text log items =
     codes "strict digraph explanation {\nnode [shape=box];\n" ++ boxes look.Box log items
-    (log_of log.history.now).nodes ++ arrows log items ++ codes "}\n"
+    (log_of log.history.now).nodes ++ flat_map (arrow log) items ++ codes "}\n"

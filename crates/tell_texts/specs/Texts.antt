@@ -22,26 +22,17 @@ versions_line log o = versions_text log o ++ codes ":\n"
 abbrev pub reader_text : PlacedHistory → ChainOrder → ℕ → ℕ → List ℕ
 reader_text log o u v = if u == o.second then [] else since_text log o u v
 
-abbrev pub step_lines : PlacedHistory → ℕ → ChainOrder → ℕ → ℕ → List ℕ
-step_lines log number o u v = codes "[" ++ decimal number ++ codes "] " ++ versions_line log o
+-- of several leaves how many, where that is more than are told
+abbrev pub item_line : PlacedHistory → Item → List ℕ
+item_line log (Step number o u v) = codes "[" ++ decimal number ++ codes "] " ++ versions_line log o
     ++ reader_text log o u v
-
-abbrev pub order_line : PlacedHistory → ChainOrder → List ℕ
-order_line log o = codes "suppose " ++ versions_line log o
-
--- that a tree has several leaves; how many, where that is more than are told
-abbrev pub leaves_line : ℕ → List ℕ
-leaves_line count = if nat_lt 1000 count
+item_line log (Edge a b why) = why_text log a b why
+item_line log (Cycle start edges) = codes "cycle from " ++ named log start ++ codes ":\n"
+item_line log (Decided depth o) = codes "suppose " ++ versions_line log o
+item_line log (Leaves count) = if nat_lt 1000 count
     then codes "proof: whichever of these versions came first, a cycle closes, " ++ decimal count
     ++ codes " in all; the first 1000 of them:\n"
     else codes "proof: whichever of these versions came first, a cycle closes:\n"
-
-abbrev pub item_line : PlacedHistory → Item → List ℕ
-item_line log (Step number o u v) = step_lines log number o u v
-item_line log (Edge a b why) = why_text log a b why
-item_line log (Cycle start edges) = codes "cycle from " ++ named log start ++ codes ":\n"
-item_line log (Decided depth o) = order_line log o
-item_line log (Leaves count) = leaves_line count
 
 -- whether an edge behind an item is of a step's walk, where one in its place is or is not
 abbrev pub walks_behind : Bool → Item → Bool
@@ -49,15 +40,11 @@ walks_behind walks (Step number o u v) = true
 walks_behind walks (Edge a b why) = walks
 walks_behind walks _ = false
 
--- how deep an edge stands, where so many choices are decided above it
-abbrev pub edge_depth : ℕ → Bool → ℕ
-edge_depth before walks = if walks then 2 else before
-
--- how deep an item stands, where so many choices are decided before it; and how many are decided
--- behind it
+-- how deep an item stands, where so many choices are decided before it, and an edge in its place is
+-- or is not of a step's walk; and how many are decided behind it
 abbrev pub depth_at : ℕ → Bool → Item → ℕ
 depth_at before walks (Decided depth o) = depth - 1
-depth_at before walks (Edge a b why) = edge_depth before walks
+depth_at before walks (Edge a b why) = if walks then 2 else before
 depth_at before walks _ = before
 
 abbrev pub depth_behind : ℕ → Item → ℕ

@@ -20,18 +20,6 @@ fn put_indent(out: &mut Vec<u8>, depth: usize) -> Result<(), AllocError>
     Ok(())
 }
 
-/// Appends which of two versions of a key comes first, and ends the line.
-fn put_order(
-    out: &mut Vec<u8>,
-    log: &PlacedHistory<'_>,
-    order: ChainOrder,
-) -> Result<(), AllocError>
-    ensures text { OnOk result (out.new.items ≡ out.old.items ++ spec.versions_line log.now order) }
-{
-    put_versions(out, log, order)?;
-    say!(out, log; Text(b":\n"))
-}
-
 /// Appends by which read a step's walk ends at this node, where that is not the writer of the
 /// second version itself.
 fn put_reader(
@@ -51,48 +39,7 @@ fn put_reader(
     }
 }
 
-/// Appends the lines of a forced step, behind which its walk stands.
-fn put_step(
-    out: &mut Vec<u8>,
-    log: &PlacedHistory<'_>,
-    number: usize,
-    order: ChainOrder,
-    source: NodeIx,
-    target: NodeIx,
-) -> Result<(), AllocError>
-    ensures text { OnOk result (out.new.items
-        ≡ out.old.items ++ spec.step_lines log.now number order source target) }
-{
-    say!(out, log; Text(b"["), Number(number as u64), Text(b"] "))?;
-    put_order(out, log, order)?;
-    put_reader(out, log, &order, source, target)
-}
-
-/// Appends the line of what is supposed.
-fn put_supposed(
-    out: &mut Vec<u8>,
-    log: &PlacedHistory<'_>,
-    order: ChainOrder,
-) -> Result<(), AllocError>
-    ensures text { OnOk result (out.new.items ≡ out.old.items ++ spec.order_line log.now order) }
-{
-    say!(out, log; Text(b"suppose "))?;
-    put_order(out, log, order)
-}
-
-/// Appends that there are several leaves; how many, where that is more than are told.
-fn put_leaves(out: &mut Vec<u8>, log: &PlacedHistory<'_>, count: usize) -> Result<(), AllocError>
-    ensures text { OnOk result (out.new.items ≡ out.old.items ++ spec.leaves_line count) }
-{
-    if 1000 < count {
-        say!(out, log; Text(b"proof: whichever of these versions came first, a cycle closes, "),
-            Number(count as u64), Text(b" in all; the first 1000 of them:\n"))
-    } else {
-        say!(out, log; Text(b"proof: whichever of these versions came first, a cycle closes:\n"))
-    }
-}
-
-/// Appends the lines of an item.
+/// Appends the lines of an item; of several leaves how many, where that is more than are told.
 fn put_item(out: &mut Vec<u8>, log: &PlacedHistory<'_>, item: Item) -> Result<(), AllocError>
     ensures text { OnOk result (out.new.items ≡ out.old.items ++ spec.item_line log.now item) }
 {
@@ -102,13 +49,31 @@ fn put_item(out: &mut Vec<u8>, log: &PlacedHistory<'_>, item: Item) -> Result<()
             order,
             source,
             target,
-        } => put_step(out, log, number, order, source, target),
+        } => {
+            say!(out, log; Text(b"["), Number(number as u64), Text(b"] "))?;
+            put_versions(out, log, order)?;
+            say!(out, log; Text(b":\n"))?;
+            put_reader(out, log, &order, source, target)
+        }
         Item::Edge { first, second, why } => put_edge(out, log, first, second, why),
         Item::Cycle { start, edges: _ } => {
             say!(out, log; Text(b"cycle from "), Node(start), Text(b":\n"))
         }
-        Item::Decided { depth: _, order } => put_supposed(out, log, order),
-        Item::Leaves { count } => put_leaves(out, log, count),
+        Item::Decided { depth: _, order } => {
+            say!(out, log; Text(b"suppose "))?;
+            put_versions(out, log, order)?;
+            say!(out, log; Text(b":\n"))
+        }
+        Item::Leaves { count } => {
+            if 1000 < count {
+                say!(out, log;
+                    Text(b"proof: whichever of these versions came first, a cycle closes, "),
+                    Number(count as u64), Text(b" in all; the first 1000 of them:\n"))
+            } else {
+                say!(out, log;
+                    Text(b"proof: whichever of these versions came first, a cycle closes:\n"))
+            }
+        }
     }
 }
 
@@ -123,20 +88,13 @@ fn walks_behind(walks: bool, item: Item) -> bool
     }
 }
 
-/// How deep an edge stands, where so many choices are decided above it.
-fn edge_depth(before: usize, walks: bool) -> usize
-    ensures { result ≡ spec.edge_depth before walks }
-{
-    if walks { 2 } else { before }
-}
-
 /// How deep an item stands, where so many choices are decided before it.
 fn depth_at(before: usize, walks: bool, item: Item) -> usize
     ensures { result ≡ spec.depth_at before walks item }
 {
     match item {
         Item::Decided { depth, order: _ } => depth.saturating_sub(1),
-        Item::Edge { .. } => edge_depth(before, walks),
+        Item::Edge { .. } if walks => 2,
         _ => before,
     }
 }
