@@ -7,51 +7,33 @@ use std::alloc::{AllocError, Global};
 use std::collections::BTreeMap;
 use write_chains::{Chain, Chains};
 
-/// An order of two chains of a key: their places among its chains, the lesser one first, and whether
-/// they stand the other way round.
-#[derive(Clone, Copy, PartialEq, Eq, PartialOrd, Ord)]
-pub struct Order {
+/// Two chains of a key, the one that stands first, and the other.
+#[derive(Clone, Copy)]
+pub struct Order<'a> {
     pub key: usize,
-    places: (usize, usize),
-    is_turned: bool,
+    pub first: &'a Chain,
+    pub second: &'a Chain,
 }
 
-impl Order {
-    /// That of a key's chain at one place before that at another.
-    fn of(key: usize, first: usize, second: usize) -> Order {
-        Order {
-            key,
-            places: (first.min(second), first.max(second)),
-            is_turned: second < first,
-        }
-    }
+/// Which order it is: its key, the places of the two chains among those of the key, the lesser one
+/// first, and whether they stand the other way round.
+pub type OrderName = (usize, (usize, usize), bool);
 
+impl<'a> Order<'a> {
     /// The same two the other way round.
-    pub fn turned(self) -> Order {
+    pub fn turned(self) -> Order<'a> {
         Order {
-            is_turned: !self.is_turned,
+            first: self.second,
+            second: self.first,
             ..self
         }
     }
-
-    /// The chain that stands first, and the other one.
-    pub fn chains<'a>(self, chains: &'a Chains<'_>) -> Option<(&'a Chain, &'a Chain)> {
-        if chains.history().keys() <= self.key {
-            return None;
-        }
-        let all = chains.chains_of(self.key);
-        let (one, other) = (all.get(self.places.0)?, all.get(self.places.1)?);
-        Some(if self.is_turned {
-            (other, one)
-        } else {
-            (one, other)
-        })
-    }
 }
 
-/// What the cheapest walks against an order cost: that of a step, and that of a cycle.
+/// An order, and what the cheapest walks against it cost: that of a step, and that of a cycle.
 #[derive(Clone, Copy)]
-pub struct Cost {
+pub struct Refuted<'a> {
+    pub order: Order<'a>,
     pub step: usize,
     pub cycle: usize,
 }
@@ -70,27 +52,16 @@ impl End {
         End { node, cost }
     }
 
-    /// At who reads a chain's last version.
-    fn at_reader(search: &Search, chain: &Chain, more: usize) -> Option<End> {
-        let ends = chain
-            .readers
-            .iter()
-            .map(|reader| End::at(search, *reader, more));
-        ends.min_by_key(|end| end.cost)
-    }
-
-    /// Of the walk of a cycle that goes on from this chain to those behind it: at who reads its last
-    /// version, or at its writer where nobody does.
-    pub fn of_cycle(search: &Search, chain: &Chain) -> End {
-        End::at_reader(search, chain, 0).unwrap_or(End::at(search, chain.tail, 0))
-    }
-
-    /// Of the walk of a step that refutes this chain's standing before another: at its last writer,
-    /// or at who reads its last version, which costs one more, since that has to be told.
-    pub fn of_step(search: &Search, chain: &Chain) -> End {
-        let own = End::at(search, chain.tail, usize::from(chain.head != chain.tail));
-        match End::at_reader(search, chain, 1) {
-            Some(end) if end.cost < own.cost => end,
+    /// Of the walk that refutes a chain's standing before another: at who reads its last version, or
+    /// at its last writer. A cycle goes on from a reader, if there is one. Of a step it costs one more
+    /// that it is not the chain's first writer, since that has to be told.
+    pub fn of(search: &Search, chain: &Chain, is_step: bool) -> End {
+        let readers = chain.readers.iter();
+        let ends = readers.map(|reader| End::at(search, *reader, usize::from(is_step)));
+        let more = usize::from(is_step && chain.head != chain.tail);
+        let own = End::at(search, chain.tail, more);
+        match ends.min_by_key(|end| end.cost) {
+            Some(end) if !is_step || end.cost < own.cost => end,
             _ => own,
         }
     }
@@ -98,46 +69,49 @@ impl End {
 
 /// Puts in, of the orders in which others stand before the chain of a key at this place, those that a
 /// search from its head refutes.
-fn put_refuted(
-    refuted: &mut BTreeMap<Order, Cost>,
+fn put_refuted<'a>(
+    refuted: &mut BTreeMap<OrderName, Refuted<'a>>,
     search: &Search,
     key: usize,
-    others: &[Chain],
-    second: usize,
+    all: &'a [Chain],
+    place: usize,
 ) -> Result<(), AllocError> {
-    for (first, chain) in others.iter().enumerate() {
-        let cost = Cost {
-            step: End::of_step(search, chain).cost,
-            cycle: End::of_cycle(search, chain).cost,
-        };
-        if first != second && cost.step < FAR && cost.cycle < FAR {
-            refuted.insert(Order::of(key, first, second), cost)?;
+    let Some(second) = all.get(place) else {
+        return Ok(());
+    };
+    for (other, first) in all.iter().enumerate() {
+        let order = Order { key, first, second };
+        let step = End::of(search, first, true).cost;
+        let cycle = End::of(search, first, false).cost;
+        if other != place && step < FAR && cycle < FAR {
+            let name = (key, (other.min(place), other.max(place)), place < other);
+            refuted.insert(name, Refuted { order, step, cycle })?;
         }
     }
     Ok(())
 }
 
 /// The orders that what the log shows and the first `limit` kept orders refute.
-pub fn refuted_orders(
+pub fn refuted_orders<'a>(
     alloc: Global,
-    chains: &Chains<'_>,
+    chains: &'a Chains<'_>,
     hops: &Hops,
     limit: usize,
-) -> Result<BTreeMap<Order, Cost>, AllocError> {
+) -> Result<BTreeMap<OrderName, Refuted<'a>>, AllocError> {
     let mut refuted = BTreeMap::new(alloc);
     let mut search = Search::new(alloc, hops.places())?;
     for head in 1..hops.nodes {
         let mut is_searched = false;
         for key in 0..chains.history().keys() {
             let all = chains.chains_of(key);
-            let Ok(second) = all.binary_search_by_key(&head, |chain| chain.head.get()) else {
+            let Ok(place) = all.binary_search_by_key(&head, |chain| chain.head.get()) else {
                 continue;
             };
             if !is_searched {
                 search.run(hops, node_at(head), limit)?;
                 is_searched = true;
             }
-            put_refuted(&mut refuted, &search, key, all, second)?;
+            put_refuted(&mut refuted, &search, key, all, place)?;
         }
     }
     Ok(refuted)

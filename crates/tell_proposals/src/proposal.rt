@@ -46,54 +46,43 @@ fn modesty(kinds: &[Kind]) -> (usize, usize) {
     (freedom, weakness)
 }
 
-/// The rounds of a history with these chains, a search among them, which of the kept orders are
+/// The rounds of a history, a search among them, which of the kept orders are
 /// needed, and the steps so far, the last one first.
 #[derive(Drop)]
 struct Telling<'a> {
     alloc: Global,
-    chains: &'a Chains<'a>,
-    rounds: &'a Rounds,
+    rounds: &'a Rounds<'a>,
     search: Search,
     is_needed: Vec<bool>,
     steps: Vec<ProposedStep>,
 }
 
 impl<'a> Telling<'a> {
-    /// The first writers of the two chains.
-    fn heads(&self, order: Order) -> (NodeIx, NodeIx) {
-        match order.chains(self.chains) {
-            Some((first, second)) => (first.head, second.head),
-            None => (NodeIx::INITIAL, NodeIx::INITIAL),
-        }
-    }
-
     /// The cheapest walk against an order, by what the log shows and the first `limit` kept orders:
     /// that of a step, or that of a cycle.
-    fn against(&mut self, order: Order, limit: usize, is_step: bool) -> Result<Walk, AllocError> {
-        let (_, start) = self.heads(order);
-        let hops = &self.rounds.hops;
+    fn against(
+        &mut self,
+        order: Order<'a>,
+        limit: usize,
+        is_step: bool,
+    ) -> Result<Walk, AllocError> {
+        let (hops, start) = (&self.rounds.hops, order.second.head);
         self.search.run(hops, start, limit)?;
-        let end = match order.chains(self.chains) {
-            Some((first, _)) if is_step => End::of_step(&self.search, first).node,
-            Some((first, _)) => End::of_cycle(&self.search, first).node,
-            None => start,
-        };
+        let end = End::of(&self.search, order.first, is_step).node;
         self.search.walk_to(self.alloc, hops, start, end)
     }
 
     /// How little the cycle claims that refutes an order.
-    fn modesty_against(&mut self, order: Order) -> Result<(usize, usize), AllocError> {
+    fn modesty_against(&mut self, order: Order<'a>) -> Result<(usize, usize), AllocError> {
         let mut walk = self.against(order, self.rounds.kept.len(), false)?;
-        if let Some((first, _)) = order.chains(self.chains) {
-            walk.kinds.push(kind_behind(first))?;
-        }
+        walk.kinds.push(kind_behind(order.first))?;
         Ok(modesty(&walk.kinds))
     }
 
     /// The nodes of such a walk. The kept orders that it rests on are needed.
     fn needed_walk(
         &mut self,
-        order: Order,
+        order: Order<'a>,
         limit: usize,
         is_step: bool,
     ) -> Result<Vec<NodeIx>, AllocError> {
@@ -107,13 +96,12 @@ impl<'a> Telling<'a> {
     }
 
     /// Adds the step that keeps an order, by the walk against the other way.
-    fn add_step(&mut self, order: Order, limit: usize) -> Result<(), AllocError> {
-        let (first, second) = self.heads(order);
+    fn add_step(&mut self, order: Order<'a>, limit: usize) -> Result<(), AllocError> {
         let walk = self.needed_walk(order.turned(), limit, true)?;
         self.steps.push(ProposedStep {
             key: order.key,
-            first,
-            second,
+            first: order.first.head,
+            second: order.second.head,
             walk,
         })?;
         Ok(())
@@ -122,11 +110,10 @@ impl<'a> Telling<'a> {
 
 /// The steps that are needed, and the cycle. Of the last order a cycle refutes the one way and a step
 /// the other: the cycle is told that claims less, so what is told as a fact is rather one.
-fn told(alloc: Global, chains: &Chains<'_>, rounds: &Rounds) -> Result<Proposal, AllocError> {
+fn told(alloc: Global, rounds: &Rounds<'_>) -> Result<Proposal, AllocError> {
     let limit = rounds.kept.len();
     let mut telling = Telling {
         alloc,
-        chains,
         rounds,
         search: Search::new(alloc, rounds.hops.places())?,
         is_needed: vec![in alloc; false; limit]?,
@@ -152,7 +139,5 @@ fn told(alloc: Global, chains: &Chains<'_>, rounds: &Rounds) -> Result<Proposal,
 /// end in a cycle before they get long.
 pub fn propose(alloc: Global, chains: &Chains<'_>) -> Result<Option<Proposal>, AllocError> {
     let rounds = rounds_of(alloc, chains)?;
-    rounds
-        .map(|rounds| told(alloc, chains, &rounds))
-        .transpose()
+    rounds.map(|rounds| told(alloc, &rounds)).transpose()
 }

@@ -2,7 +2,7 @@
 //! until both ways of one are.
 
 use crate::hops::{Hop, Hops, Kind};
-use crate::orders::{Cost, Order, refuted_orders};
+use crate::orders::{Order, OrderName, Refuted, refuted_orders};
 use std::alloc::{AllocError, Global};
 use std::collections::BTreeMap;
 use write_chains::{Chain, Chains};
@@ -17,18 +17,18 @@ const MAX_HOPS: usize = 200_000;
 /// An order that is kept, since a walk by the first `limit` kept orders and the log refutes the
 /// other way.
 #[derive(Clone, Copy)]
-pub struct Kept {
-    pub order: Order,
+pub struct Kept<'a> {
+    pub order: Order<'a>,
     pub limit: usize,
 }
 
 /// The hops, the kept orders, and an order of which both ways are refuted: this one by a step, and
 /// the other by the cycle.
 #[derive(Drop)]
-pub struct Rounds {
+pub struct Rounds<'a> {
     pub hops: Hops,
-    pub kept: Vec<Kept>,
-    pub last: Order,
+    pub kept: Vec<Kept<'a>>,
+    pub last: Order<'a>,
 }
 
 /// Of which kind the edge is that leads on from a chain to those behind it.
@@ -41,10 +41,10 @@ pub fn kind_behind(chain: &Chain) -> Kind {
 }
 
 /// The order that a step refutes, where a cycle refutes the other way, in the fewest words.
-fn both_refuted(refuted: &BTreeMap<Order, Cost>) -> Option<Order> {
-    let mut both = refuted.iter().filter_map(|(order, cost)| {
-        let other = refuted.get(&order.turned())?;
-        Some((*order, cost.step.saturating_add(other.cycle)))
+fn both_refuted<'a>(refuted: &BTreeMap<OrderName, Refuted<'a>>) -> Option<Order<'a>> {
+    let mut both = refuted.iter().filter_map(|((key, places, is_turned), one)| {
+        let other = refuted.get(&(*key, *places, !*is_turned))?;
+        Some((one.order, one.step.saturating_add(other.cycle)))
     });
     Some(both.min_by_key(|(_, words)| *words)?.0)
 }
@@ -53,16 +53,13 @@ impl Hops {
     /// Adds those of a kept order; answers how many.
     fn add_order(
         &mut self,
-        chains: &Chains<'_>,
-        order: Order,
+        order: Order<'_>,
         number: usize,
         cost: usize,
     ) -> Result<usize, AllocError> {
-        let Some((first, second)) = order.chains(chains) else {
-            return Ok(0);
-        };
+        let first = order.first;
         let hop = Hop {
-            to: second.head.get(),
+            to: order.second.head.get(),
             kind: kind_behind(first),
             cost: cost.saturating_add(BY_STEP),
             kept: Some(number),
@@ -79,9 +76,12 @@ impl Hops {
 }
 
 /// The rounds of a history, where they end in an order of which both ways are refuted.
-pub fn rounds_of(alloc: Global, chains: &Chains<'_>) -> Result<Option<Rounds>, AllocError> {
+pub fn rounds_of<'a>(
+    alloc: Global,
+    chains: &'a Chains<'_>,
+) -> Result<Option<Rounds<'a>>, AllocError> {
     let mut hops = Hops::of(alloc, chains)?;
-    let mut kept: Vec<Kept> = Vec::new(alloc);
+    let mut kept: Vec<Kept<'_>> = Vec::new(alloc);
     let mut before = BTreeMap::new(alloc);
     let mut added = 0;
     for _ in 0..MAX_ROUNDS {
@@ -90,13 +90,13 @@ pub fn rounds_of(alloc: Global, chains: &Chains<'_>) -> Result<Option<Rounds>, A
         if let Some(last) = both_refuted(&refuted) {
             return Ok(Some(Rounds { hops, kept, last }));
         }
-        for (refuted, cost) in &refuted {
+        for (name, refuted) in &refuted {
             if MAX_HOPS < added {
                 break;
             }
-            if !before.contains_key(refuted) {
-                let order = refuted.turned();
-                let count = hops.add_order(chains, order, kept.len(), cost.step)?;
+            if !before.contains_key(name) {
+                let order = refuted.order.turned();
+                let count = hops.add_order(order, kept.len(), refuted.step)?;
                 added = count.saturating_add(added);
                 kept.push(Kept { order, limit })?;
             }

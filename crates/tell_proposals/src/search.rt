@@ -3,11 +3,13 @@
 use crate::hops::{Hops, Kind, node_at};
 use serializability::NodeIx;
 use std::alloc::{AllocError, Global};
+use std::cmp::Reverse;
+use std::collections::BinaryHeap;
 
 /// No walk that is proposed costs so much.
 pub const FAR: usize = 1_000;
-/// No search takes so many turns at one cost.
-const MAX_TURNS: usize = 1_000_000;
+/// No search takes so many turns.
+const MAX_TURNS: usize = 1_000_000_000;
 
 /// The hop by which a place was reached.
 #[derive(Clone, Copy)]
@@ -27,11 +29,14 @@ pub struct Walk {
     pub kinds: Vec<Kind>,
 }
 
-/// The cheapest walks from one node, and the places that are still to be looked at, by cost.
+/// The cheapest walks from one node, and the places that are still to be looked at: those that were
+/// reached for the least come first, and of these the last one that was reached.
 #[derive(Drop)]
 pub struct Search {
     reached: Vec<Reached>,
-    open: Vec<Vec<usize>>,
+    open: BinaryHeap<(Reverse<usize>, usize, usize)>,
+    /// So many places were put in.
+    count: usize,
 }
 
 /// What is known of a place that was not reached.
@@ -45,13 +50,10 @@ const UNREACHED: Reached = Reached {
 impl Search {
     /// One among so many places.
     pub fn new(alloc: Global, places: usize) -> Result<Search, AllocError> {
-        let mut open = Vec::new(alloc);
-        for _ in 0..FAR {
-            open.push(Vec::new(alloc))?;
-        }
         Ok(Search {
             reached: vec![in alloc; UNREACHED; places]?,
-            open,
+            open: BinaryHeap::new(alloc),
+            count: 0,
         })
     }
 
@@ -66,9 +68,8 @@ impl Search {
             && reached.cost < known.cost
         {
             *known = reached;
-            if let Some(places) = self.open.get_mut(reached.cost) {
-                places.push(place)?;
-            }
+            self.count = self.count.saturating_add(1);
+            self.open.push((Reverse(reached.cost), self.count, place))?;
         }
         Ok(())
     }
@@ -98,11 +99,6 @@ impl Search {
         Ok(())
     }
 
-    /// A place that is still to be looked at, of this cost.
-    fn next(&mut self, cost: usize) -> Option<usize> {
-        self.open.get_mut(cost)?.pop()
-    }
-
     /// Finds the cheapest walks from a node by what the log shows and the first `limit` kept
     /// orders.
     pub fn run(&mut self, hops: &Hops, start: NodeIx, limit: usize) -> Result<(), AllocError> {
@@ -113,13 +109,11 @@ impl Search {
             ..UNREACHED
         };
         self.reach(start.get(), reached)?;
-        for cost in 0..FAR {
-            for _ in 0..MAX_TURNS {
-                let Some(place) = self.next(cost) else {
-                    break;
-                };
-                self.go_on(hops, place, cost, limit)?;
-            }
+        for _ in 0..MAX_TURNS {
+            let Some((Reverse(cost), _, place)) = self.open.pop() else {
+                break;
+            };
+            self.go_on(hops, place, cost, limit)?;
         }
         Ok(())
     }
