@@ -3,7 +3,6 @@ pub mod ChainSides
 pub mod Chosen
 pub mod Ledgers
 pub mod Known
-pub mod Covering
 pub mod Marking
 pub mod Telling
 pub mod Taken

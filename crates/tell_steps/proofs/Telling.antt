@@ -199,8 +199,8 @@ told_more ss done s orders next items new more is put t = subst (λ os. AreTold 
 
 -- ---- what lines need
 -- a line that rests on what the entries keep, among the steps that were told for it
-pub closed_stands : (ss : List ClientSession) (kept steps : List ChainOrder) (line : List ℕ) → LineStands ss kept [] line → HasSteps ss kept steps line → LineStands ss steps [] line
-closed_stands ss kept steps line rests has = record {
+pub covered_stands : (ss : List ClientSession) (kept steps decided : List ChainOrder) (line : List ℕ) → LineStands ss kept decided line → HasSteps ss kept steps line → LineStands ss steps decided line
+covered_stands ss kept steps decided line rests has = record {
   some = rests.some;
   each = λ i lt.
       (let r = rests.each i lt in

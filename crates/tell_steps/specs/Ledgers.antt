@@ -1,27 +1,22 @@
 -- Ledgers of the polygraph of a log's chains that end in a cycle.
-use Rattle.std.specs.Prelude.{◌≡◌, ℕ, List, [], length, map, take, Some, slice_get, IsSome}
+use Rattle.std.specs.Prelude.{◌≡◌, ℕ, List, [], length, map, take, Some, slice_get, IsSome, IfSome}
 use Rattle.std.specs.List.{All, Contains}
 use Rattle.session_log.specs.Text.{ClientSession}
+use Rattle.reach_laws.specs.Reach.{IsCycle}
 use Rattle.serializability.specs.Polygraph.{Edge, Polygraph}
 use Rattle.chain_laws.specs.Chains.{chain_polygraph, chain_choices}
 use Rattle.log_definitions.specs.Numbers.{log_of}
 use Rattle.prune_ledger.specs.Posted.{Posted}
-use Rattle.prune_ledger.specs.Ledger.{AreShown}
-use Rattle.prune_ledger.specs.Pruned.{posts_in, IsLedgerOf}
+use Rattle.prune_ledger.specs.Ledger.{AreShown, edges_after}
+use Rattle.prune_ledger.specs.Pruned.{posts_in}
+use Rattle.prune_ledger.specs.Pruned as pruned
 use Rattle.prune_ledger.specs.declared.ledger.LedgerEntry.{LedgerEntry}
 use Rattle.prune_ledger.specs.declared.ledger.Ledger.{Ledger}
 use Rattle.tell_reasons.specs.declared.why.ChainOrder.{ChainOrder}
 use Rattle.tell_steps.specs.Steps.{IsOrder, turned, Follows}
 use Rattle.tell_steps.specs.Orders.{orders_in, kept_order}
-use Rattle.tell_steps.specs.Lines.{HasEnds, IsRound, LineStands}
-
--- a ledger of the chains' polygraph, whose known edges are no others, that ends in a cycle
-pub record IsDeadLedger (ss : List ClientSession) (ledger : Ledger) : Type 0 where
-  pub poly : Polygraph
-  pub known : (e : Edge) → Contains poly.known e → Contains (chain_polygraph (log_of ss)).known e
-  pub choices : poly.choices ≡ chain_choices (log_of ss)
-  pub valid : IsLedgerOf poly ledger
-  pub cycle : IsSome ledger.cycle
+use Rattle.tell_steps.specs.Lines.{HasEnds, IsRound, LineStands, HasSteps}
+use Rattle.tell_steps.specs.View.{StepsView}
 
 -- the entries are shown, of a polygraph with the choices between the chains, whose known edges are
 -- no others than theirs
@@ -30,6 +25,13 @@ pub record AreEntries (ss : List ClientSession) (entries : List LedgerEntry) : T
   pub known : (e : Edge) → Contains poly.known e → Contains (chain_polygraph (log_of ss)).known e
   pub choices : poly.choices ≡ chain_choices (log_of ss)
   pub shown : AreShown poly [] (posts_in entries)
+
+-- such entries, and a cycle in the known edges and the sides that they keep
+pub record IsDeadLedger (ss : List ClientSession) (ledger : Ledger) : Type 0 where
+  pub entries : AreEntries ss ledger.entries.items
+  pub some : IsSome ledger.cycle
+  pub cycle : IfSome ledger.cycle (λ line. IsCycle
+      (edges_after entries.poly (pruned.kept_by ledger.entries.items)) line.items)
 
 -- the orders that the entries keep
 abbrev pub kept_by : List ClientSession → List LedgerEntry → List ChainOrder
@@ -57,3 +59,7 @@ pub record IsClosed (ss : List ClientSession) (kept : List ChainOrder)
     (line : List ℕ) : Type 0 where
   pub round : IsRound line
   pub rests : LineStands ss kept [] line
+
+-- the steps have each edge of the line that the entries keep and the log does not show
+abbrev pub IsCovered : StepsView → List ℕ → Type 0
+IsCovered s line = HasSteps s.sessions (kept_by s.sessions s.entries) s.orders line

@@ -1,39 +1,21 @@
 -- Lines of nodes, and what their edges rest on.
-use Rattle.std.specs.Prelude.{◌≡◌, ◌↔◌, ◌⊎◌, ℕ, ◌+◌, ◌<◌, ◌≤◌, List, [], ◌∷◌, ◌++◌, length}
+use Rattle.std.specs.Prelude.{◌≡◌, ◌⊎◌, ℕ, ◌+◌, ◌<◌, ◌≤◌, List, [], ◌∷◌, ◌++◌, length}
 use Rattle.std.specs.Prelude.{Option, None, Some, slice_index}
 use Rattle.std.specs.Borrow.{Bor}
-use Rattle.std.specs.List.{All, Contains}
+use Rattle.std.specs.List.{Contains}
 use Rattle.session_log.specs.Text.{ClientSession}
-use Rattle.serializability.specs.Polygraph.{Edge, Polygraph}
+use Rattle.serializability.specs.Polygraph.{Edge}
 use Rattle.serializability.specs.Log.{Log}
-use Rattle.chain_laws.specs.Chains.{chain_polygraph, chain_choices}
 use Rattle.log_definitions.specs.Numbers.{log_of}
 use Rattle.reasons.specs.Given.{IsReason, IsOfFirstKind, IsLeast, HaveNone}
 use Rattle.reasons.specs.declared.reason.Reason.{Reason}
 use Rattle.tell_reasons.specs.declared.why.ChainOrder.{ChainOrder}
-use Rattle.prune_ledger.specs.Ledger.{edges_after, AreShown}
-use Rattle.prune_ledger.specs.Pruned.{kept_by, posts_in}
-use Rattle.prune_ledger.specs.declared.ledger.LedgerEntry.{LedgerEntry}
 use Rattle.tell_steps.specs.Steps.{edges_in, IsFirstWith, NoStepHas}
-use Rattle.tell_steps.specs.View.{StepsView}
 
 -- a node of the log other than node 0
 pub record IsBetween (ss : List ClientSession) (v : ℕ) : Type 0 where
   pub low : 0 < v
   pub high : v ≤ (log_of ss).nodes
-
--- ---- what callers see
--- the entries are a ledger of the polygraph of the sessions' chains
-pub record HasLedger (ss : List ClientSession) (entries : List LedgerEntry) : Type 0 where
-  pub poly : Polygraph
-  pub known : (e : Edge) → (Contains poly.known e ↔ Contains (chain_polygraph (log_of ss)).known e)
-  pub choices : poly.choices ≡ chain_choices (log_of ss)
-  pub shown : AreShown poly [] (posts_in entries)
-
--- a line of nodes of the log other than node 0
-pub record IsLineOfNodes (ss : List ClientSession) (line : List ℕ) : Type 0 where
-  pub some : 0 < length line
-  pub nodes : All (IsBetween ss) line
 
 -- the line leads from the one node to the other
 pub record HasEnds (first last : ℕ) (line : List ℕ) : Type 0 where
@@ -45,34 +27,11 @@ pub record IsRound (line : List ℕ) : Type 0 where
   pub start : ℕ
   pub ends : HasEnds start start line
 
--- two nodes of the line stand side by side
-pub record IsStepOf (line : List ℕ) (e : Edge) : Type 0 where
-  pub front : List ℕ
-  pub back : List ℕ
-  pub shape : line ≡ front ++ e.0 ∷ e.1 ∷ back
-
 -- one of the orders has the edge
 pub record OneHas (ss : List ClientSession) (decided : List ChainOrder) (e : Edge) : Type 0 where
   pub order : ChainOrder
   pub among : Contains decided order
   pub has : Contains (edges_in (log_of ss) order) e
-
--- known, or kept by an entry of the ledger
-abbrev pub IsOfLedger : StepsView → Edge → Type 0
-IsOfLedger s e = Contains (edges_after (chain_polygraph (log_of s.sessions)) (kept_by s.entries)) e
-
--- each two nodes side by side, the first other than node 0, that are an edge of the ledger which
--- the log shows no reason of, are an edge of a step
-pub record IsCovered (s : StepsView) (line : List ℕ) : Type 0 where
-  pub each : (e : Edge) → IsStepOf line e → IsBetween s.sessions e.0 → IsOfLedger s e
-      → HaveNone s.sessions e.0 e.1 → OneHas s.sessions s.orders e
-
--- each two nodes side by side are an edge that is known, that the ledger keeps, or that one of the
--- decided orders has
-pub record HasEdges (s : StepsView) (decided : List ChainOrder) (line : List ℕ) : Type 0 where
-  pub each : (e : Edge) → IsStepOf line e → Contains
-      (edges_after (chain_polygraph (log_of s.sessions)) (kept_by s.entries)) e
-      ⊎ OneHas s.sessions decided e
 
 -- step k is the first that has an edge of one of these lines of which the log shows no reason
 pub record IsNeededIn (ss : List ClientSession) (steps : List ChainOrder)

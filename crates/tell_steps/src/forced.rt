@@ -5,8 +5,8 @@ ghost use Rattle.std.specs.List.{All};
 ghost use Rattle.serializability.specs.Reads.{IsClean};
 ghost use Rattle.log_definitions.specs.Numbers.{log_of};
 ghost use Rattle.tell_steps.specs.Steps.{IsOrder, AreStepsTold, IsNamed};
-ghost use Rattle.tell_steps.specs.Lines.{HasLedger, IsLineOfNodes, IsCovered, HasEdges, IsRound};
-ghost use Rattle.tell_steps.specs.Lines.{IsNeededIn};
+ghost use Rattle.tell_steps.specs.Lines.{IsRound, LineStands, IsNeededIn};
+ghost use Rattle.tell_steps.specs.Ledgers as spec;
 ghost use Rattle.tell_steps.specs.Told.{IsPut, IsRoundTold};
 
 use crate::dead::kept_by;
@@ -56,11 +56,11 @@ pub fn steps_of<'a>(
 ) -> Result<(Steps<'a>, Vec<Item>), AllocError>
     requires clean { IsClean (log_of history.now) }
     requires chains { chains.now ≡ history.now }
-    requires ledger { HasLedger history.now entries.now }
+    requires ledger { spec.AreEntries history.now entries.now }
     ensures sessions { IfOk result (λ made. made.0.sessions ≡ history.now) }
     ensures entries { IfOk result (λ made. made.0.entries ≡ entries.now) }
     ensures told { IfOk result (λ made. AreStepsTold history.now made.0.orders made.1.items) }
-    ensures covered { IfOk result (λ made. All (λ line. IsCovered made.0 line.now) lines.now) }
+    ensures covered { IfOk result (λ made. All (λ line. spec.IsCovered made.0 line.now) lines.now) }
     ensures needed { IfOk result (λ made. (k : ℕ) → k < length made.0.orders
         → IsNamed made.1.items k ⊎ IsNeededIn history.now made.0.orders lines.now k) }
 {
@@ -88,10 +88,10 @@ impl<'a> Steps<'a> {
         decided: &[ChainOrder],
         line: &[NodeIx],
     ) -> Result<(), AllocError>
-        requires line { IsLineOfNodes self.old.sessions line.now }
         requires decided { All (IsOrder (log_of self.old.sessions)) decided.now }
-        requires covered { IsCovered self.old line.now }
-        requires edges { HasEdges self.old decided.now line.now }
+        requires covered { spec.IsCovered self.old line.now }
+        requires stands { LineStands self.old.sessions
+            (spec.kept_by self.old.sessions self.old.entries) decided.now line.now }
         requires round { IsRound line.now }
         ensures same { self.new ≡ self.old }
         ensures told { OnOk result (IsPut items.old.items items.new.items

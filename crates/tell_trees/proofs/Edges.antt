@@ -3,7 +3,7 @@ use Rattle.std.proofs.Common.{◌≡◌, ◌⊎◌, ℕ, ◌<◌, List, [], ◌�
 use Rattle.std.specs.Prelude.{slice_get, slice_index, slice_index_or, IfSome}
 use Rattle.std.specs.List.{All, Contains}
 use Rattle.std.proofs.lemmas.List.{length-append}
-use Rattle.std.proofs.lemmas.Option.{get_or_from_slice_get}
+use Rattle.std.proofs.lemmas.Option.{get_or_from_slice_get, slice_get_within}
 use Rattle.std.proofs.lemmas.List.Elements.{All-map, All-weaker, All-contains, Contains-append_left, Contains-append_right, Contains-append_cases}
 use Rattle.list_lemmas.proofs.Elements.{behind}
 use Rattle.serializability.specs.Log.{Log}
@@ -17,8 +17,9 @@ use Rattle.known_graph.proofs.Listed.{In, In-from_Contains, Contains-from_In}
 use Rattle.known_graph.proofs.Tested.{walk_of}
 use Rattle.chain_laws.specs.Chains.{chain_polygraph}
 use Rattle.log_definitions.specs.Numbers.{log_of}
-use Rattle.prune_ledger.specs.Ledger.{side_of, edges_after}
-use Rattle.prune_ledger.specs.Pruned.{kept_by}
+use Rattle.prune_ledger.specs.Ledger.{side_of, edges_after, AreShown}
+use Rattle.prune_ledger.specs.Pruned.{posts_in}
+use Rattle.prune_ledger.specs.Pruned as pruned
 use Rattle.prune_ledger.proofs.Sides.{side_is, choice_of_edge, kept_cases, no_kept}
 use Rattle.cube_laws.specs.Cubes.{Cube}
 use Rattle.cube_laws.specs.declared.tree.Growth.TheVariants.{Leaf}
@@ -29,26 +30,16 @@ use Rattle.tell_reasons.specs.declared.why.ChainOrder.{ChainOrder}
 use Rattle.tell_steps.specs.View.{StepsView}
 use Rattle.tell_steps.specs.Orders.{choice_of}
 use Rattle.tell_steps.specs.Steps.{IsOrder, edges_in}
-use Rattle.tell_steps.specs.Lines.{IsBetween, IsLineOfNodes, IsOfLedger, OneHas, IsCovered, HasEdges, IsRound}
+use Rattle.tell_steps.specs.Lines.{OneHas, IsRound, LineStands}
+use Rattle.tell_steps.specs.Ledgers.{AreEntries, IsCovered, kept_by}
 use Rattle.tell_steps.proofs.Chosen.{turned_order}
-use Rattle.tell_steps.proofs.Ledgers.{order_leads}
-use Rattle.tell_steps.proofs.Covering.{ledger_leads, round_nodes}
+use Rattle.tell_steps.proofs.Ledgers.{order_leads, Rests, AllRest, all_rest, round_stands}
 use Rattle.tell_trees.specs.declared.visits.Visit.{Visit}
 use Rattle.tell_trees.specs.Orders.{AreOrdersOf, no_order, sided, order_at}
 use Rattle.tell_trees.specs.Searched.{IsSearched}
 use Rattle.tell_trees.specs.Told.{decided_at, IsReady}
 use Rattle.tell_trees.specs.Visits.{IsGrown}
 use Rattle.tell_trees.proofs.Facts.{cube_among}
-
--- ---- the steps of a walk
-no_more : (x : ℕ) (front back : List ℕ) (a b : ℕ) → x ∷ [] ≡ front ++ a ∷ b ∷ back → ⊥
-no_more x front back a b e = omega (arith, ap length e, length-append front (a ∷ b ∷ back))
-
-walk_step : (edges : List Edge) (u v : ℕ) (inner front back : List ℕ) (a b : ℕ) → Walk edges u inner v → u ∷ (inner ++ v ∷ []) ≡ front ++ a ∷ b ∷ back → Contains edges (a, b)
-walk_step edges u v [] [] back a b w e = let one : u ≡ a = cc in let two : v ≡ b = cc in rw (sym one, sym two) w
-walk_step edges u v [] (y ∷ front) back a b w e = absurd (no_more v front back a b (cc))
-walk_step edges u v (x ∷ inner) [] back a b w e = let one : u ≡ a = cc in let two : x ≡ b = cc in rw (sym one, sym two) w.0
-walk_step edges u v (x ∷ inner) (y ∷ front) back a b w e = walk_step edges x v inner front back a b w.1 (cc)
 
 -- ---- the sides of a cube
 edges_sided : (log : Log) (o : ChainOrder) (s : Side) → edges_of (choice_of log o) s ≡ edges_in log (sided s o)
@@ -85,21 +76,44 @@ module _ (s : StepsView) (orders : List ChainOrder) (nodes : List TreeNode) (h :
       side_is p.choices d.0 g.choice d.1 g.at ∙ ap (λ (z : Choice). edges_of z d.1) (sym r.2) ∙ edges_sided log r.0 d.1 ∙ ap (λ (z : ChainOrder). edges_in log (sided d.1 z)) (sym (get_or_from_slice_get orders d.0 r.0 no_order r.1)) in
       Contains-from_In (edges_in log (order_at orders d)) e (subst (In e) same i)
 
-  known_kept : (e : Edge) → Contains p.known e → IsOfLedger s e
-  known_kept e c =
-      let made = h.left.unpruned.chained in
-      subst (λ kept. Contains (edges_after (chain_polygraph log) kept) e) (ap kept_by (sym h.entries_are))
-      (kept_in h.left.poly (chain_polygraph log) (λ d. (made.known d).0) made.choices (kept_by h.reduced.ledger.entries.items) e ((h.left.left.known e).0 c))
+  sided_at : (d : Entry) {e : Edge} → In e (side_of p.choices d.0 d.1) → IsOrder log (order_at orders d)
+  sided_at d {e = e} i =
+      let g = choice_of_edge p.choices d.0 d.1 e i in
+      sided_order log (slice_index_or orders d.0 no_order) d.1 (h.sides.each d.0 no_order (omega (arith, slice_get_within p.choices d.0 g.choice g.at, orders_count log p.choices orders h.sides)))
 
-  cube_edge : (cube : Cube) (e : Edge) → In e (edges_after p cube) → IsOfLedger s e ⊎ OneHas s.sessions (map (order_at orders) cube) e
-  cube_edge [] e i = inl (known_kept e (Contains-from_In p.known e (no_kept p e i)))
-  cube_edge (d ∷ cube) e i = elim (kept_cases p cube d e i) [
-    | inl a ↦ elim (cube_edge cube e a) [
-      | inl k ↦ inl k
-      | inr o ↦ inr (record { order = o.order; among = behind (order_at orders d) (map (order_at orders) cube) o.order o.among; has = o.has })
-    ]
-    | inr b ↦ inr (record { order = order_at orders d; among = (0, omega arith, refl); has = side_has d e b })
-  ]
+  -- the ledger of what pruning left
+  pub entries_shown : AreEntries s.sessions s.entries
+  entries_shown =
+      let made = h.left.unpruned.chained in
+      record { poly = h.left.poly; known = λ e. (made.known e).0; choices = made.choices; shown = subst (λ es. AreShown h.left.poly [] (posts_in es)) (sym h.entries_are) h.left.left.ledger.shown }
+
+  known_rests : (e : Edge) → Contains p.known e → Rests s.sessions (kept_by s.sessions s.entries) [] e
+  known_rests e c =
+      let all = entries_shown in
+      all_rest s.sessions all.poly (record { clean = h.clean; known = all.known; choices = all.choices }) [] (posts_in s.entries) e (subst (λ es. Contains (edges_after all.poly (pruned.kept_by es)) e) (sym h.entries_are) ((h.left.left.known e).0 c))
+
+  cube_rests : (cube : Cube) → AllRest s.sessions (kept_by s.sessions s.entries) (map (order_at orders) cube) (edges_after p cube)
+  cube_rests cube e c = in_cube cube (In-from_Contains (edges_after p cube) e c)
+    where
+      in_cube : (cube : Cube) → In e (edges_after p cube) → Rests s.sessions (kept_by s.sessions s.entries) (map (order_at orders) cube) e
+      in_cube [] i = known_rests e (Contains-from_In p.known e (no_kept p e i))
+      in_cube (d ∷ cube) i = elim (kept_cases p cube d e i) [
+        | inl a ↦
+            let r = in_cube cube a in
+            record {
+              second = r.second;
+              has = λ lo none. elim (r.has lo none) [
+                | inl o ↦ inl o
+                | inr o ↦ inr (record { order = o.order; among = behind (order_at orders d) (map (order_at orders) cube) o.order o.among; has = o.has })
+              ];
+            }
+        | inr b ↦
+            let has = side_has d e b in
+            record {
+              second = order_leads s.sessions (order_at orders d) (sided_at d b) e has;
+              has = λ lo none. inr (record { order = order_at orders d; among = (0, omega arith, refl); has = has });
+            }
+      ]
 
   module _ (i : ℕ) where
     pub are_orders : All (IsOrder log) (decided_at orders nodes i)
@@ -108,24 +122,11 @@ module _ (s : StepsView) (orders : List ChainOrder) (nodes : List TreeNode) (h :
         (All-weaker (λ (d : Entry). d.0 < length p.choices) (λ (d : Entry). IsOrder log (order_at orders d))
         (λ d lt. sided_order log (slice_index_or orders d.0 no_order) d.1 (h.sides.each d.0 no_order (omega (arith, lt, orders_count log p.choices orders h.sides)))) (cube_of nodes i) (cube_among p nodes h.shown i))
 
-    edge_rests : (e : Edge) → Contains (edges_after p (cube_of nodes i)) e → IsOfLedger s e ⊎ OneHas s.sessions (decided_at orders nodes i) e
-    edge_rests e c = cube_edge (cube_of nodes i) e (In-from_Contains (edges_after p (cube_of nodes i)) e c)
-
-    edge_leads : (e : Edge) → Contains (edges_after p (cube_of nodes i)) e → IsBetween s.sessions e.1
-    edge_leads e c = elim (edge_rests e c) [
-      | inl k ↦ ledger_leads s.sessions s.entries h.clean e k
-      | inr o ↦ order_leads s.sessions o.order (All-contains (IsOrder log) (decided_at orders nodes i) o.order are_orders o.among) e o.has
-    ]
-
-    pub leaf_line : (line : List ℕ) → IsGrown nodes i (Leaf line) → IsLineOfNodes s.sessions line × HasEdges s (decided_at orders nodes i) line × IsRound line
+    pub leaf_line : (line : List ℕ) → IsGrown nodes i (Leaf line) → IsRound line × LineStands s.sessions (kept_by s.sessions s.entries) (decided_at orders nodes i) line
     leaf_line line g =
         let start = slice_index line 0 in
         let edges = edges_after p (cube_of nodes i) in
-        let w = walk_of edges line start start (h.shown.leaves i g.node line g.here g.is) in (
-          round_nodes s.sessions edges edge_leads start w.inner line w.shape w.steps,
-          record { each = λ e step. edge_rests e (walk_step edges start start w.inner step.front step.back e.0 e.1 w.steps (sym w.shape ∙ step.shape)) },
-          record { start = start; ends = record { inner = w.inner; shape = w.shape } },
-        )
+        round_stands s.sessions (kept_by s.sessions s.entries) (decided_at orders nodes i) edges (cube_rests (cube_of nodes i)) line (start, walk_of edges line start start (h.shown.leaves i g.node line g.here g.is))
 
-  pub visit_line : (v : Visit) (line : Bor (List ℕ)) → v.line ≡ Some line → IsReady s nodes v → IsLineOfNodes s.sessions line.now × HasEdges s (decided_at orders nodes v.node) line.now × IsRound line.now
+  pub visit_line : (v : Visit) (line : Bor (List ℕ)) → v.line ≡ Some line → IsReady s nodes v → IsRound line.now × LineStands s.sessions (kept_by s.sessions s.entries) (decided_at orders nodes v.node) line.now
   visit_line v line e r = leaf_line v.node line.now (subst (λ (o : Option (Bor (List ℕ))). IfSome o (λ l. IsGrown nodes v.node (Leaf l.now) × IsCovered s l.now)) e r).0

@@ -9,7 +9,8 @@ use Rattle.log_definitions.specs.Numbers.{log_of}
 use Rattle.cube_laws.specs.declared.tree.TreeNode.{TreeNode}
 use Rattle.tell_reasons.specs.declared.why.ChainOrder.{ChainOrder}
 use Rattle.tell_steps.specs.View.{StepsView}
-use Rattle.tell_steps.specs.Lines.{IsCovered, IsNeededIn}
+use Rattle.tell_steps.specs.Ledgers.{IsCovered}
+use Rattle.tell_steps.specs.Lines.{IsNeededIn}
 use Rattle.tell_steps.specs.Steps.{AreStepsTold, IsNamed}
 use Rattle.tell_steps.specs.Told.{IsPut}
 use Rattle.tell_steps.specs.declared.item.Item.{Item}

@@ -7,7 +7,7 @@ use Rattle.cube_laws.specs.declared.tree.TreeNode.{TreeNode}
 use Rattle.cube_laws.specs.Trees.{cube_of}
 use Rattle.tell_reasons.specs.declared.why.ChainOrder.{ChainOrder}
 use Rattle.tell_steps.specs.View.{StepsView}
-use Rattle.tell_steps.specs.Lines.{IsCovered}
+use Rattle.tell_steps.specs.Ledgers.{IsCovered}
 use Rattle.tell_steps.specs.Told.{IsRoundTold}
 use Rattle.tell_steps.specs.declared.item.Item.{Item}
 use Rattle.tell_steps.specs.declared.item.Item.TheVariants as item

@@ -6,7 +6,6 @@ ghost use Rattle.serializability.specs.Reads.{IsClean};
 ghost use Rattle.log_definitions.specs.Numbers.{log_of};
 ghost use Rattle.reduction.specs.Outcome.{IsOpenHistory};
 ghost use Rattle.cube_laws.specs.Trees.{IsRefutationTree};
-ghost use Rattle.tell_steps.specs.Lines.{HasLedger};
 ghost use Rattle.tell_trees.specs.Orders.{AreOrdersOf};
 ghost use Rattle.tell_trees.specs.Searched.{IsSearched};
 ghost use Rattle.tell_trees.specs.Trees.{IsTreeTold};
@@ -54,7 +53,6 @@ fn tell_nodes(
     nodes: &[TreeNode],
 ) -> Result<Vec<Item>, AllocError>
     requires chains { chains.now ≡ history.now }
-    requires ledger { HasLedger history.now entries.now }
     requires searched { IsSearched history.now entries.now orders.now nodes.now }
     ensures told { (choices : List Choice) → AreOrdersOf (log_of history.now) choices orders.now
         → IfOk result (λ items. IsTreeTold history.now choices nodes.now items.items) }

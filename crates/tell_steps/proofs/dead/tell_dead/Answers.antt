@@ -18,17 +18,15 @@ tell_proposed-requires c = record { clean = subst (λ (s : List ClientSession). 
 pub tell_with-requires : goal.tell_with-requires
 tell_with-requires c =
     let ss = c.args.history.now in
-    let ledger = c.args.ledger.now in
-    let entries = ledger.entries.items in
+    let entries = c.args.ledger.now.entries.items in
     let back = sym c.requires.chains in
     let d = c.requires.ledger in
-    let Closes : Option (Vec ℕ Global) → Type 0 = λ o. IfSome o (λ line. IsCycle (edges_after d.poly (pruned.kept_by entries)) line.items) in
-    let cycle : Closes (Some c.in-Some.cycle) = subst Closes c.in-Some.is d.valid.cycle in
-    let closed : IsClosed ss (kept_by ss entries) c.in-Some.cycle.items = dead_closed ss ledger c.requires.clean d c.in-Some.cycle.items cycle in
-    let shown : AreEntries ss entries = record { poly = d.poly; known = d.known; choices = d.choices; shown = d.valid.shown } in
+    let Closes : Option (Vec ℕ Global) → Type 0 = λ o. IfSome o (λ line. IsCycle (edges_after d.entries.poly (pruned.kept_by entries)) line.items) in
+    let cycle : Closes (Some c.in-Some.cycle) = subst Closes c.in-Some.is d.cycle in
+    let closed : IsClosed ss (kept_by ss entries) c.in-Some.cycle.items = dead_closed ss entries c.requires.clean d.entries c.in-Some.cycle.items cycle in
     record {
       clean = subst (λ (s : List ClientSession). IsClean (log_of s)) back c.requires.clean;
-      entries = subst (λ (s : List ClientSession). AreEntries s c.deref.result.now) back (subst (AreEntries ss) (sym c.deref.ensures.value) shown);
+      entries = subst (λ (s : List ClientSession). AreEntries s c.deref.result.now) back (subst (AreEntries ss) (sym c.deref.ensures.value) d.entries);
       closed = subst (λ (s : List ClientSession). IsClosed s (kept_by s c.deref.result.now) c.deref-in-None-2.result.now) back
           (subst (λ (es : List LedgerEntry). IsClosed ss (kept_by ss es) c.deref-in-None-2.result.now) (sym c.deref.ensures.value) (subst (IsClosed ss (kept_by ss entries)) (sym c.deref-in-None-2.ensures.value) closed));
     }

@@ -6,7 +6,7 @@ use Rattle.tell_reasons.specs.declared.why.ChainOrder.{ChainOrder}
 use Rattle.tell_steps.specs.Steps.{IsOrder}
 use Rattle.tell_steps.specs.Lines.{LineStands, HasSteps}
 use Rattle.tell_steps.specs.Told.{IsPut, IsRoundTold}
-use Rattle.tell_steps.proofs.Telling.{closed_stands, dead_told}
+use Rattle.tell_steps.proofs.Telling.{covered_stands, dead_told}
 use Rattle.tell_steps.proofs.dead.tell_steps.Goals as goal
 
 pub put_cycle-requires : goal.put_cycle-requires
@@ -21,7 +21,7 @@ put_cycle-requires c =
       same = c.in_ok-told.ensures.same;
       steps = subst (All (IsOrder (log_of ss))) back c.in_ok-told.ensures.orders;
       decided = λ k d lt. absurd (omega (arith, lt));
-      stands = subst (λ (os : List ChainOrder). LineStands ss os [] cycle.now) back (closed_stands ss kept steps cycle.now c.requires.closed.rests has);
+      stands = subst (λ (os : List ChainOrder). LineStands ss os [] cycle.now) back (covered_stands ss kept steps [] cycle.now c.requires.closed.rests has);
       round = c.requires.closed.round;
     }
 

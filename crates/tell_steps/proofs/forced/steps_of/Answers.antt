@@ -1,14 +1,11 @@
 use Rattle.std.proofs.Common.{◌⊎◌, ◌<◌, List, ℕ, length, get_or, refl, sym, subst, ◌∙◌, Bor}
-use Rattle.std.proofs.lemmas.List.Elements.{All-weaker}
 use Rattle.session_log.specs.Text.{ClientSession}
 use Rattle.serializability.specs.Reads.{IsClean}
 use Rattle.log_definitions.specs.Numbers.{log_of}
 use Rattle.tell_reasons.specs.declared.why.ChainOrder.{ChainOrder}
-use Rattle.tell_steps.specs.View.{StepsView}
 use Rattle.tell_steps.specs.Steps.{AreStepsTold, IsNamed}
-use Rattle.tell_steps.specs.Lines.{HasSteps, IsCovered, IsNeededIn}
-use Rattle.tell_steps.specs.Ledgers.{AreEntries, AreSteps, kept_by}
-use Rattle.tell_steps.proofs.Covering.{ledger_entries, line_covered}
+use Rattle.tell_steps.specs.Lines.{HasSteps, IsNeededIn}
+use Rattle.tell_steps.specs.Ledgers.{AreEntries, AreSteps}
 use Rattle.tell_steps.proofs.forced.steps_of.Goals as goal
 
 pub kept_by-requires : goal.kept_by-requires
@@ -16,7 +13,7 @@ kept_by-requires c =
     let back = sym c.requires.chains in
     record {
       clean = subst (λ (s : List ClientSession). IsClean (log_of s)) back c.requires.clean;
-      entries = subst (λ (s : List ClientSession). AreEntries s c.args.entries.now) back (ledger_entries c.args.history.now c.args.entries.now c.requires.ledger);
+      entries = subst (λ (s : List ClientSession). AreEntries s c.args.entries.now) back c.requires.ledger;
     }
 
 pub told_steps-requires-clause-steps : goal.told_steps-requires-clause-steps
@@ -31,13 +28,11 @@ returns c =
     let lines = c.args.lines.now in
     let told = c.in_ok-told.ensures.told in
     let same = c.requires.chains in
-    let clean = subst (λ (s : List ClientSession). IsClean (log_of s)) (sym same) c.requires.clean in
-    let view : StepsView = record { sessions = ss; entries = entries; orders = orders } in
     let stand = subst (λ (os : List ChainOrder). (k : ℕ) (d : Bor (List ℕ)) → k < length lines → HasSteps ss os orders (get_or lines k d).now) (c.deref.ensures.value ∙ c.in_ok-kept.ensures.kept) told.stand in
     record {
       sessions = same;
       entries = refl;
       told = subst (λ (s : List ClientSession). AreStepsTold s orders items) same told.told;
-      covered = All-weaker (λ (l : Bor (List ℕ)). HasSteps ss (kept_by ss entries) orders l.now) (λ (l : Bor (List ℕ)). IsCovered view l.now) (λ l h. line_covered ss entries orders clean l.now h) lines stand;
+      covered = stand;
       needed = subst (λ (s : List ClientSession). (k : ℕ) → k < length orders → IsNamed items k ⊎ IsNeededIn s orders lines k) same told.needed;
     }

@@ -1,12 +1,16 @@
-use Rattle.std.proofs.Common.{◌≡◌, List, ◌++◌, ◌∙◌, ap, subst}
+use Rattle.std.proofs.Common.{◌≡◌, List, [], ◌++◌, ◌∙◌, ap, subst}
 use Rattle.std.specs.List.{filter_map}
 use Rattle.tell_steps.specs.Told.{IsPut}
 use Rattle.tell_trees.specs.declared.visits.Visit.{Visit}
 use Rattle.tell_trees.specs.Searched.{IsSearched}
 use Rattle.tell_trees.specs.Told.{AreVisitsTold}
 use Rattle.tell_trees.specs.Trees.{leaves_items}
+use Rattle.tell_trees.proofs.Edges.{entries_shown}
 use Rattle.tell_trees.proofs.Left.{visits_ready, whole_told}
 use Rattle.tell_trees.proofs.telling.tell_nodes.Goals as goal
+
+pub steps_of-requires-clause-ledger : goal.steps_of-requires-clause-ledger
+steps_of-requires-clause-ledger c = entries_shown (record { sessions = c.args.history.now; entries = c.args.entries.now; orders = [] }) c.args.orders.now c.args.nodes.now c.requires.searched
 
 pub put_visits-requires-clause-ready : goal.put_visits-requires-clause-ready
 put_visits-requires-clause-ready c =
