@@ -76,8 +76,8 @@ module _ (s : StepsView) (orders : List ChainOrder) (nodes : List TreeNode) (h :
       side_is p.choices d.0 g.choice d.1 g.at ∙ ap (λ (z : Choice). edges_of z d.1) (sym r.2) ∙ edges_sided log r.0 d.1 ∙ ap (λ (z : ChainOrder). edges_in log (sided d.1 z)) (sym (get_or_from_slice_get orders d.0 r.0 no_order r.1)) in
       Contains-from_In (edges_in log (order_at orders d)) e (subst (In e) same i)
 
-  sided_at : (d : Entry) {e : Edge} → In e (side_of p.choices d.0 d.1) → IsOrder log (order_at orders d)
-  sided_at d {e = e} i =
+  sided_at : (d : Entry) (e : Edge) → In e (side_of p.choices d.0 d.1) → IsOrder log (order_at orders d)
+  sided_at d e i =
       let g = choice_of_edge p.choices d.0 d.1 e i in
       sided_order log (slice_index_or orders d.0 no_order) d.1 (h.sides.each d.0 no_order (omega (arith, slice_get_within p.choices d.0 g.choice g.at, orders_count log p.choices orders h.sides)))
 
@@ -88,6 +88,7 @@ module _ (s : StepsView) (orders : List ChainOrder) (nodes : List TreeNode) (h :
       record { poly = h.left.poly; known = λ e. (made.known e).0; choices = made.choices; shown = subst (λ es. AreShown h.left.poly [] (posts_in es)) (sym h.entries_are) h.left.left.ledger.shown }
 
   known_rests : (e : Edge) → Contains p.known e → Rests s.sessions (kept_by s.sessions s.entries) [] e
+  unfolding entries_shown
   known_rests e c =
       let all = entries_shown in
       all_rest s.sessions all.poly (record { clean = h.clean; known = all.known; choices = all.choices }) [] (posts_in s.entries) e (subst (λ es. Contains (edges_after all.poly (pruned.kept_by es)) e) (sym h.entries_are) ((h.left.left.known e).0 c))
@@ -110,7 +111,7 @@ module _ (s : StepsView) (orders : List ChainOrder) (nodes : List TreeNode) (h :
         | inr b ↦
             let has = side_has d e b in
             record {
-              second = order_leads s.sessions (order_at orders d) (sided_at d b) e has;
+              second = order_leads s.sessions (order_at orders d) (sided_at d e b) e has;
               has = λ lo none. inr (record { order = order_at orders d; among = (0, omega arith, refl); has = has });
             }
       ]
