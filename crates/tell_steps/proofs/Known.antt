@@ -1,5 +1,5 @@
 -- What is known of edges.
-use Rattle.std.proofs.Common.{◌≡◌, ℕ, List, Bool, cond, Option, None, Some, sym, ap, ◌∙◌, subst, inl, inr, eqb-true}
+use Rattle.std.proofs.Common.{◌≡◌, ℕ, List, cond, Option, None, Some, sym, ap, ◌∙◌, subst, inl, inr, eqb-true}
 use Rattle.std.specs.HashMap.{HashMap, get, Updates}
 use Rattle.std.proofs.lemmas.Bool.{cases_Bool, and_parts}
 use Rattle.std.specs.Prelude.{nat_eq, IfSome, IfNone}

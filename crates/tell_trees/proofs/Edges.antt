@@ -1,21 +1,18 @@
 -- What the edges of a leaf's cycle rest on.
-use Rattle.std.proofs.Common.{◌≡◌, ◌⊎◌, ℕ, ◌<◌, List, [], ◌∷◌, ◌++◌, length, map, Option, Some, refl, sym, ap, ◌∙◌, subst, inl, inr, arith, Bor}
+use Rattle.std.proofs.Common.{◌≡◌, ℕ, ◌<◌, List, [], ◌∷◌, ◌++◌, length, map, Option, Some, refl, sym, ap, ◌∙◌, subst, inl, inr, arith, Bor}
 use Rattle.std.specs.Prelude.{slice_get, slice_index, slice_index_or, IfSome}
 use Rattle.std.specs.List.{All, Contains}
-use Rattle.std.proofs.lemmas.List.{length-append}
 use Rattle.std.proofs.lemmas.Option.{get_or_from_slice_get, slice_get_within}
-use Rattle.std.proofs.lemmas.List.Elements.{All-map, All-weaker, All-contains, Contains-append_left, Contains-append_right, Contains-append_cases}
+use Rattle.std.proofs.lemmas.List.Elements.{All-map, All-weaker, Contains-append_left, Contains-append_right, Contains-append_cases}
 use Rattle.list_lemmas.proofs.Elements.{behind}
 use Rattle.serializability.specs.Log.{Log}
 use Rattle.serializability.specs.Polygraph.{Edge, Choice, Polygraph}
-use Rattle.reach_laws.specs.Reach.{Walk}
 use Rattle.pruning_laws.specs.declared.side.Side.{Side}
 use Rattle.pruning_laws.specs.declared.side.Side.TheVariants.{One, Two}
 use Rattle.pruning_laws.specs.Forced.{edges_of, kept_from}
 use Rattle.pruning_laws.specs.Ledger.{Entry, sides_in}
 use Rattle.known_graph.proofs.Listed.{In, In-from_Contains, Contains-from_In}
 use Rattle.known_graph.proofs.Tested.{walk_of}
-use Rattle.chain_laws.specs.Chains.{chain_polygraph}
 use Rattle.log_definitions.specs.Numbers.{log_of}
 use Rattle.prune_ledger.specs.Ledger.{side_of, edges_after, AreShown}
 use Rattle.prune_ledger.specs.Pruned.{posts_in}
@@ -30,7 +27,7 @@ use Rattle.tell_reasons.specs.declared.why.ChainOrder.{ChainOrder}
 use Rattle.tell_steps.specs.View.{StepsView}
 use Rattle.tell_steps.specs.Orders.{choice_of}
 use Rattle.tell_steps.specs.Steps.{IsOrder, edges_in}
-use Rattle.tell_steps.specs.Lines.{OneHas, IsRound, LineStands}
+use Rattle.tell_steps.specs.Lines.{IsRound, LineStands}
 use Rattle.tell_steps.specs.Ledgers.{AreEntries, IsCovered, kept_by}
 use Rattle.tell_steps.proofs.Chosen.{turned_order}
 use Rattle.tell_steps.proofs.Ledgers.{order_leads, Rests, AllRest, all_rest, round_stands}

@@ -1,4 +1,3 @@
-use Rattle.tell_steps.specs.Ledgers.{kept_by}
 use Rattle.tell_trees.proofs.Edges.{are_orders, visit_line}
 use Rattle.tell_trees.proofs.items.put_visit.Goals as goal
 
