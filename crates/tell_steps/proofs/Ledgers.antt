@@ -1,11 +1,10 @@
 -- What a dead ledger of the chains' polygraph keeps, and what its walks and its cycle rest on.
-use Rattle.std.proofs.Common.{◌≡◌, ◌⊎◌, ℕ, zero, suc, ◌+◌, ◌<◌, true, List, [], ◌∷◌, ◌++◌, length, get_or, take, Option, None, Some, refl, sym, ap, ◌∙◌, subst, inl, inr, arith, append_assoc}
+use Rattle.std.proofs.Common.{◌≡◌, ◌⊎◌, ℕ, zero, suc, ◌+◌, ◌-◌, ◌<◌, true, List, [], ◌∷◌, ◌++◌, length, get_or, Option, None, Some, refl, sym, ap, ◌∙◌, subst, inl, inr, arith, append_assoc}
 use Rattle.std.specs.Prelude.{map, slice_get, unwrap_or}
-use Rattle.std.specs.List.{All, AllByRecursion, Contains, flat_map}
-use Rattle.std.proofs.lemmas.Option.{slice_get_within, slice_get-get_or, slice_get_read}
-use Rattle.std.proofs.lemmas.List.{append-nil, length-map, get_or-map, take-map}
-use Rattle.std.proofs.lemmas.List.Elements.{Contains-append_cases, Contains-append_left, Contains-append_right}
-use Rattle.list_lemmas.proofs.Elements.{get_map as map_get, same_item}
+use Rattle.std.specs.List.{AllByRecursion, Contains, flat_map}
+use Rattle.std.proofs.lemmas.Option.{slice_get_within, slice_get-get_or}
+use Rattle.std.proofs.lemmas.List.{append-nil}
+use Rattle.std.proofs.lemmas.List.Elements.{Contains-append_cases, Contains-append_left, Contains-push}
 use Rattle.session_log.specs.Text.{ClientSession}
 use Rattle.serializability.specs.Log.{Log}
 use Rattle.serializability.specs.Reads.{IsClean}
@@ -29,12 +28,14 @@ use Rattle.prune_ledger.specs.Ledger.{side_of, kept_side, kept_after, edges_afte
 use Rattle.prune_ledger.specs.Pruned.{posts_in}
 use Rattle.prune_ledger.specs.declared.ledger.LedgerEntry.{LedgerEntry}
 use Rattle.prune_ledger.proofs.Sides.{side_is, choice_of_edge, kept_cases, no_kept}
-use Rattle.prune_ledger.proofs.Finals.{length_posts}
+use Rattle.tell_proposals.specs.declared.proposal.Step.{Step}
 use Rattle.tell_reasons.specs.declared.why.ChainOrder.{ChainOrder}
-use Rattle.tell_steps.specs.Steps.{turned, edges_in, IsOrder}
-use Rattle.tell_steps.specs.Orders.{choice_of, orders_in, kept_of, kept_order}
-use Rattle.tell_steps.specs.Lines.{IsBetween, OneHas, Stands, LineStands, IsRound}
-use Rattle.tell_steps.specs.Ledgers.{AreEntries, kept_by, IsStep, AreSteps, IsClosed}
+use Rattle.tell_steps.specs.Steps.{turned, edges_in, IsOrder, Follows}
+use Rattle.tell_steps.specs.Orders.{choice_of, orders_in, kept_of, kept_order, step_view, shown_by}
+use Rattle.tell_steps.specs.Lines.{HasEnds, IsBetween, OneHas, Stands, LineStands, IsRound}
+use Rattle.tell_steps.specs.Ledgers.{AreEntries, kept_by, edge_against, IsStep, IsClosed}
+use Rattle.tell_steps.specs.Needed.{AreBuilt}
+use Rattle.tell_steps.specs.Needed as needed
 use Rattle.tell_steps.proofs.Chosen.{choices_are, all_orders, turned_order}
 
 -- ---- lists by place
@@ -173,12 +174,6 @@ post_keeps ss p e q s x i =
       refuses = side_is p.choices q.choice (choice_of log o.order) q.side o.choice ∙ refuses_by log o.order q.side ∙ ap (λ z. edges_in log (turned z)) (sym is);
     }
 
--- ---- what earlier posts keep
-shown_at : (p : Polygraph) (kept : List Entry) (qs : List Posted) (k : ℕ) (q : Posted) → AreShown p kept qs → slice_get qs k ≡ Some q → IsShown p (kept_after kept (take k qs)) q
-shown_at p kept [] k q h e = absurd (cc)
-shown_at p kept (x ∷ qs) zero q h e = let same : x ≡ q = cc in subst (IsShown p kept) same h.0
-shown_at p kept (x ∷ qs) (suc k) q h e = shown_at p (kept_side x ∷ kept) qs k q h.1 e
-
 -- ---- what edges rest on
 -- the edge leads to a node other than node 0; and where it comes from one, and the log shows no reason
 -- of it, a step or a decided order has it
@@ -197,34 +192,38 @@ pub record Given (ss : List ClientSession) (p : Polygraph) : Type 0 where
 pub known_rest : (ss : List ClientSession) → IsClean (log_of ss) → (steps decided : List ChainOrder) → AllRest ss steps decided (chain_polygraph (log_of ss)).known
 known_rest ss clean steps decided e c = record { second = known_leads ss e c; has = λ lo none. absurd (known_not ss clean e.0 e.1 lo c none) }
 
--- what posts keep
-pub rest_after : (ss : List ClientSession) (p : Polygraph) → Given ss p → (decided : List ChainOrder) (qs : List Posted) (kept : List Entry) (earlier : List ChainOrder) → AllRest ss earlier decided (edges_after p kept)
+-- what a post keeps, and what posts keep
+rest_more : (ss : List ClientSession) (p : Polygraph) → Given ss p → (decided : List ChainOrder) (q : Posted) (kept : List Entry) (earlier : List ChainOrder) → AllRest ss earlier decided (edges_after p kept) → AllRest ss (earlier ++ order_by ss q ∷ []) decided (edges_after p (kept_side q ∷ kept))
+rest_more ss p g decided q kept earlier h e c = elim (kept_cases p kept (kept_side q) e (In-from_Contains (edges_after p (kept_side q ∷ kept)) e c)) [
+  | inl i ↦
+      let r = h e (Contains-from_In (edges_after p kept) e i) in
+      record {
+        second = r.second;
+        has = λ lo none. elim (r.has lo none) [
+          | inl o ↦ inl (record { order = o.order; among = Contains-append_left earlier (order_by ss q ∷ []) o.order o.among; has = o.has })
+          | inr o ↦ inr o
+        ];
+      }
+  | inr i ↦
+      let k = post_keeps ss p g.choices q (other q.side) e i in
+      let has = Contains-from_In (edges_in (log_of ss) (order_by ss q)) e (subst (In e) k.keeps i) in
+      record {
+        second = order_leads ss (order_by ss q) k.two_chains e has;
+        has = λ lo none. inl (record { order = order_by ss q; among = Contains-push earlier (order_by ss q); has = has });
+      }
+]
+
+rest_after : (ss : List ClientSession) (p : Polygraph) → Given ss p → (decided : List ChainOrder) (qs : List Posted) (kept : List Entry) (earlier : List ChainOrder) → AllRest ss earlier decided (edges_after p kept)
     → AllRest ss (earlier ++ map (order_by ss) qs) decided (edges_after p (kept_after kept qs))
 rest_after ss p g decided [] kept earlier h = subst (λ os. AllRest ss os decided (edges_after p kept)) (sym (append-nil earlier)) h
-rest_after ss p g decided (q ∷ qs) kept earlier h = subst (λ os. AllRest ss os decided (edges_after p (kept_after (kept_side q ∷ kept) qs))) (append_assoc earlier (order_by ss q ∷ []) (map (order_by ss) qs)) (rest_after ss p g decided qs (kept_side q ∷ kept) (earlier ++ order_by ss q ∷ []) more)
-  where
-    more : AllRest ss (earlier ++ order_by ss q ∷ []) decided (edges_after p (kept_side q ∷ kept))
-    more e c = elim (kept_cases p kept (kept_side q) e (In-from_Contains (edges_after p (kept_side q ∷ kept)) e c)) [
-      | inl i ↦
-          let r = h e (Contains-from_In (edges_after p kept) e i) in
-          record {
-            second = r.second;
-            has = λ lo none. elim (r.has lo none) [
-              | inl o ↦ inl (record { order = o.order; among = Contains-append_left earlier (order_by ss q ∷ []) o.order o.among; has = o.has })
-              | inr o ↦ inr o
-            ];
-          }
-      | inr i ↦
-          let k = post_keeps ss p g.choices q (other q.side) e i in
-          let has = Contains-from_In (edges_in (log_of ss) (order_by ss q)) e (subst (In e) k.keeps i) in
-          record {
-            second = order_leads ss (order_by ss q) k.two_chains e has;
-            has = λ lo none. inl (record { order = order_by ss q; among = Contains-append_right earlier (order_by ss q ∷ []) (order_by ss q) (0, omega arith, refl); has = has });
-          }
-    ]
+rest_after ss p g decided (q ∷ qs) kept earlier h =
+    subst (λ os. AllRest ss os decided (edges_after p (kept_after (kept_side q ∷ kept) qs))) (append_assoc earlier (order_by ss q ∷ []) (map (order_by ss) qs)) (rest_after ss p g decided qs (kept_side q ∷ kept) (earlier ++ order_by ss q ∷ []) (rest_more ss p g decided q kept earlier h))
+
+none_rest : (ss : List ClientSession) (p : Polygraph) → Given ss p → (decided : List ChainOrder) → AllRest ss [] decided (edges_after p [])
+none_rest ss p g decided e c = known_rest ss g.clean [] decided e (g.known e (Contains-from_In p.known e (no_kept p e (In-from_Contains (edges_after p []) e c))))
 
 pub all_rest : (ss : List ClientSession) (p : Polygraph) → Given ss p → (decided : List ChainOrder) (qs : List Posted) → AllRest ss (map (order_by ss) qs) decided (edges_after p (kept_after [] qs))
-all_rest ss p g decided qs = rest_after ss p g decided qs [] [] (λ e c. known_rest ss g.clean [] decided e (g.known e (Contains-from_In p.known e (no_kept p e (In-from_Contains (edges_after p []) e c)))))
+all_rest ss p g decided qs = rest_after ss p g decided qs [] [] (none_rest ss p g decided)
 
 -- ---- lines
 line_cons : (ss : List ClientSession) (steps decided : List ChainOrder) (u w : ℕ) (rest : List ℕ) → Stands ss steps decided u w → ((i : ℕ) → i + 1 < length (w ∷ rest) → Stands ss steps decided (get_or (w ∷ rest) i 0) (get_or (w ∷ rest) (i + 1) 0)) → LineStands ss steps decided (u ∷ w ∷ rest)
@@ -262,41 +261,65 @@ known_closed ss clean line c = let r = round_stands ss [] [] (chain_polygraph (l
 given_of : (ss : List ClientSession) (entries : List LedgerEntry) → IsClean (log_of ss) → (d : AreEntries ss entries) → Given ss d.poly
 given_of ss entries clean d = record { clean = clean; known = d.known; choices = d.choices }
 
-step_of : (ss : List ClientSession) (entries : List LedgerEntry) → IsClean (log_of ss) → AreEntries ss entries → (k : ℕ) (q : Posted) → slice_get (posts_in entries) k ≡ Some q → IsStep ss (take k (kept_by ss entries)) (order_by ss q) q
-step_of ss entries clean d k q at =
+last_at : (v : ℕ) (inner : List ℕ) (u : ℕ) → get_or (v ∷ (inner ++ u ∷ [])) (length (v ∷ (inner ++ u ∷ [])) - 1) 0 ≡ u
+last_at v [] u = refl
+last_at v (x ∷ inner) u =
+    let e : length (v ∷ x ∷ (inner ++ u ∷ [])) - 1 ≡ suc (length (x ∷ (inner ++ u ∷ [])) - 1) = omega arith in
+    ap (λ i. get_or (v ∷ x ∷ (inner ++ u ∷ [])) i 0) e ∙ last_at x inner u
+
+-- a line of two nodes or more has ends
+last_behind : (x : ℕ) (xs : List ℕ) → (inner : List ℕ) × (x ∷ xs ≡ inner ++ get_or (x ∷ xs) (length (x ∷ xs) - 1) 0 ∷ [])
+last_behind x [] = ([], refl)
+last_behind x (y ∷ ys) =
+    let r = last_behind y ys in
+    let e : length (x ∷ y ∷ ys) - 1 ≡ suc (length (y ∷ ys) - 1) = omega arith in
+    (x ∷ r.0, ap (λ l. x ∷ l) r.1 ∙ ap (λ i. x ∷ (r.0 ++ get_or (x ∷ y ∷ ys) i 0 ∷ [])) (sym e))
+
+pub ends_there : (line : List ℕ) → 1 < length line → HasEnds (get_or line 0 0) (get_or line (length line - 1) 0) line
+ends_there [] long = absurd (omega (arith, long))
+ends_there (x ∷ []) long = absurd (omega (arith, long))
+ends_there (x ∷ y ∷ ys) long =
+    let r = last_behind y ys in
+    let e : length (x ∷ y ∷ ys) - 1 ≡ suc (length (y ∷ ys) - 1) = omega arith in
+    record { inner = r.0; shape = ap (λ l. x ∷ l) r.1 ∙ ap (λ i. x ∷ (r.0 ++ get_or (x ∷ y ∷ ys) i 0 ∷ [])) (sym e) }
+
+-- the step that a post shows
+step_of : (ss : List ClientSession) (p : Polygraph) → Given ss p → (kept : List Entry) (earlier : List ChainOrder) → AllRest ss earlier [] (edges_after p kept) → (q : Posted) → IsShown p kept q → (s : Step) → step_view s ≡ shown_by (orders_of ss) q → IsStep ss earlier s
+step_of ss p g kept earlier rest q sh s is =
     let log = log_of ss in
-    let p = d.poly in
-    let posts = posts_in entries in
-    let sh = shown_at p [] posts k q d.shown at in
+    let o = order_by ss q in
+    let walk = q.edge.1 ∷ (sh.walk.inner ++ q.edge.0 ∷ []) in
     let inside = In-from_Contains (side_of p.choices q.choice q.side) q.edge sh.within in
-    let keeps = post_keeps ss p d.choices q q.side q.edge inside in
-    let refuted : Contains (edges_in log (turned (order_by ss q))) q.edge = Contains-from_In (edges_in log (turned (order_by ss q))) q.edge (subst (In q.edge) keeps.refuses inside) in
-    let start : IsBetween ss q.edge.1 = order_leads ss (turned (order_by ss q)) (turned_order log (order_by ss q) keeps.two_chains) q.edge refuted in
-    let before = take k posts in
-    let rests = walk_stands ss (map (order_by ss) before) [] (edges_after p (kept_after [] before)) (all_rest ss p (given_of ss entries clean d) [] before) sh.walk.inner q.edge.1 q.edge.0 start sh.walk.steps in
+    let keeps = post_keeps ss p g.choices q q.side q.edge inside in
+    let refuted : Contains (edges_in log (turned o)) q.edge = Contains-from_In (edges_in log (turned o)) q.edge (subst (In q.edge) keeps.refuses inside) in
+    let start : IsBetween ss q.edge.1 = order_leads ss (turned o) (turned_order log o keeps.two_chains) q.edge refuted in
+    let against : edge_against walk ≡ q.edge = ap (λ (u : ℕ). (u, q.edge.1)) (last_at q.edge.1 sh.walk.inner q.edge.0) in
+    let order : o ≡ s.order = sym (ap (λ (v : ChainOrder × List ℕ). v.0) is) in
+    let walk_is : walk ≡ s.walk.items = sym (ap (λ (v : ChainOrder × List ℕ). v.1) is ∙ sh.walk.shape) in
     record {
-      two_chains = keeps.two_chains;
-      refuted = inl refuted;
-      ends = record { inner = sh.walk.inner; shape = sh.walk.shape };
-      rests = subst (λ os. LineStands ss os [] q.walk) (sym (take-map (order_by ss) k posts)) (subst (LineStands ss (map (order_by ss) before) []) (sym sh.walk.shape) rests);
+      two_chains = subst (IsOrder log) order keeps.two_chains;
+      refuted = subst (λ z. Follows log (turned z) (edge_against s.walk.items)) order (subst (λ l. Follows log (turned o) (edge_against l)) walk_is (subst (Follows log (turned o)) (sym against) (inl refuted)));
+      ends = subst (λ l. HasEnds (edge_against l).1 (edge_against l).0 l) walk_is (subst (λ (e : Edge). HasEnds e.1 e.0 walk) (sym against) (record { inner = sh.walk.inner; shape = refl }));
+      rests = subst (LineStands ss earlier []) walk_is (walk_stands ss earlier [] (edges_after p kept) rest sh.walk.inner q.edge.1 q.edge.0 start sh.walk.steps);
     }
 
-all_from_get : {X : Type 0} (P : X → Type 0) (xs : List X) → ((k : ℕ) (x : X) → slice_get xs k ≡ Some x → P x) → All P xs
-all_from_get P xs h k d lt = h k (get_or xs k d) (slice_get-get_or xs k d lt)
+built_by : (ss : List ClientSession) (p : Polygraph) → Given ss p → (qs : List Posted) (kept : List Entry) (earlier : List ChainOrder) → AllRest ss earlier [] (edges_after p kept) → AreShown p kept qs → (steps : List Step) → map step_view steps ≡ map (shown_by (orders_of ss)) qs
+    → AreBuilt ss earlier steps × (needed.orders_of steps ≡ map (order_by ss) qs)
+built_by ss p g [] kept earlier rest sh [] is = (tt, refl)
+built_by ss p g [] kept earlier rest sh (s ∷ steps) is = absurd (cc)
+built_by ss p g (q ∷ qs) kept earlier rest sh [] is = absurd (cc)
+built_by ss p g (q ∷ qs) kept earlier rest sh (s ∷ steps) is =
+    let here : step_view s ≡ shown_by (orders_of ss) q = cc in
+    let order : s.order ≡ order_by ss q = ap (λ (v : ChainOrder × List ℕ). v.0) here in
+    let r = built_by ss p g qs (kept_side q ∷ kept) (earlier ++ order_by ss q ∷ []) (rest_more ss p g [] q kept earlier rest) sh.1 steps (cc) in
+    ((step_of ss p g kept earlier rest q sh.0 s here, subst (λ o. AreBuilt ss (earlier ++ o ∷ []) steps) (sym order) r.0), ap (λ o. o ∷ needed.orders_of steps) order ∙ ap (λ os. order_by ss q ∷ os) r.1)
 
-pub steps_of : (ss : List ClientSession) (entries : List LedgerEntry) → IsClean (log_of ss) → AreEntries ss entries → AreSteps ss (kept_by ss entries) entries
-steps_of ss entries clean d = record {
-  count = length-map (posts_in entries) (order_by ss) ∙ length_posts entries;
-  orders = all_from_get (IsOrder (log_of ss)) (kept_by ss entries) (λ k o at. (let r = get_map (order_by ss) (posts_in entries) k o at in subst (IsOrder (log_of ss)) r.1.1 (step_of ss entries clean d k r.0 r.1.0).two_chains));
-  each = λ k o q here at. subst (λ z. IsStep ss (take k (kept_by ss entries)) z q) (same_item (kept_by ss entries) k (order_by ss q) o (map_get (order_by ss) (posts_in entries) k q at) here) (step_of ss entries clean d k q at);
-}
-
-pub choices_within : (ss : List ClientSession) (entries : List LedgerEntry) → IsClean (log_of ss) → AreEntries ss entries → (orders : List ChainOrder) → orders ≡ orders_in (log_of ss) → All (λ q. q.choice < length orders) (posts_in entries)
-choices_within ss entries clean d orders e =
-    all_from_get (λ q. q.choice < length orders) (posts_in entries) (λ k q at.
-    (let sh = shown_at d.poly [] (posts_in entries) k q d.shown at in
-    let keeps = post_keeps ss d.poly d.choices q q.side q.edge (In-from_Contains (side_of d.poly.choices q.choice q.side) q.edge sh.within) in
-    omega (arith, keeps.within, ap length e)))
+-- the steps that entries show
+pub steps_of : (ss : List ClientSession) (entries : List LedgerEntry) → IsClean (log_of ss) → AreEntries ss entries → (orders : List ChainOrder) → orders ≡ orders_of ss → (steps : List Step) → map step_view steps ≡ map (shown_by orders) (posts_in entries)
+    → AreBuilt ss [] steps × (needed.orders_of steps ≡ kept_by ss entries)
+steps_of ss entries clean d orders orders_are steps is =
+    let g = given_of ss entries clean d in
+    built_by ss d.poly g (posts_in entries) [] [] (none_rest ss d.poly g []) d.shown steps (is ∙ ap (λ os. map (shown_by os) (posts_in entries)) orders_are)
 
 -- ---- its cycle
 pub dead_closed : (ss : List ClientSession) (entries : List LedgerEntry) → IsClean (log_of ss) → (d : AreEntries ss entries) → (line : List ℕ) → IsCycle (edges_after d.poly (kept_after [] (posts_in entries))) line → IsClosed ss (kept_by ss entries) line
@@ -304,22 +327,3 @@ dead_closed ss entries clean d line c =
     let posts = posts_in entries in
     let r = round_stands ss (kept_by ss entries) [] (edges_after d.poly (kept_after [] posts)) (all_rest ss d.poly (given_of ss entries clean d) [] posts) line c in
     record { round = r.0; rests = r.1 }
-
--- ---- entries by place
-pub choice_within : (entries : List LedgerEntry) (orders : List ChainOrder) → All (λ q. q.choice < length orders) (posts_in entries) → (i : ℕ) (x : LedgerEntry) → i < length entries → x ≡ get_or entries i x → x.post.choice < length orders
-choice_within entries orders h i x lt is =
-    let post : LedgerEntry → Posted = λ y. y.post in
-    let many : i < length (posts_in entries) = omega (arith, lt, length_posts entries) in
-    let here : get_or (posts_in entries) i x.post ≡ x.post = get_or-map post entries i x x.post lt ∙ ap post (sym is) in
-    subst (λ (q : Posted). q.choice < length orders) here (h i x.post many)
-
--- an entry's post, in the list of posts
-pub post_at : (entries : List LedgerEntry) (i : ℕ) (x : LedgerEntry) → i < length entries → x ≡ get_or entries i x → slice_get (posts_in entries) i ≡ Some x.post
-post_at entries i x lt is =
-    let post : LedgerEntry → Posted = λ y. y.post in
-    let got : slice_get entries i ≡ Some x = slice_get_read entries (length entries) i x refl lt is in
-    map_get post entries i x got
-
--- the orders that a ledger keeps, as they are made
-pub kept_are : (ss : List ClientSession) (entries : List LedgerEntry) (orders kept : List ChainOrder) → orders ≡ orders_in (log_of ss) → kept ≡ map (kept_order orders) (posts_in entries) → kept ≡ kept_by ss entries
-kept_are ss entries orders kept o k = k ∙ ap (λ z. map (kept_order z) (posts_in entries)) o

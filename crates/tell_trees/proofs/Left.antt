@@ -1,5 +1,5 @@
 -- What pruning leaves of a history is what its search looks at, and what is told of it.
-use Rattle.std.proofs.Common.{◌≡◌, ◌⊎◌, ℕ, ◌<◌, List, [], ◌++◌, length, None, Some, refl, sym, ap, ◌∙◌, subst, append_assoc, inl, inr, Bor}
+use Rattle.std.proofs.Common.{◌≡◌, ◌⊎◌, ℕ, ◌<◌, List, [], ◌++◌, length, map, None, Some, refl, sym, ap, ◌∙◌, subst, append_assoc, inl, inr, Bor}
 use Rattle.std.specs.List.{All, Contains, filter_map}
 use Rattle.std.proofs.lemmas.List.Elements.{All-nil, All-cons, All-append, All-contains, Contains-append_left, Contains-append_right, filter_map-append}
 use Rattle.known_graph.proofs.Listed.{In, In-append_left, In-append_right, In-from_Contains, Contains-from_In}
@@ -10,7 +10,7 @@ use Rattle.cube_laws.specs.declared.tree.TreeNode.{TreeNode}
 use Rattle.tell_reasons.specs.declared.why.ChainOrder.{ChainOrder}
 use Rattle.tell_steps.specs.View.{StepsView}
 use Rattle.tell_steps.specs.Ledgers.{IsCovered}
-use Rattle.tell_steps.specs.Lines.{IsNeededIn}
+use Rattle.tell_steps.specs.Needed.{IsNeededIn}
 use Rattle.tell_steps.specs.Steps.{AreStepsTold, IsNamed}
 use Rattle.tell_steps.specs.Told.{IsPut}
 use Rattle.tell_steps.specs.declared.item.Item.{Item}
@@ -43,11 +43,11 @@ visits_ready s nodes last visits lines v e a = all_ready s nodes v (λ l j. All-
 
 -- what is told of the visits, behind the steps and how many leaves there are, is the tree told
 pub whole_told : (s : StepsView) (orders : List ChainOrder) (nodes : List TreeNode) → IsSearched s.sessions s.entries orders nodes → (visits : List Visit) (last : ℕ) → IsVisited nodes 0 0 last visits → (before mid items : List Item) → mid ≡ before ++ leaves_items (leaf_count nodes) → IsPut mid items (AreVisitsTold s orders nodes visits)
-    → (lines : List (Bor (List ℕ))) → lines ≡ filter_map (λ w. w.line) visits → (ss : List ClientSession) → s.sessions ≡ ss → AreStepsTold ss s.orders before → ((k : ℕ) → k < length s.orders → IsNamed before k ⊎ IsNeededIn ss s.orders lines k)
+    → (lines : List (Bor (List ℕ))) → lines ≡ filter_map (λ w. w.line) visits → (ss : List ClientSession) → s.sessions ≡ ss → AreStepsTold ss s.orders before → ((k : ℕ) → k < length s.orders → IsNamed before k ⊎ IsNeededIn ss s.orders (map (λ (l : Bor (List ℕ)). l.now) lines) k)
     → (choices : List Choice) → AreOrdersOf (log_of ss) choices orders → IsTreeTold ss choices nodes items
 whole_told s orders nodes h visits last v before mid items mid_is put lines lines_are ss of_steps =
     let whole : items ≡ before ++ (leaves_items (leaf_count nodes) ++ put.items) = put.appended ∙ ap (λ l. l ++ put.items) mid_is ∙ append_assoc before (leaves_items (leaf_count nodes)) put.items in
-    let Told : List ClientSession → Type 0 = λ zs. AreStepsTold zs s.orders before → ((k : ℕ) → k < length s.orders → IsNamed before k ⊎ IsNeededIn zs s.orders lines k) → (choices : List Choice) → AreOrdersOf (log_of zs) choices orders → IsTreeTold zs choices nodes items in
+    let Told : List ClientSession → Type 0 = λ zs. AreStepsTold zs s.orders before → ((k : ℕ) → k < length s.orders → IsNamed before k ⊎ IsNeededIn zs s.orders (map (λ (l : Bor (List ℕ)). l.now) lines) k) → (choices : List Choice) → AreOrdersOf (log_of zs) choices orders → IsTreeTold zs choices nodes items in
     let told : Told s.sessions = λ steps needed choices sides. record {
       steps = s.orders;
       orders = orders;
@@ -62,7 +62,7 @@ whole_told s orders nodes h visits last v before mid items mid_is put lines line
       needed = λ k lt. elim (needed k lt) [
         | inl n ↦ named_among before items k (λ x c. subst (λ l. Contains l x) (sym whole) (Contains-append_left before (leaves_items (leaf_count nodes) ++ put.items) x c)) n
         | inr n ↦
-            let own = line_named s orders nodes visits put.items put.kind lines k n (subst (In n.line) lines_are (In-from_Contains lines n.line n.among)) in
+            let own = line_named s orders nodes visits put.items put.kind (map (λ (l : Bor (List ℕ)). l.now) lines) k n (subst (λ (ls : List (Bor (List ℕ))). In n.wanted.line (map (λ (l : Bor (List ℕ)). l.now) ls)) lines_are (In-from_Contains (map (λ (l : Bor (List ℕ)). l.now) lines) n.wanted.line n.wanted.among)) in
             named_among put.items items k (λ x c. subst (λ l. Contains l x) (sym put.appended) (Contains-append_right mid put.items x c)) own
       ];
     } in

@@ -1,5 +1,4 @@
-use Rattle.std.proofs.Common.{List, sym, subst}
-use Rattle.tell_reasons.specs.declared.why.ChainOrder.{ChainOrder}
+use Rattle.std.proofs.Common.{sym, subst}
 use Rattle.tell_steps.specs.View.{StepsView}
 use Rattle.tell_steps.specs.Lines.{LineStands}
 use Rattle.tell_steps.specs.Ledgers.{kept_by}
@@ -11,5 +10,4 @@ put_cycle-requires-clause-stands c =
     let s = c.args.self.now in
     let decided = c.args.decided.now in
     let line = c.args.line.now in
-    subst (λ (os : List ChainOrder). LineStands c.self.inside.chains.now os decided line) (sym c.deref.ensures.value)
-    (subst (λ (z : StepsView). LineStands z.sessions z.orders decided line) (sym c.self.view_is) (covered_stands s.sessions (kept_by s.sessions s.entries) s.orders decided line c.requires.stands c.requires.covered))
+    rw c.deref.ensures.value (subst (λ (z : StepsView). LineStands z.sessions z.orders decided line) (sym c.self.view_is) (covered_stands s.sessions (kept_by s.sessions s.entries) s.orders decided line c.requires.stands c.requires.covered))
