@@ -34,9 +34,7 @@ reason_there ss a b h none = elim (h.has none) [ inl o ↦ omega (arith, o.among
 
 pub dead_ledger : (ss : List ClientSession) (ledger : Ledger) → IsDeadHistory ss ledger → IsDeadLedger ss ledger
 dead_ledger ss ledger h = record {
-  poly = h.poly;
-  known = λ e. (h.unpruned.chained.known e).0;
-  choices = h.unpruned.chained.choices;
-  valid = h.dead.valid;
-  cycle = h.dead.cycle;
+  entries = record { poly = h.poly; known = λ e. (h.unpruned.chained.known e).0; choices = h.unpruned.chained.choices; shown = h.dead.valid.shown };
+  some = h.dead.cycle;
+  cycle = h.dead.valid.cycle;
 }

@@ -11,4 +11,4 @@ mod proposal;
 mod rounds;
 mod search;
 
-pub use proposal::{Proposal, ProposedStep, propose};
+pub use proposal::{Proposal, Step, propose};

@@ -6,15 +6,14 @@ use crate::rounds::{Rounds, kind_behind, rounds_of};
 use crate::search::{Search, Walk};
 use serializability::NodeIx;
 use std::alloc::{AllocError, Global};
+use tell_reasons::ChainOrder;
 use write_chains::Chains;
 
-/// A step: of a key the chain that begins with one writer stands before the one that begins with
-/// another, since the walk leads from the first writer to whom an edge of the other way comes from.
+/// A step: its two chains stand in this order, since a walk leads from where an edge of the other
+/// way leads to to where it comes from.
 #[derive(Drop)]
-pub struct ProposedStep {
-    pub key: usize,
-    pub first: NodeIx,
-    pub second: NodeIx,
+pub struct Step {
+    pub order: ChainOrder,
     pub walk: Vec<NodeIx>,
 }
 
@@ -22,7 +21,7 @@ pub struct ProposedStep {
 /// its first node repeated last.
 #[derive(Drop)]
 pub struct Proposal {
-    pub steps: Vec<ProposedStep>,
+    pub steps: Vec<Step>,
     pub cycle: Vec<NodeIx>,
 }
 
@@ -54,7 +53,7 @@ struct Telling<'a> {
     rounds: &'a Rounds<'a>,
     search: Search,
     is_needed: Vec<bool>,
-    steps: Vec<ProposedStep>,
+    steps: Vec<Step>,
 }
 
 impl<'a> Telling<'a> {
@@ -98,12 +97,12 @@ impl<'a> Telling<'a> {
     /// Adds the step that keeps an order, by the walk against the other way.
     fn add_step(&mut self, order: Order<'a>, limit: usize) -> Result<(), AllocError> {
         let walk = self.needed_walk(order.turned(), limit, true)?;
-        self.steps.push(ProposedStep {
+        let order = ChainOrder {
             key: order.key,
             first: order.first.head,
             second: order.second.head,
-            walk,
-        })?;
+        };
+        self.steps.push(Step { order, walk })?;
         Ok(())
     }
 }

@@ -1,11 +1,10 @@
 -- What a dead ledger of the chains' polygraph keeps, and what its walks and its cycle rest on.
-use Rattle.std.proofs.Common.{◌≡◌, ◌⊎◌, ℕ, zero, suc, ◌+◌, ◌<◌, true, List, [], ◌∷◌, ◌++◌, length, get_or, take, Option, None, Some, refl, sym, ap, ◌∙◌, subst, inl, inr, arith}
+use Rattle.std.proofs.Common.{◌≡◌, ◌⊎◌, ℕ, zero, suc, ◌+◌, ◌-◌, ◌<◌, true, List, [], ◌∷◌, ◌++◌, length, get_or, Option, None, Some, refl, sym, ap, ◌∙◌, subst, inl, inr, arith, append_assoc}
 use Rattle.std.specs.Prelude.{map, slice_get, unwrap_or}
-use Rattle.std.specs.List.{All, AllByRecursion, Contains, flat_map}
-use Rattle.std.proofs.lemmas.Option.{slice_get_within, slice_get-get_or, slice_get_read}
-use Rattle.std.proofs.lemmas.List.{length-map, get_or-map, take-map}
-use Rattle.std.proofs.lemmas.List.Elements.{Contains-append_cases}
-use Rattle.list_lemmas.proofs.Elements.{get_map as map_get, same_item, contains_at, mapped}
+use Rattle.std.specs.List.{AllByRecursion, Contains, flat_map}
+use Rattle.std.proofs.lemmas.Option.{slice_get_within, slice_get-get_or}
+use Rattle.std.proofs.lemmas.List.{append-nil}
+use Rattle.std.proofs.lemmas.List.Elements.{Contains-append_cases, Contains-append_left, Contains-push}
 use Rattle.session_log.specs.Text.{ClientSession}
 use Rattle.serializability.specs.Log.{Log}
 use Rattle.serializability.specs.Reads.{IsClean}
@@ -28,14 +27,15 @@ use Rattle.prune_ledger.specs.Posted.{Posted}
 use Rattle.prune_ledger.specs.Ledger.{side_of, kept_side, kept_after, edges_after, IsShown, AreShown}
 use Rattle.prune_ledger.specs.Pruned.{posts_in}
 use Rattle.prune_ledger.specs.declared.ledger.LedgerEntry.{LedgerEntry}
-use Rattle.prune_ledger.specs.declared.ledger.Ledger.{Ledger}
 use Rattle.prune_ledger.proofs.Sides.{side_is, choice_of_edge, kept_cases, no_kept}
-use Rattle.prune_ledger.proofs.Finals.{length_posts}
+use Rattle.tell_proposals.specs.declared.proposal.Step.{Step}
 use Rattle.tell_reasons.specs.declared.why.ChainOrder.{ChainOrder}
-use Rattle.tell_steps.specs.Steps.{turned, edges_in, IsOrder}
-use Rattle.tell_steps.specs.Orders.{choice_of, orders_in, kept_of, kept_order}
-use Rattle.tell_steps.specs.Lines.{IsBetween, Stands, LineStands}
-use Rattle.tell_steps.specs.Ledgers.{IsDeadLedger, AreEntries, kept_by, IsStep, AreSteps, IsClosed}
+use Rattle.tell_steps.specs.Steps.{turned, edges_in, IsOrder, Follows}
+use Rattle.tell_steps.specs.Orders.{choice_of, orders_in, kept_of, kept_order, step_view, shown_by}
+use Rattle.tell_steps.specs.Lines.{HasEnds, IsBetween, OneHas, Stands, LineStands, IsRound}
+use Rattle.tell_steps.specs.Ledgers.{AreEntries, kept_by, edge_against, IsStep, IsClosed}
+use Rattle.tell_steps.specs.Needed.{AreBuilt}
+use Rattle.tell_steps.specs.Needed as needed
 use Rattle.tell_steps.proofs.Chosen.{choices_are, all_orders, turned_order}
 
 -- ---- lists by place
@@ -174,164 +174,156 @@ post_keeps ss p e q s x i =
       refuses = side_is p.choices q.choice (choice_of log o.order) q.side o.choice ∙ refuses_by log o.order q.side ∙ ap (λ z. edges_in log (turned z)) (sym is);
     }
 
--- ---- what earlier posts keep
-shown_at : (p : Polygraph) (kept : List Entry) (qs : List Posted) (k : ℕ) (q : Posted) → AreShown p kept qs → slice_get qs k ≡ Some q → IsShown p (kept_after kept (take k qs)) q
-shown_at p kept [] k q h e = absurd (cc)
-shown_at p kept (x ∷ qs) zero q h e = let same : x ≡ q = cc in subst (IsShown p kept) same h.0
-shown_at p kept (x ∷ qs) (suc k) q h e = shown_at p (kept_side x ∷ kept) qs k q h.1 e
+-- ---- what edges rest on
+-- the edge leads to a node other than node 0; and where it comes from one, and the log shows no reason
+-- of it, a step or a decided order has it
+pub record Rests (ss : List ClientSession) (steps decided : List ChainOrder) (e : Edge) : Type 0 where
+  pub second : IsBetween ss e.1
+  pub has : 0 < e.0 → HaveNone ss e.0 e.1 → OneHas ss steps e ⊎ OneHas ss decided e
 
-record KeptIn (p : Polygraph) (qs : List Posted) (x : Edge) : Type 0 where
-  pub number : ℕ
-  pub post : Posted
-  pub at : slice_get qs number ≡ Some post
-  pub within : In x (side_of p.choices post.choice (other post.side))
+abbrev pub AllRest : List ClientSession → List ChainOrder → List ChainOrder → List Edge → Type 0
+AllRest ss steps decided edges = (e : Edge) → Contains edges e → Rests ss steps decided e
 
-after_cases : (p : Polygraph) (earlier : List Entry) (qs : List Posted) (x : Edge) → In x (edges_after p (kept_after earlier qs)) → In x (edges_after p earlier) ⊎ KeptIn p qs x
-after_cases p earlier [] x i = inl i
-after_cases p earlier (q ∷ qs) x i = elim (after_cases p (kept_side q ∷ earlier) qs x i) [
-  | inl a ↦ (elim (kept_cases p earlier (kept_side q) x a) [
-    | inl b ↦ inl b
-    | inr b ↦ inr (record { number = 0; post = q; at = refl; within = b })
-  ])
-  | inr k ↦ inr (record { number = suc k.number; post = k.post; at = k.at; within = k.within })
-]
-
--- ---- lines
-line_one : (ss : List ClientSession) (earlier : List ChainOrder) (v : ℕ) → LineStands ss earlier [] (v ∷ [])
-line_one ss earlier v = record { some = omega arith; each = λ i lt. absurd (omega (arith, lt)) }
-
-line_cons : (ss : List ClientSession) (earlier : List ChainOrder) (u w : ℕ) (rest : List ℕ) → Stands ss earlier [] u w → LineStands ss earlier [] (w ∷ rest) → LineStands ss earlier [] (u ∷ w ∷ rest)
-line_cons ss earlier u w rest r h = record { some = omega arith; each = each_of }
-  where
-    each_of : (i : ℕ) → i + 1 < length (u ∷ w ∷ rest) → Stands ss earlier [] (get_or (u ∷ w ∷ rest) i 0) (get_or (u ∷ w ∷ rest) (i + 1) 0)
-    each_of zero lt = r
-    each_of (suc i) lt =
-        let e : suc (i + 1) ≡ suc i + 1 = omega arith in
-        subst (λ k. Stands ss earlier [] (get_or (w ∷ rest) i 0) (get_or (u ∷ w ∷ rest) k 0)) e (h.each i (omega (arith, lt)))
-
-walk_rests : (ss : List ClientSession) (earlier : List ChainOrder) (edges : List Edge) → ((a b : ℕ) → Contains edges (a, b) → IsBetween ss a → Stands ss earlier [] a b)
-    → (ws : List ℕ) (u v : ℕ) → IsBetween ss u → Walk edges u ws v → LineStands ss earlier [] (u ∷ (ws ++ v ∷ []))
-walk_rests ss earlier edges each [] u v h w = line_cons ss earlier u v [] (each u v w h) (line_one ss earlier v)
-walk_rests ss earlier edges each (x ∷ ws) u v h w =
-    let r = each u x w.0 h in
-    line_cons ss earlier u x (ws ++ v ∷ []) r (walk_rests ss earlier edges each ws x v r.second w.1)
-
-pub walk_end : (edges : List Edge) (ws : List ℕ) (u v : ℕ) → Walk edges u ws v → (a : ℕ) × Contains edges (a, v)
-walk_end edges [] u v w = (u, w)
-walk_end edges (x ∷ ws) u v w = walk_end edges ws x v w.1
-
--- a cycle of known edges
-pub known_closed : (ss : List ClientSession) → IsClean (log_of ss) → (line : List ℕ) → IsCycle (chain_polygraph (log_of ss)).known line → IsClosed ss [] line
-known_closed ss clean line c =
-    let edges = (chain_polygraph (log_of ss)).known in
-    let w = c.1 in
-    let last = walk_end edges w.inner c.0 c.0 w.steps in
-    let rests : (a b : ℕ) → Contains edges (a, b) → IsBetween ss a → Stands ss [] [] a b =
-    λ a b e h. record { first = h; second = known_leads ss (a, b) e; has = λ none. absurd (known_not ss clean a b h.low e none) } in
-    record {
-      round = record { start = c.0; ends = record { inner = w.inner; shape = w.shape } };
-      rests = subst (LineStands ss [] []) (sym w.shape) (walk_rests ss [] edges rests w.inner c.0 c.0 (known_leads ss (last.0, c.0) last.1) w.steps);
-    }
-
--- ---- edges over what posts keep
 pub record Given (ss : List ClientSession) (p : Polygraph) : Type 0 where
   pub clean : IsClean (log_of ss)
   pub known : (e : Edge) → Contains p.known e → Contains (chain_polygraph (log_of ss)).known e
   pub choices : p.choices ≡ chain_choices (log_of ss)
 
-pub edge_leads : (ss : List ClientSession) (p : Polygraph) → Given ss p → (qs : List Posted) (x : Edge) → Contains (edges_after p (kept_after [] qs)) x → IsBetween ss x.1
-edge_leads ss p g qs x c = elim (after_cases p [] qs x (In-from_Contains (edges_after p (kept_after [] qs)) x c)) [
-  | inl i ↦ known_leads ss x (g.known x (Contains-from_In p.known x (no_kept p x i)))
-  | inr k ↦ (let q = post_keeps ss p g.choices k.post (other k.post.side) x k.within in
-      order_leads ss (order_by ss k.post) q.two_chains x (Contains-from_In (edges_in (log_of ss) (order_by ss k.post)) x (subst (In x) q.keeps k.within)))
+pub known_rest : (ss : List ClientSession) → IsClean (log_of ss) → (steps decided : List ChainOrder) → AllRest ss steps decided (chain_polygraph (log_of ss)).known
+known_rest ss clean steps decided e c = record { second = known_leads ss e c; has = λ lo none. absurd (known_not ss clean e.0 e.1 lo c none) }
+
+-- what a post keeps, and what posts keep
+rest_more : (ss : List ClientSession) (p : Polygraph) → Given ss p → (decided : List ChainOrder) (q : Posted) (kept : List Entry) (earlier : List ChainOrder) → AllRest ss earlier decided (edges_after p kept) → AllRest ss (earlier ++ order_by ss q ∷ []) decided (edges_after p (kept_side q ∷ kept))
+rest_more ss p g decided q kept earlier h e c = elim (kept_cases p kept (kept_side q) e (In-from_Contains (edges_after p (kept_side q ∷ kept)) e c)) [
+  | inl i ↦
+      let r = h e (Contains-from_In (edges_after p kept) e i) in
+      record {
+        second = r.second;
+        has = λ lo none. elim (r.has lo none) [
+          | inl o ↦ inl (record { order = o.order; among = Contains-append_left earlier (order_by ss q ∷ []) o.order o.among; has = o.has })
+          | inr o ↦ inr o
+        ];
+      }
+  | inr i ↦
+      let k = post_keeps ss p g.choices q (other q.side) e i in
+      let has = Contains-from_In (edges_in (log_of ss) (order_by ss q)) e (subst (In e) k.keeps i) in
+      record {
+        second = order_leads ss (order_by ss q) k.two_chains e has;
+        has = λ lo none. inl (record { order = order_by ss q; among = Contains-push earlier (order_by ss q); has = has });
+      }
 ]
 
-pub edge_rests : (ss : List ClientSession) (p : Polygraph) → Given ss p → (qs : List Posted) (a b : ℕ) → Contains (edges_after p (kept_after [] qs)) (a, b) → IsBetween ss a → Stands ss (map (order_by ss) qs) [] a b
-edge_rests ss p g qs a b c h = record {
-  first = h;
-  second = edge_leads ss p g qs (a, b) c;
-  has = λ none. elim (after_cases p [] qs (a, b) (In-from_Contains (edges_after p (kept_after [] qs)) (a, b) c)) [
-    | inl i ↦ absurd (known_not ss g.clean a b h.low (g.known (a, b) (Contains-from_In p.known (a, b) (no_kept p (a, b) i))) none)
-    | inr k ↦ (let q = post_keeps ss p g.choices k.post (other k.post.side) (a, b) k.within in
-        inl (record {
-          order = order_by ss k.post;
-          among = mapped (order_by ss) qs k.post (contains_at qs k.number k.post k.at);
-          has = Contains-from_In (edges_in (log_of ss) (order_by ss k.post)) (a, b) (subst (In (a, b)) q.keeps k.within);
-        }))
-  ];
-}
+rest_after : (ss : List ClientSession) (p : Polygraph) → Given ss p → (decided : List ChainOrder) (qs : List Posted) (kept : List Entry) (earlier : List ChainOrder) → AllRest ss earlier decided (edges_after p kept)
+    → AllRest ss (earlier ++ map (order_by ss) qs) decided (edges_after p (kept_after kept qs))
+rest_after ss p g decided [] kept earlier h = subst (λ os. AllRest ss os decided (edges_after p kept)) (sym (append-nil earlier)) h
+rest_after ss p g decided (q ∷ qs) kept earlier h =
+    subst (λ os. AllRest ss os decided (edges_after p (kept_after (kept_side q ∷ kept) qs))) (append_assoc earlier (order_by ss q ∷ []) (map (order_by ss) qs)) (rest_after ss p g decided qs (kept_side q ∷ kept) (earlier ++ order_by ss q ∷ []) (rest_more ss p g decided q kept earlier h))
 
+none_rest : (ss : List ClientSession) (p : Polygraph) → Given ss p → (decided : List ChainOrder) → AllRest ss [] decided (edges_after p [])
+none_rest ss p g decided e c = known_rest ss g.clean [] decided e (g.known e (Contains-from_In p.known e (no_kept p e (In-from_Contains (edges_after p []) e c))))
+
+pub all_rest : (ss : List ClientSession) (p : Polygraph) → Given ss p → (decided : List ChainOrder) (qs : List Posted) → AllRest ss (map (order_by ss) qs) decided (edges_after p (kept_after [] qs))
+all_rest ss p g decided qs = rest_after ss p g decided qs [] [] (none_rest ss p g decided)
+
+-- ---- lines
+line_cons : (ss : List ClientSession) (steps decided : List ChainOrder) (u w : ℕ) (rest : List ℕ) → Stands ss steps decided u w → ((i : ℕ) → i + 1 < length (w ∷ rest) → Stands ss steps decided (get_or (w ∷ rest) i 0) (get_or (w ∷ rest) (i + 1) 0)) → LineStands ss steps decided (u ∷ w ∷ rest)
+line_cons ss steps decided u w rest r h = record { some = omega arith; each = each_of }
+  where
+    each_of : (i : ℕ) → i + 1 < length (u ∷ w ∷ rest) → Stands ss steps decided (get_or (u ∷ w ∷ rest) i 0) (get_or (u ∷ w ∷ rest) (i + 1) 0)
+    each_of zero lt = r
+    each_of (suc i) lt =
+        let e : suc (i + 1) ≡ suc i + 1 = omega arith in
+        subst (λ k. Stands ss steps decided (get_or (w ∷ rest) i 0) (get_or (u ∷ w ∷ rest) k 0)) e (h i (omega (arith, lt)))
+
+walk_stands : (ss : List ClientSession) (steps decided : List ChainOrder) (edges : List Edge) → AllRest ss steps decided edges → (ws : List ℕ) (u v : ℕ) → IsBetween ss u → Walk edges u ws v → LineStands ss steps decided (u ∷ (ws ++ v ∷ []))
+walk_stands ss steps decided edges each [] u v h w = let r = each (u, v) w in line_cons ss steps decided u v [] (record { first = h; second = r.second; has = r.has h.low }) (λ i lt. absurd (omega (arith, lt)))
+walk_stands ss steps decided edges each (x ∷ ws) u v h w =
+    let r = each (u, x) w.0 in
+    line_cons ss steps decided u x (ws ++ v ∷ []) (record { first = h; second = r.second; has = r.has h.low }) (walk_stands ss steps decided edges each ws x v r.second w.1).each
+
+walk_end : (edges : List Edge) (ws : List ℕ) (u v : ℕ) → Walk edges u ws v → (a : ℕ) × Contains edges (a, v)
+walk_end edges [] u v w = (u, w)
+walk_end edges (x ∷ ws) u v w = walk_end edges ws x v w.1
+
+-- a cycle of such edges
+pub round_stands : (ss : List ClientSession) (steps decided : List ChainOrder) (edges : List Edge) → AllRest ss steps decided edges → (line : List ℕ) → IsCycle edges line → IsRound line × LineStands ss steps decided line
+round_stands ss steps decided edges each line c =
+    let w = c.1 in
+    let last = walk_end edges w.inner c.0 c.0 w.steps in (
+      record { start = c.0; ends = record { inner = w.inner; shape = w.shape } },
+      subst (LineStands ss steps decided) (sym w.shape) (walk_stands ss steps decided edges each w.inner c.0 c.0 (each (last.0, c.0) last.1).second w.steps),
+    )
+
+pub known_closed : (ss : List ClientSession) → IsClean (log_of ss) → (line : List ℕ) → IsCycle (chain_polygraph (log_of ss)).known line → IsClosed ss [] line
+known_closed ss clean line c = let r = round_stands ss [] [] (chain_polygraph (log_of ss)).known (known_rest ss clean [] []) line c in record { round = r.0; rests = r.1 }
+
+-- ---- the steps of entries
 given_of : (ss : List ClientSession) (entries : List LedgerEntry) → IsClean (log_of ss) → (d : AreEntries ss entries) → Given ss d.poly
 given_of ss entries clean d = record { clean = clean; known = d.known; choices = d.choices }
 
--- ---- the steps of entries
-step_of : (ss : List ClientSession) (entries : List LedgerEntry) → IsClean (log_of ss) → AreEntries ss entries → (k : ℕ) (q : Posted) → slice_get (posts_in entries) k ≡ Some q → IsStep ss (take k (kept_by ss entries)) (order_by ss q) q
-step_of ss entries clean d k q at =
+last_at : (v : ℕ) (inner : List ℕ) (u : ℕ) → get_or (v ∷ (inner ++ u ∷ [])) (length (v ∷ (inner ++ u ∷ [])) - 1) 0 ≡ u
+last_at v [] u = refl
+last_at v (x ∷ inner) u =
+    let e : length (v ∷ x ∷ (inner ++ u ∷ [])) - 1 ≡ suc (length (x ∷ (inner ++ u ∷ [])) - 1) = omega arith in
+    ap (λ i. get_or (v ∷ x ∷ (inner ++ u ∷ [])) i 0) e ∙ last_at x inner u
+
+-- a line of two nodes or more has ends
+last_behind : (x : ℕ) (xs : List ℕ) → (inner : List ℕ) × (x ∷ xs ≡ inner ++ get_or (x ∷ xs) (length (x ∷ xs) - 1) 0 ∷ [])
+last_behind x [] = ([], refl)
+last_behind x (y ∷ ys) =
+    let r = last_behind y ys in
+    let e : length (x ∷ y ∷ ys) - 1 ≡ suc (length (y ∷ ys) - 1) = omega arith in
+    (x ∷ r.0, ap (λ l. x ∷ l) r.1 ∙ ap (λ i. x ∷ (r.0 ++ get_or (x ∷ y ∷ ys) i 0 ∷ [])) (sym e))
+
+pub ends_there : (line : List ℕ) → 1 < length line → HasEnds (get_or line 0 0) (get_or line (length line - 1) 0) line
+ends_there [] long = absurd (omega (arith, long))
+ends_there (x ∷ []) long = absurd (omega (arith, long))
+ends_there (x ∷ y ∷ ys) long =
+    let r = last_behind y ys in
+    let e : length (x ∷ y ∷ ys) - 1 ≡ suc (length (y ∷ ys) - 1) = omega arith in
+    record { inner = r.0; shape = ap (λ l. x ∷ l) r.1 ∙ ap (λ i. x ∷ (r.0 ++ get_or (x ∷ y ∷ ys) i 0 ∷ [])) (sym e) }
+
+-- the step that a post shows
+step_of : (ss : List ClientSession) (p : Polygraph) → Given ss p → (kept : List Entry) (earlier : List ChainOrder) → AllRest ss earlier [] (edges_after p kept) → (q : Posted) → IsShown p kept q → (s : Step) → step_view s ≡ shown_by (orders_of ss) q → IsStep ss earlier s
+step_of ss p g kept earlier rest q sh s is =
     let log = log_of ss in
-    let p = d.poly in
-    let g = given_of ss entries clean d in
-    let posts = posts_in entries in
-    let sh = shown_at p [] posts k q d.shown at in
+    let o = order_by ss q in
+    let walk = q.edge.1 ∷ (sh.walk.inner ++ q.edge.0 ∷ []) in
     let inside = In-from_Contains (side_of p.choices q.choice q.side) q.edge sh.within in
-    let keeps = post_keeps ss p d.choices q q.side q.edge inside in
-    let refuted : Contains (edges_in log (turned (order_by ss q))) q.edge = Contains-from_In (edges_in log (turned (order_by ss q))) q.edge (subst (In q.edge) keeps.refuses inside) in
-    let start : IsBetween ss q.edge.1 = order_leads ss (turned (order_by ss q)) (turned_order log (order_by ss q) keeps.two_chains) q.edge refuted in
-    let before = take k posts in
-    let rests = walk_rests ss (map (order_by ss) before) (edges_after p (kept_after [] before)) (edge_rests ss p g before) sh.walk.inner q.edge.1 q.edge.0 start sh.walk.steps in
+    let keeps = post_keeps ss p g.choices q q.side q.edge inside in
+    let refuted : Contains (edges_in log (turned o)) q.edge = Contains-from_In (edges_in log (turned o)) q.edge (subst (In q.edge) keeps.refuses inside) in
+    let start : IsBetween ss q.edge.1 = order_leads ss (turned o) (turned_order log o keeps.two_chains) q.edge refuted in
+    let against : edge_against walk ≡ q.edge = ap (λ (u : ℕ). (u, q.edge.1)) (last_at q.edge.1 sh.walk.inner q.edge.0) in
+    let order : o ≡ s.order = sym (ap (λ (v : ChainOrder × List ℕ). v.0) is) in
+    let walk_is : walk ≡ s.walk.items = sym (ap (λ (v : ChainOrder × List ℕ). v.1) is ∙ sh.walk.shape) in
     record {
-      two_chains = keeps.two_chains;
-      refuted = inl refuted;
-      ends = record { inner = sh.walk.inner; shape = sh.walk.shape };
-      rests = subst (λ os. LineStands ss os [] q.walk) (sym (take-map (order_by ss) k posts)) (subst (LineStands ss (map (order_by ss) before) []) (sym sh.walk.shape) rests);
+      two_chains = subst (IsOrder log) order keeps.two_chains;
+      refuted = subst (λ z. Follows log (turned z) (edge_against s.walk.items)) order (subst (λ l. Follows log (turned o) (edge_against l)) walk_is (subst (Follows log (turned o)) (sym against) (inl refuted)));
+      ends = subst (λ l. HasEnds (edge_against l).1 (edge_against l).0 l) walk_is (subst (λ (e : Edge). HasEnds e.1 e.0 walk) (sym against) (record { inner = sh.walk.inner; shape = refl }));
+      rests = subst (LineStands ss earlier []) walk_is (walk_stands ss earlier [] (edges_after p kept) rest sh.walk.inner q.edge.1 q.edge.0 start sh.walk.steps);
     }
 
-all_from_get : {X : Type 0} (P : X → Type 0) (xs : List X) → ((k : ℕ) (x : X) → slice_get xs k ≡ Some x → P x) → All P xs
-all_from_get P xs h k d lt = h k (get_or xs k d) (slice_get-get_or xs k d lt)
+built_by : (ss : List ClientSession) (p : Polygraph) → Given ss p → (qs : List Posted) (kept : List Entry) (earlier : List ChainOrder) → AllRest ss earlier [] (edges_after p kept) → AreShown p kept qs → (steps : List Step) → map step_view steps ≡ map (shown_by (orders_of ss)) qs
+    → AreBuilt ss earlier steps × (needed.orders_of steps ≡ map (order_by ss) qs)
+built_by ss p g [] kept earlier rest sh [] is = (tt, refl)
+built_by ss p g [] kept earlier rest sh (s ∷ steps) is = absurd (cc)
+built_by ss p g (q ∷ qs) kept earlier rest sh [] is = absurd (cc)
+built_by ss p g (q ∷ qs) kept earlier rest sh (s ∷ steps) is =
+    let here : step_view s ≡ shown_by (orders_of ss) q = cc in
+    let order : s.order ≡ order_by ss q = ap (λ (v : ChainOrder × List ℕ). v.0) here in
+    let r = built_by ss p g qs (kept_side q ∷ kept) (earlier ++ order_by ss q ∷ []) (rest_more ss p g [] q kept earlier rest) sh.1 steps (cc) in
+    ((step_of ss p g kept earlier rest q sh.0 s here, subst (λ o. AreBuilt ss (earlier ++ o ∷ []) steps) (sym order) r.0), ap (λ o. o ∷ needed.orders_of steps) order ∙ ap (λ os. order_by ss q ∷ os) r.1)
 
-pub steps_of : (ss : List ClientSession) (entries : List LedgerEntry) → IsClean (log_of ss) → AreEntries ss entries → AreSteps ss (kept_by ss entries) entries
-steps_of ss entries clean d = record {
-  count = length-map (posts_in entries) (order_by ss) ∙ length_posts entries;
-  orders = all_from_get (IsOrder (log_of ss)) (kept_by ss entries) (λ k o at. (let r = get_map (order_by ss) (posts_in entries) k o at in subst (IsOrder (log_of ss)) r.1.1 (step_of ss entries clean d k r.0 r.1.0).two_chains));
-  each = λ k o q here at. subst (λ z. IsStep ss (take k (kept_by ss entries)) z q) (same_item (kept_by ss entries) k (order_by ss q) o (map_get (order_by ss) (posts_in entries) k q at) here) (step_of ss entries clean d k q at);
-}
-
-pub choices_within : (ss : List ClientSession) (entries : List LedgerEntry) → IsClean (log_of ss) → AreEntries ss entries → (orders : List ChainOrder) → orders ≡ orders_in (log_of ss) → All (λ q. q.choice < length orders) (posts_in entries)
-choices_within ss entries clean d orders e =
-    all_from_get (λ q. q.choice < length orders) (posts_in entries) (λ k q at.
-    (let sh = shown_at d.poly [] (posts_in entries) k q d.shown at in
-    let keeps = post_keeps ss d.poly d.choices q q.side q.edge (In-from_Contains (side_of d.poly.choices q.choice q.side) q.edge sh.within) in
-    omega (arith, keeps.within, ap length e)))
+-- the steps that entries show
+pub steps_of : (ss : List ClientSession) (entries : List LedgerEntry) → IsClean (log_of ss) → AreEntries ss entries → (orders : List ChainOrder) → orders ≡ orders_of ss → (steps : List Step) → map step_view steps ≡ map (shown_by orders) (posts_in entries)
+    → AreBuilt ss [] steps × (needed.orders_of steps ≡ kept_by ss entries)
+steps_of ss entries clean d orders orders_are steps is =
+    let g = given_of ss entries clean d in
+    built_by ss d.poly g (posts_in entries) [] [] (none_rest ss d.poly g []) d.shown steps (is ∙ ap (λ os. map (shown_by os) (posts_in entries)) orders_are)
 
 -- ---- its cycle
-pub dead_closed : (ss : List ClientSession) (ledger : Ledger) → IsClean (log_of ss) → (d : IsDeadLedger ss ledger) → (line : List ℕ) → IsCycle (edges_after d.poly (kept_after [] (posts_in ledger.entries.items))) line → IsClosed ss (kept_by ss ledger.entries.items) line
-dead_closed ss ledger clean d line c =
-    let p = d.poly in
-    let g : Given ss p = record { clean = clean; known = d.known; choices = d.choices } in
-    let posts = posts_in ledger.entries.items in
-    let w = c.1 in
-    let edges = edges_after p (kept_after [] posts) in
-    let last = walk_end edges w.inner c.0 c.0 w.steps in
-    let start : IsBetween ss c.0 = edge_leads ss p g posts (last.0, c.0) last.1 in
-    record {
-      round = record { start = c.0; ends = record { inner = w.inner; shape = w.shape } };
-      rests = subst (LineStands ss (kept_by ss ledger.entries.items) []) (sym w.shape) (walk_rests ss (kept_by ss ledger.entries.items) edges (edge_rests ss p g posts) w.inner c.0 c.0 start w.steps);
-    }
-
--- ---- entries by place
-pub choice_within : (entries : List LedgerEntry) (orders : List ChainOrder) → All (λ q. q.choice < length orders) (posts_in entries) → (i : ℕ) (x : LedgerEntry) → i < length entries → x ≡ get_or entries i x → x.post.choice < length orders
-choice_within entries orders h i x lt is =
-    let post : LedgerEntry → Posted = λ y. y.post in
-    let many : i < length (posts_in entries) = omega (arith, lt, length_posts entries) in
-    let here : get_or (posts_in entries) i x.post ≡ x.post = get_or-map post entries i x x.post lt ∙ ap post (sym is) in
-    subst (λ (q : Posted). q.choice < length orders) here (h i x.post many)
-
--- an entry's post, in the list of posts
-pub post_at : (entries : List LedgerEntry) (i : ℕ) (x : LedgerEntry) → i < length entries → x ≡ get_or entries i x → slice_get (posts_in entries) i ≡ Some x.post
-post_at entries i x lt is =
-    let post : LedgerEntry → Posted = λ y. y.post in
-    let got : slice_get entries i ≡ Some x = slice_get_read entries (length entries) i x refl lt is in
-    map_get post entries i x got
-
--- the orders that a ledger keeps, as they are made
-pub kept_are : (ss : List ClientSession) (entries : List LedgerEntry) (orders kept : List ChainOrder) → orders ≡ orders_in (log_of ss) → kept ≡ map (kept_order orders) (posts_in entries) → kept ≡ kept_by ss entries
-kept_are ss entries orders kept o k = k ∙ ap (λ z. map (kept_order z) (posts_in entries)) o
+pub dead_closed : (ss : List ClientSession) (entries : List LedgerEntry) → IsClean (log_of ss) → (d : AreEntries ss entries) → (line : List ℕ) → IsCycle (edges_after d.poly (kept_after [] (posts_in entries))) line → IsClosed ss (kept_by ss entries) line
+dead_closed ss entries clean d line c =
+    let posts = posts_in entries in
+    let r = round_stands ss (kept_by ss entries) [] (edges_after d.poly (kept_after [] posts)) (all_rest ss d.poly (given_of ss entries clean d) [] posts) line c in
+    record { round = r.0; rests = r.1 }

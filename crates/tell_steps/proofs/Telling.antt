@@ -1,12 +1,12 @@
 -- How lines and steps are told.
-use Rattle.std.proofs.Common.{◌≡◌, ℕ, zero, suc, ◌+◌, ◌-◌, ◌<◌, ◌≤◌, true, false, List, [], ◌∷◌, ◌++◌, length, get_or, drop, Some, refl, sym, ap, ◌∙◌, subst, inl, inr, arith, append_assoc, Bor}
+use Rattle.std.proofs.Common.{◌≡◌, ◌⊎◌, ℕ, zero, suc, ◌+◌, ◌-◌, ◌<◌, ◌≤◌, true, false, List, [], ◌∷◌, ◌++◌, length, get_or, drop, Some, refl, sym, ap, ◌∙◌, subst, inl, inr, arith, append_assoc}
 use Rattle.std.specs.Prelude.{slice_get}
 use Rattle.std.specs.List.{Contains}
 use Rattle.std.proofs.lemmas.Bool.{cases_lt, false_from_ne_true}
 use Rattle.std.proofs.lemmas.Option.{slice_get_within}
-use Rattle.std.proofs.lemmas.List.{append-nil, drop_more, drop_all, length_push, map-append}
-use Rattle.std.proofs.lemmas.List.Elements.{Contains-append_left, Contains-append_right, All-nil, All-push, All-weaker}
-use Rattle.list_lemmas.proofs.Elements.{same_item, contains_at}
+use Rattle.std.proofs.lemmas.List.{append-nil, drop_more, drop_all, length_push}
+use Rattle.std.proofs.lemmas.List.Elements.{Contains-append_left, Contains-append_right, All-nil, All-push}
+use Rattle.list_lemmas.proofs.Elements.{same_item, contains_at, behind}
 use Rattle.reach_laws.proofs.Walks.{Contains-here}
 use Rattle.known_graph.proofs.Listed.{In-from_Contains}
 use Rattle.session_log.specs.Text.{ClientSession}
@@ -17,18 +17,20 @@ use Rattle.reason_laws.proofs.Numbers.{node_from}
 use Rattle.reasons.specs.Given.{HaveNone}
 use Rattle.reasons.specs.Runs.{is_behind, goes_on, without_runs}
 use Rattle.reasons.proofs.Sessions.{Beside, beside_at, of_session, ends_of_session, runs_some, runs_each, runs_ends, runs_beside}
+use Rattle.tell_proposals.specs.declared.proposal.Step.{Step}
 use Rattle.tell_reasons.specs.declared.why.ChainOrder.{ChainOrder}
 use Rattle.tell_reasons.specs.declared.why.Why.{Why}
 use Rattle.tell_reasons.specs.declared.why.Why.TheVariants.{Known, Forced, Chosen}
 use Rattle.tell_steps.specs.declared.item.Item.{Item}
 use Rattle.tell_steps.specs.declared.item.Item.TheVariants as item
-use Rattle.tell_steps.specs.declared.needed.Step.{Step}
 use Rattle.tell_steps.specs.Steps.{IsOrder, IsFirstWith, IsWhy, IsLineTold, ends, goes, AreStepsTold, none, step, IsCycleTold, closes, IsNamed, IsDeadTold}
-use Rattle.tell_steps.specs.Lines.{HasEnds, IsBetween, Stands, LineStands, IsRound, IsNeededIn, HasSteps}
-use Rattle.tell_steps.specs.Ledgers.{IsStep}
-use Rattle.tell_steps.specs.Told.{IsPut, EdgesTold, IsRoundTold, IsStepTold, IsEdgeTold, AreEdgesTold, AreTold, AreToldFor}
+use Rattle.tell_steps.specs.Lines.{HasEnds, IsBetween, Stands, LineStands, IsRound, IsUnshownIn, HasSteps}
+use Rattle.tell_steps.specs.Ledgers.{edge_against, IsStep}
+use Rattle.tell_steps.specs.Needed.{IsFirstFor, AreNeeded, IsNeededIn, lines_with}
+use Rattle.tell_steps.specs.Told.{IsPut, EdgesTold, IsRoundTold, IsStepTold, AreToldFor}
 use Rattle.desk.proofs.Seating.{snoc_get, get_front}
 use Rattle.tell_steps.proofs.Known.{reason_not_none}
+use Rattle.tell_steps.proofs.Needing.{cons_cases}
 
 -- ---- the edges of a line
 edges_more : (ss : List ClientSession) (steps decided : List ChainOrder) (line : List ℕ) (i : ℕ) (before : List Item) (why : Why) → i + 1 < length line → EdgesTold ss steps decided line i before
@@ -74,19 +76,6 @@ pub put_all : (ss : List ClientSession) (steps decided : List ChainOrder) (line 
 put_all ss steps decided line i out new some le lt h = record { items = h.items; appended = h.appended; kind = edges_all ss steps decided line i h.items some le lt h.kind }
 
 -- ---- edges among items
-edge_beside : (ss : List ClientSession) (steps decided : List ChainOrder) (line : List ℕ) (items : List Item) → IsLineTold ss steps decided line items → (u v : ℕ) → Beside u v line → IsEdgeTold ss steps decided u v items
-unfolding Beside
-edge_beside ss steps decided line items (ends w) u v h = absurd h
-edge_beside ss steps decided line items (goes a b rest why more w h) u v (inl e) =
-    let here : IsEdgeTold ss steps decided a b (item.Edge a b why ∷ more) = record { why = why; by = w; among = Contains-here (item.Edge a b why) more } in
-    subst (λ x. IsEdgeTold ss steps decided x v (item.Edge a b why ∷ more)) e.0 (subst (λ y. IsEdgeTold ss steps decided a y (item.Edge a b why ∷ more)) e.1 here)
-edge_beside ss steps decided line items (goes a b rest why more w h) u v (inr later) =
-    let t = edge_beside ss steps decided (b ∷ rest) more h u v later in
-    record { why = t.why; by = t.by; among = Contains-append_right (item.Edge a b why ∷ []) more (item.Edge u v t.why) t.among }
-
-edge_told : (ss : List ClientSession) (steps decided : List ChainOrder) (line : List ℕ) (items : List Item) → IsLineTold ss steps decided line items → (i : ℕ) → i + 1 < length line → IsEdgeTold ss steps decided (get_or line i 0) (get_or line (i + 1) 0) items
-edge_told ss steps decided line items h i lt = edge_beside ss steps decided line items h (get_or line i 0) (get_or line (i + 1) 0) (beside_at line i lt)
-
 -- why an edge stands of which the log shows no reason
 one_step : (ss : List ClientSession) (steps : List ChainOrder) (e : Edge) (j k : ℕ) (o p : ChainOrder) → IsFirstWith (log_of ss) steps j o e → IsFirstWith (log_of ss) steps k p e → j ≡ k
 one_step ss steps e j k o p f g = elim (cases_lt j k) [
@@ -107,71 +96,79 @@ why_forced ss steps decided a b r o (Forced (suc k) p) w have f =
     ap (λ n. Forced (suc n) p) e ∙ ap (λ z. Forced (suc r) z) same
 why_forced ss steps decided a b r o (Chosen p) w have f = absurd (w.1.none o (contains_at steps r o f.at) f.has)
 
-pub edge_named : (ss : List ClientSession) (steps decided : List ChainOrder) (a b r : ℕ) (o : ChainOrder) (items : List Item) → IsEdgeTold ss steps decided a b items → HaveNone ss a b → IsFirstWith (log_of ss) steps r o (a, b) → IsNamed items r
-edge_named ss steps decided a b r o items t have f =
-    let P : Why → Type 0 = λ why. Contains items (item.Edge a b why) in
-    record { first = a; second = b; order = o; among = subst P (why_forced ss steps decided a b r o t.why t.by have f) t.among }
-
 pub named_among : (items new : List Item) (r : ℕ) → ((x : Item) → Contains items x → Contains new x) → IsNamed items r → IsNamed new r
 named_among items new r up n = record { first = n.first; second = n.second; order = n.order; among = up (item.Edge n.first n.second (Forced (suc r) n.order)) n.among }
 
--- a step that a told line needs
-needed_named : (ss : List ClientSession) (steps decided : List ChainOrder) (lines : List (Bor (List ℕ))) (r : ℕ) (items : List Item) (n : IsNeededIn ss steps lines r) → LineStands ss steps decided n.line.now → IsLineTold ss steps decided (without_runs ss n.line.now) items → IsNamed items r
-needed_named ss steps decided lines r items n stands h =
-    let line = n.line.now in
-    let u = get_or line n.place 0 in
-    let v = get_or line (n.place + 1) 0 in
-    let edge = stands.each n.place n.within in
-    let apart : is_behind ss u v ≡ false = false_from_ne_true (is_behind ss u v) (λ t. n.none.session (of_session ss u v (node_from ss u edge.first.low edge.first.high) (node_from ss v edge.second.low edge.second.high) t)) in
-    edge_named ss steps decided u v r n.order items (edge_beside ss steps decided (without_runs ss line) items h u v (runs_beside ss u v apart line (beside_at line n.place n.within))) n.none n.first
+-- a step that is the first to have an edge of a told line
+beside_named : (ss : List ClientSession) (steps decided : List ChainOrder) (u v r : ℕ) (o : ChainOrder) → HaveNone ss u v → IsFirstWith (log_of ss) steps r o (u, v) → (line : List ℕ) (items : List Item) → IsLineTold ss steps decided line items → Beside u v line → IsNamed items r
+unfolding Beside
+beside_named ss steps decided u v r o have f line items (ends w) h = absurd h
+beside_named ss steps decided u v r o have f line items (goes a b rest why more w h) (inl e) =
+    let P : ℕ → ℕ → Type 0 = λ x y. IsWhy ss steps decided x y why in
+    let same : why ≡ Forced (suc r) o = why_forced ss steps decided u v r o why (subst (λ x. P x v) e.0 (subst (P a) e.1 w)) have f in
+    record { first = a; second = b; order = o; among = subst (λ z. Contains (item.Edge a b why ∷ more) (item.Edge a b z)) same (Contains-here (item.Edge a b why) more) }
+beside_named ss steps decided u v r o have f line items (goes a b rest why more w h) (inr later) =
+    named_among more (item.Edge a b why ∷ more) r (behind (item.Edge a b why) more) (beside_named ss steps decided u v r o have f (b ∷ rest) more h later)
 
--- ---- more steps
-why_later : (ss : List ClientSession) (steps : List ChainOrder) (o : ChainOrder) (a b : ℕ) (why : Why) → IsWhy ss steps [] a b why → IsWhy ss (steps ++ o ∷ []) [] a b why
-why_later ss steps o a b (Known r) w = w
-why_later ss steps o a b (Forced zero p) w = absurd w
-why_later ss steps o a b (Forced (suc k) p) w =
-    let f = w.1 in (
-      w.0,
-      record {
-        at = get_front steps (o ∷ []) k p f.at;
-        has = f.has;
-        before = λ j q lt at c. elim (snoc_get steps j o q at) [
-          | inr before ↦ f.before j q lt before c
-          | inl last ↦ absurd (omega (arith, last.0, lt, slice_get_within steps k p f.at))
-        ];
-      },
-    )
-why_later ss steps o a b (Chosen p) w = absurd (omega (arith, w.2.1))
-
-edges_later : (ss : List ClientSession) (steps : List ChainOrder) (o : ChainOrder) (line : List ℕ) (items new : List Item) → ((x : Item) → Contains items x → Contains new x) → AreEdgesTold ss steps line items → AreEdgesTold ss (steps ++ o ∷ []) line new
-edges_later ss steps o line items new up h = record {
-  each = λ i lt.
-      (let t = h.each i lt in
-      let a = get_or line i 0 in
-      let b = get_or line (i + 1) 0 in
-      record { why = t.why; by = why_later ss steps o a b t.why t.by; among = up (item.Edge a b t.why) t.among });
-}
+beside_in : (ss : List ClientSession) (line : List ℕ) (e : Edge) → IsUnshownIn ss line e → Beside e.0 e.1 line
+beside_in ss line e u = subst (λ (d : Edge). Beside d.0 d.1 line) (sym u.at) (beside_at line u.place u.within)
 
 -- ---- steps
-pub told_none : (ss : List ClientSession) → AreTold ss [] [] []
-told_none ss = record {
-  same = refl;
-  two_chains = All-nil (IsOrder (log_of ss));
-  told = none;
-  walks = All-nil (λ (s : Step). AreEdgesTold ss [] s.post.walk []);
+at_end : (xs : List ChainOrder) (y : ChainOrder) → slice_get (xs ++ y ∷ []) (length xs) ≡ Some y
+at_end [] y = refl
+at_end (x ∷ xs) y = at_end xs y
+
+first_more : (ss : List ClientSession) (steps : List ChainOrder) (p : ChainOrder) (k : ℕ) (o : ChainOrder) (e : Edge) → IsFirstWith (log_of ss) steps k o e → IsFirstWith (log_of ss) (steps ++ p ∷ []) k o e
+first_more ss steps p k o e f = record {
+  at = get_front steps (p ∷ []) k o f.at;
+  has = f.has;
+  before = λ j q lt at c. elim (snoc_get steps j p q at) [
+    | inr before ↦ f.before j q lt before c
+    | inl last ↦ absurd (omega (arith, last.0, lt, slice_get_within steps k o f.at))
+  ];
 }
 
-pub told_more : (ss : List ClientSession) (done : List Step) (s : Step) (orders next : List ChainOrder) (items new : List Item) → next ≡ orders ++ s.order ∷ [] → IsStep ss orders s.order s.post → IsPut items new (IsStepTold ss orders s.order s.post) → AreTold ss done orders items → AreTold ss (done ++ s ∷ []) next new
-told_more ss done s orders next items new more is put t = subst (λ os. AreTold ss (done ++ s ∷ []) os new) (sym more) made
+first_last : (ss : List ClientSession) (steps : List ChainOrder) (o : ChainOrder) (e : Edge) → IsFirstFor ss steps o e → IsFirstWith (log_of ss) (steps ++ o ∷ []) (length steps) o e
+first_last ss steps o e f = record {
+  at = at_end steps o;
+  has = f.has;
+  before = λ j q lt at c. elim (snoc_get steps j o q at) [
+    | inr before ↦ f.first.none q (contains_at steps j q before) c
+    | inl last ↦ absurd (omega (arith, last.0, lt))
+  ];
+}
+
+pub told_none : (ss : List ClientSession) (kept : List ChainOrder) (lines : List (List ℕ)) (steps : List Step) → AreNeeded ss kept lines [] steps → AreToldFor ss kept lines [] steps []
+told_none ss kept lines steps n = record { told = none; two_chains = All-nil (IsOrder (log_of ss)); left = n; needed = λ k lt. absurd (omega (arith, lt)) }
+
+pub told_more : (ss : List ClientSession) (kept : List ChainOrder) (lines : List (List ℕ)) (orders : List ChainOrder) (s : Step) (later : List Step) (items new : List Item) → IsPut items new (IsStepTold ss orders s) → AreToldFor ss kept lines orders (s ∷ later) items → AreToldFor ss kept lines (orders ++ s.order ∷ []) later new
+told_more ss kept lines orders s later items new put t = record {
+  told = told;
+  two_chains = All-push (IsOrder (log_of ss)) orders s.order t.two_chains is.two_chains;
+  left = t.left.2;
+  needed = λ k lt. elim (cases_lt k (length orders)) [
+    | inl below ↦ before k (t.needed k below)
+    | inr ge ↦
+        let same : length orders ≡ k = omega (arith, ge, lt, length_push orders s.order) in
+        let w = t.left.1 in
+        subst (λ n. IsNamed new n ⊎ IsNeededIn ss (orders ++ s.order ∷ []) (lines_with lines later) n) same (inr (record { edge = w.0; wanted = w.1; order = s.order; first = first_last ss orders s.order w.0 w.2 }))
+  ];
+}
   where
-    later : List ChainOrder
-    later = orders ++ s.order ∷ []
+    is : IsStep ss orders s
+    is = t.left.0
 
-    Told : List ChainOrder → List Item → Step → Type 0
-    Told os l p = AreEdgesTold ss os p.post.walk l
-
-    h : IsStepTold ss orders s.order s.post put.items
+    h : IsStepTold ss orders s put.items
     h = put.kind
+
+    against : Edge
+    against = edge_against s.walk.items
+
+    told : AreStepsTold ss (orders ++ s.order ∷ []) new
+    told =
+        let all : AreStepsTold ss (orders ++ s.order ∷ []) (items ++ (item.Step (length orders + 1) s.order against.0 against.1 ∷ h.against)) =
+        step orders items t.told s.order is.two_chains against.0 against.1 is.refuted is.ends.inner h.against (subst (λ l. IsLineTold ss orders [] l h.against) is.ends.shape h.line) in
+        subst (AreStepsTold ss (orders ++ s.order ∷ [])) (ap (λ l. items ++ l) (sym h.whole) ∙ sym put.appended) all
 
     front : (x : Item) → Contains items x → Contains new x
     front x c = subst (λ l. Contains l x) (sym put.appended) (Contains-append_left items put.items x c)
@@ -179,33 +176,33 @@ told_more ss done s orders next items new more is put t = subst (λ os. AreTold 
     back : (x : Item) → Contains h.against x → Contains new x
     back x c =
         let Among : List Item → Type 0 = λ l. Contains l x in
-        let own : Among put.items = subst Among (sym h.whole) (Contains-append_right (item.Step (length orders + 1) s.order s.post.edge.0 s.post.edge.1 ∷ []) h.against x c) in
-        subst Among (sym put.appended) (Contains-append_right items put.items x own)
+        subst Among (sym put.appended) (Contains-append_right items put.items x (subst Among (sym h.whole) (behind (item.Step (length orders + 1) s.order against.0 against.1) h.against x c)))
 
-    told : AreStepsTold ss later new
-    told =
-        let all : AreStepsTold ss later (items ++ (item.Step (length orders + 1) s.order s.post.edge.0 s.post.edge.1 ∷ h.against)) =
-        step orders items t.told s.order is.two_chains s.post.edge.0 s.post.edge.1 is.refuted is.ends.inner h.against (subst (λ l. IsLineTold ss orders [] l h.against) is.ends.shape h.line) in
-        subst (AreStepsTold ss later) (ap (λ l. items ++ l) (sym h.whole) ∙ sym put.appended) all
-
-    made : AreTold ss (done ++ s ∷ []) later new
-    made = record {
-      same = ap (λ os. os ++ s.order ∷ []) t.same ∙ sym (map-append (λ (p : Step). p.order) done (s ∷ []));
-      two_chains = All-push (IsOrder (log_of ss)) orders s.order t.two_chains is.two_chains;
-      told = told;
-      walks = All-push (Told later new) done s (All-weaker (Told orders items) (Told later new) (λ p e. edges_later ss orders s.order p.post.walk items new front e) done t.walks)
-          (edges_later ss orders s.order s.post.walk h.against new back (record { each = edge_told ss orders [] s.post.walk h.against h.line }));
-    }
+    before : (k : ℕ) → IsNamed items k ⊎ IsNeededIn ss orders (lines_with lines (s ∷ later)) k → IsNamed new k ⊎ IsNeededIn ss (orders ++ s.order ∷ []) (lines_with lines later) k
+    before k (inl n) = inl (named_among items new k front n)
+    before k (inr n) =
+        let u = n.wanted in
+        elim (cons_cases (lines_with lines later) s.walk.items u.line u.among) [
+          | inl more ↦ inr (record { edge = n.edge; wanted = record { line = u.line; among = more; by = u.by }; order = n.order; first = first_more ss orders s.order k n.order n.edge n.first })
+          | inr same ↦ inl (named_among h.against new k back (beside_named ss orders [] n.edge.0 n.edge.1 k n.order u.by.unshown.none n.first s.walk.items h.against h.line (subst (Beside n.edge.0 n.edge.1) (sym same) (beside_in ss u.line n.edge u.by))))
+        ]
 
 -- ---- what lines need
--- a line that rests on what the entries keep, among the steps that were told for it
-pub closed_stands : (ss : List ClientSession) (kept steps : List ChainOrder) (line : List ℕ) → LineStands ss kept [] line → HasSteps ss kept steps line → LineStands ss steps [] line
-closed_stands ss kept steps line rests has = record {
+-- a line that rests on what is kept, among the steps that were told for it
+pub covered_stands : (ss : List ClientSession) (kept steps decided : List ChainOrder) (line : List ℕ) → LineStands ss kept decided line → HasSteps ss kept steps line → LineStands ss steps decided line
+covered_stands ss kept steps decided line rests covered = record {
   some = rests.some;
   each = λ i lt.
       (let r = rests.each i lt in
-      record { first = r.first; second = r.second; has = λ have. elim (r.has have) [ inl h ↦ inl (has.each i lt (record { first = r.first; second = r.second; none = have; has = h })) | inr d ↦ inr d ] });
+      record {
+        first = r.first;
+        second = r.second;
+        has = λ have. elim (r.has have) [ inl h ↦ inl (covered.each (get_or line i 0, get_or line (i + 1) 0) (record { place = i; within = lt; at = refl; unshown = record { first = r.first; second = r.second; none = have } }) h) | inr d ↦ inr d ];
+      });
 }
+
+pub line_covered : (ss : List ClientSession) (kept : List ChainOrder) (lines : List (List ℕ)) (steps : List ChainOrder) (items : List Item) (line : List ℕ) → AreToldFor ss kept lines steps [] items → Contains lines line → HasSteps ss kept steps line
+line_covered ss kept lines steps items line t among = record { each = λ e u h. t.left e (record { line = line; among = among; by = u }) h }
 
 -- ---- all of it: a cycle, told behind the steps
 pub round_cycle : (ss : List ClientSession) (steps decided : List ChainOrder) (line : List ℕ) (items : List Item) → IsRoundTold ss steps decided line items → IsCycleTold ss steps decided items
@@ -232,9 +229,9 @@ runs_lead ss u line h = let r = runs_ends ss u u h.inner in record { inner = r.0
 runs_round : (ss : List ClientSession) (line : List ℕ) → IsRound line → IsRound (without_runs ss line)
 runs_round ss line round = record { start = round.start; ends = runs_lead ss round.start line round.ends }
 
-pub round_told : (ss : List ClientSession) (steps decided : List ChainOrder) (line short : List ℕ) (old mid new : List Item) (start edges : ℕ) → LineStands ss steps decided line → IsRound line → short ≡ without_runs ss line → start ≡ get_or short 0 start → edges ≡ length short - 1
+pub round_told : (ss : List ClientSession) (steps decided : List ChainOrder) (line short : List ℕ) (old mid new : List Item) (start edges : ℕ) → IsRound line → short ≡ without_runs ss line → start ≡ get_or short 0 start → edges ≡ length short - 1
     → mid ≡ old ++ item.Cycle start edges ∷ [] → IsPut mid new (IsLineTold ss steps decided short) → IsPut old new (IsRoundTold ss steps decided line)
-round_told ss steps decided line short old mid new start edges stands round same first many is put =
+round_told ss steps decided line short old mid new start edges round same first many is put =
     let r = runs_round ss line round in
     let shape : short ≡ r.start ∷ (r.ends.inner ++ r.start ∷ []) = same ∙ r.ends.shape in
     let start_is : start ≡ r.start = first ∙ ap (λ l. get_or l 0 start) shape in
@@ -243,7 +240,6 @@ round_told ss steps decided line short old mid new start edges stands round same
       items = item.Cycle start edges ∷ put.items;
       appended = put.appended ∙ ap (λ l. l ++ put.items) is ∙ append_assoc old (item.Cycle start edges ∷ []) put.items;
       kind = record {
-        stands = stands;
         round = r;
         edges = put.items;
         told = subst (λ l. IsLineTold ss steps decided l put.items) same put.kind;
@@ -251,24 +247,30 @@ round_told ss steps decided line short old mid new start edges stands round same
       };
     }
 
-pub round_named : (ss : List ClientSession) (steps decided : List ChainOrder) (lines : List (Bor (List ℕ))) (r : ℕ) (items : List Item) (n : IsNeededIn ss steps lines r) → IsRoundTold ss steps decided n.line.now items → IsNamed items r
+-- a step that a told line needs
+pub round_named : (ss : List ClientSession) (steps decided : List ChainOrder) (lines : List (List ℕ)) (r : ℕ) (items : List Item) (n : IsNeededIn ss steps lines r) → IsRoundTold ss steps decided n.wanted.line items → IsNamed items r
 round_named ss steps decided lines r items n h =
-    let head = item.Cycle h.round.start (length h.round.ends.inner + 1) ∷ [] in
-    named_among h.edges items r (λ x c. subst (λ l. Contains l x) (sym h.whole) (Contains-append_right head h.edges x c)) (needed_named ss steps decided lines r h.edges n h.stands h.told)
+    let line = n.wanted.line in
+    let e = n.edge in
+    let u = n.wanted.by.unshown in
+    let apart : is_behind ss e.0 e.1 ≡ false = false_from_ne_true (is_behind ss e.0 e.1) (λ t. u.none.session (of_session ss e.0 e.1 (node_from ss e.0 u.first.low u.first.high) (node_from ss e.1 u.second.low u.second.high) t)) in
+    let head = item.Cycle h.round.start (length h.round.ends.inner + 1) in
+    let own = beside_named ss steps decided e.0 e.1 r n.order u.none n.first (without_runs ss line) h.edges h.told (runs_beside ss e.0 e.1 apart line (beside_in ss line e n.wanted.by)) in
+    named_among h.edges items r (λ x c. subst (λ l. Contains l x) (sym h.whole) (behind head h.edges x c)) own
 
-pub dead_told : (ss : List ClientSession) (kept steps : List ChainOrder) (line : Bor (List ℕ)) (before new : List Item) → AreToldFor ss kept steps before (line ∷ []) → IsPut before new (IsRoundTold ss steps [] line.now) → IsDeadTold ss new
+pub dead_told : (ss : List ClientSession) (kept steps : List ChainOrder) (line : List ℕ) (before new : List Item) → AreToldFor ss kept (line ∷ []) steps [] before → IsPut before new (IsRoundTold ss steps [] line) → IsDeadTold ss new
 dead_told ss kept steps line before new t put = record {
   steps = steps;
   before = before;
   round = put.items;
   told = t.told;
-  cycle = round_cycle ss steps [] line.now put.items put.kind;
+  cycle = round_cycle ss steps [] line put.items put.kind;
   whole = put.appended;
   needed = λ s lt. elim (t.needed s lt) [
     | inl n ↦ named_among before new s (λ x c. subst (λ l. Contains l x) (sym put.appended) (Contains-append_left before put.items x c)) n
     | inr n ↦
-        let same : line ≡ n.line = elim (In-from_Contains (line ∷ []) n.line n.among) [ inl e ↦ e | inr other ↦ absurd other ] in
-        let own = round_named ss steps [] (line ∷ []) s put.items n (subst (λ (l : Bor (List ℕ)). IsRoundTold ss steps [] l.now put.items) same put.kind) in
+        let same : line ≡ n.wanted.line = elim (In-from_Contains (line ∷ []) n.wanted.line n.wanted.among) [ inl e ↦ e | inr other ↦ absurd other ] in
+        let own = round_named ss steps [] (line ∷ []) s put.items n (subst (λ l. IsRoundTold ss steps [] l put.items) same put.kind) in
         named_among put.items new s (λ x c. subst (λ l. Contains l x) (sym put.appended) (Contains-append_right before put.items x c)) own
   ];
 }

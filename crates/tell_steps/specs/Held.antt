@@ -8,6 +8,7 @@ use Rattle.log_definitions.specs.Numbers.{log_of}
 use Rattle.reasons.specs.declared.reason.Reason.{Reason}
 use Rattle.tell_steps.specs.Steps.{IsOrder}
 use Rattle.tell_steps.specs.Lines.{IsAnswer}
+use Rattle.tell_steps.specs.Needed.{orders_of}
 use Rattle.tell_steps.specs.View.{StepsView}
 use Rattle.tell_steps.specs.declared.shown.Shown.TheInside as shown
 use Rattle.tell_steps.specs.declared.forced.Steps.TheInside as forced
@@ -16,24 +17,22 @@ abbrev pub same_edge : ℕ × ℕ → ℕ × ℕ → Bool
 same_edge d e = nat_eq d.0 e.0 && nat_eq d.1 e.1
 
 abbrev pub shown_view : shown.Inside → List ClientSession
-shown_view s = s.history.now
+shown_view s = s.chains.now
 
 -- the log is clean, and what is known of edges is so
 pub record AreShown (s : shown.Inside) : Type 0 where
-  pub clean : IsClean (log_of s.history.now)
+  pub clean : IsClean (log_of s.chains.now)
   pub answers : (a b : ℕ) (answer : Option Reason) → get same_edge s.answers (a, b) ≡ Some answer
-      → IsAnswer s.history.now a b answer
+      → IsAnswer s.chains.now a b answer
 
 -- the sessions, the entries of the ledger, and the orders that the steps establish
 abbrev pub steps_view : forced.Inside → StepsView
 steps_view s = record {
-  sessions = s.chains.now;
+  sessions = s.shown;
   entries = s.entries.now;
-  orders
-      = s.orders.items;
+  orders = orders_of s.steps.items;
 }
 
--- what the log shows is asked of these sessions, and the orders are of two of their chains
+-- the orders are of two chains
 pub record AreForced (s : forced.Inside) : Type 0 where
-  pub same : s.shown ≡ s.chains.now
-  pub orders : All (IsOrder (log_of s.chains.now)) s.orders.items
+  pub orders : All (IsOrder (log_of s.shown)) (orders_of s.steps.items)

@@ -1,27 +1,22 @@
 -- Ledgers of the polygraph of a log's chains that end in a cycle.
-use Rattle.std.specs.Prelude.{◌≡◌, ℕ, List, [], length, map, take, Some, slice_get, IsSome}
-use Rattle.std.specs.List.{All, Contains}
+use Rattle.std.specs.Prelude.{◌≡◌, ◌-◌, ℕ, List, [], length, map, slice_index, IsSome, IfSome}
+use Rattle.std.specs.List.{Contains}
 use Rattle.session_log.specs.Text.{ClientSession}
+use Rattle.reach_laws.specs.Reach.{IsCycle}
 use Rattle.serializability.specs.Polygraph.{Edge, Polygraph}
 use Rattle.chain_laws.specs.Chains.{chain_polygraph, chain_choices}
 use Rattle.log_definitions.specs.Numbers.{log_of}
-use Rattle.prune_ledger.specs.Posted.{Posted}
-use Rattle.prune_ledger.specs.Ledger.{AreShown}
-use Rattle.prune_ledger.specs.Pruned.{posts_in, IsLedgerOf}
+use Rattle.prune_ledger.specs.Ledger.{AreShown, edges_after}
+use Rattle.prune_ledger.specs.Pruned.{posts_in}
+use Rattle.prune_ledger.specs.Pruned as pruned
 use Rattle.prune_ledger.specs.declared.ledger.LedgerEntry.{LedgerEntry}
 use Rattle.prune_ledger.specs.declared.ledger.Ledger.{Ledger}
+use Rattle.tell_proposals.specs.declared.proposal.Step.{Step}
 use Rattle.tell_reasons.specs.declared.why.ChainOrder.{ChainOrder}
 use Rattle.tell_steps.specs.Steps.{IsOrder, turned, Follows}
 use Rattle.tell_steps.specs.Orders.{orders_in, kept_order}
-use Rattle.tell_steps.specs.Lines.{HasEnds, IsRound, LineStands}
-
--- a ledger of the chains' polygraph, whose known edges are no others, that ends in a cycle
-pub record IsDeadLedger (ss : List ClientSession) (ledger : Ledger) : Type 0 where
-  pub poly : Polygraph
-  pub known : (e : Edge) → Contains poly.known e → Contains (chain_polygraph (log_of ss)).known e
-  pub choices : poly.choices ≡ chain_choices (log_of ss)
-  pub valid : IsLedgerOf poly ledger
-  pub cycle : IsSome ledger.cycle
+use Rattle.tell_steps.specs.Lines.{HasEnds, IsRound, LineStands, HasSteps}
+use Rattle.tell_steps.specs.View.{StepsView}
 
 -- the entries are shown, of a polygraph with the choices between the chains, whose known edges are
 -- no others than theirs
@@ -31,29 +26,35 @@ pub record AreEntries (ss : List ClientSession) (entries : List LedgerEntry) : T
   pub choices : poly.choices ≡ chain_choices (log_of ss)
   pub shown : AreShown poly [] (posts_in entries)
 
+-- such entries, and a cycle in the known edges and the sides that they keep
+pub record IsDeadLedger (ss : List ClientSession) (ledger : Ledger) : Type 0 where
+  pub entries : AreEntries ss ledger.entries.items
+  pub some : IsSome ledger.cycle
+  pub cycle : IfSome ledger.cycle (λ line. IsCycle
+      (edges_after entries.poly (pruned.kept_by ledger.entries.items)) line.items)
+
 -- the orders that the entries keep
 abbrev pub kept_by : List ClientSession → List LedgerEntry → List ChainOrder
 kept_by ss entries = map (kept_order (orders_in (log_of ss))) (posts_in entries)
 
--- the order is of two chains, the edge follows from the other way round, and the walk leads against it
--- and rests on what is before
-pub record IsStep (ss : List ClientSession) (earlier : List ChainOrder) (o : ChainOrder)
-    (q : Posted) : Type 0 where
-  pub two_chains : IsOrder (log_of ss) o
-  pub refuted : Follows (log_of ss) (turned o) q.edge
-  pub ends : HasEnds q.edge.1 q.edge.0 q.walk
-  pub rests : LineStands ss earlier [] q.walk
+-- the edge from the last node of the line to the first
+abbrev pub edge_against : List ℕ → Edge
+edge_against line = (slice_index line (length line - 1), slice_index line 0)
 
--- each entry is a step that keeps its order and rests on those before
-pub record AreSteps (ss : List ClientSession) (kept : List ChainOrder)
-    (entries : List LedgerEntry) : Type 0 where
-  pub count : length kept ≡ length entries
-  pub orders : All (IsOrder (log_of ss)) kept
-  pub each : (k : ℕ) (o : ChainOrder) (q : Posted) → slice_get kept k ≡ Some o
-      → slice_get (posts_in entries) k ≡ Some q → IsStep ss (take k kept) o q
+-- the order is of two chains, an edge follows from the other way round, and the walk leads against it
+-- and rests on what is before
+pub record IsStep (ss : List ClientSession) (earlier : List ChainOrder) (s : Step) : Type 0 where
+  pub two_chains : IsOrder (log_of ss) s.order
+  pub refuted : Follows (log_of ss) (turned s.order) (edge_against s.walk.items)
+  pub ends : HasEnds (edge_against s.walk.items).1 (edge_against s.walk.items).0 s.walk.items
+  pub rests : LineStands ss earlier [] s.walk.items
 
 -- the line closes, and rests on what the entries keep
 pub record IsClosed (ss : List ClientSession) (kept : List ChainOrder)
     (line : List ℕ) : Type 0 where
   pub round : IsRound line
   pub rests : LineStands ss kept [] line
+
+-- the steps have each edge of the line that the entries keep and the log does not show
+abbrev pub IsCovered : StepsView → List ℕ → Type 0
+IsCovered s line = HasSteps s.sessions (kept_by s.sessions s.entries) s.orders line

@@ -3,7 +3,6 @@ pub mod Orders
 pub mod View
 pub mod Lines
 pub mod Held
-pub mod Marks
 pub mod Ledgers
 pub mod Needed
 pub mod Told

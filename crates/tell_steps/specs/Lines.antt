@@ -1,39 +1,20 @@
 -- Lines of nodes, and what their edges rest on.
-use Rattle.std.specs.Prelude.{◌≡◌, ◌↔◌, ◌⊎◌, ℕ, ◌+◌, ◌<◌, ◌≤◌, List, [], ◌∷◌, ◌++◌, length}
-use Rattle.std.specs.Prelude.{Option, None, Some, slice_index}
-use Rattle.std.specs.Borrow.{Bor}
+use Rattle.std.specs.Prelude.{◌≡◌, ◌⊎◌, ℕ, ◌+◌, ◌<◌, ◌≤◌, List, [], ◌∷◌, ◌++◌, length}
+use Rattle.std.specs.Prelude.{Option, None, Some, Bool, true, false, slice_get, slice_index}
 use Rattle.std.specs.List.{All, Contains}
 use Rattle.session_log.specs.Text.{ClientSession}
-use Rattle.serializability.specs.Polygraph.{Edge, Polygraph}
+use Rattle.serializability.specs.Polygraph.{Edge}
 use Rattle.serializability.specs.Log.{Log}
-use Rattle.chain_laws.specs.Chains.{chain_polygraph, chain_choices}
 use Rattle.log_definitions.specs.Numbers.{log_of}
 use Rattle.reasons.specs.Given.{IsReason, IsOfFirstKind, IsLeast, HaveNone}
 use Rattle.reasons.specs.declared.reason.Reason.{Reason}
 use Rattle.tell_reasons.specs.declared.why.ChainOrder.{ChainOrder}
-use Rattle.prune_ledger.specs.Ledger.{edges_after, AreShown}
-use Rattle.prune_ledger.specs.Pruned.{kept_by, posts_in}
-use Rattle.prune_ledger.specs.declared.ledger.LedgerEntry.{LedgerEntry}
-use Rattle.tell_steps.specs.Steps.{edges_in, IsFirstWith, NoStepHas}
-use Rattle.tell_steps.specs.View.{StepsView}
+use Rattle.tell_steps.specs.Steps.{edges_in, IsOrder, IsFirstWith, NoStepHas}
 
 -- a node of the log other than node 0
 pub record IsBetween (ss : List ClientSession) (v : ℕ) : Type 0 where
   pub low : 0 < v
   pub high : v ≤ (log_of ss).nodes
-
--- ---- what callers see
--- the entries are a ledger of the polygraph of the sessions' chains
-pub record HasLedger (ss : List ClientSession) (entries : List LedgerEntry) : Type 0 where
-  pub poly : Polygraph
-  pub known : (e : Edge) → (Contains poly.known e ↔ Contains (chain_polygraph (log_of ss)).known e)
-  pub choices : poly.choices ≡ chain_choices (log_of ss)
-  pub shown : AreShown poly [] (posts_in entries)
-
--- a line of nodes of the log other than node 0
-pub record IsLineOfNodes (ss : List ClientSession) (line : List ℕ) : Type 0 where
-  pub some : 0 < length line
-  pub nodes : All (IsBetween ss) line
 
 -- the line leads from the one node to the other
 pub record HasEnds (first last : ℕ) (line : List ℕ) : Type 0 where
@@ -45,46 +26,11 @@ pub record IsRound (line : List ℕ) : Type 0 where
   pub start : ℕ
   pub ends : HasEnds start start line
 
--- two nodes of the line stand side by side
-pub record IsStepOf (line : List ℕ) (e : Edge) : Type 0 where
-  pub front : List ℕ
-  pub back : List ℕ
-  pub shape : line ≡ front ++ e.0 ∷ e.1 ∷ back
-
 -- one of the orders has the edge
 pub record OneHas (ss : List ClientSession) (decided : List ChainOrder) (e : Edge) : Type 0 where
   pub order : ChainOrder
   pub among : Contains decided order
   pub has : Contains (edges_in (log_of ss) order) e
-
--- known, or kept by an entry of the ledger
-abbrev pub IsOfLedger : StepsView → Edge → Type 0
-IsOfLedger s e = Contains (edges_after (chain_polygraph (log_of s.sessions)) (kept_by s.entries)) e
-
--- each two nodes side by side, the first other than node 0, that are an edge of the ledger which
--- the log shows no reason of, are an edge of a step
-pub record IsCovered (s : StepsView) (line : List ℕ) : Type 0 where
-  pub each : (e : Edge) → IsStepOf line e → IsBetween s.sessions e.0 → IsOfLedger s e
-      → HaveNone s.sessions e.0 e.1 → OneHas s.sessions s.orders e
-
--- each two nodes side by side are an edge that is known, that the ledger keeps, or that one of the
--- decided orders has
-pub record HasEdges (s : StepsView) (decided : List ChainOrder) (line : List ℕ) : Type 0 where
-  pub each : (e : Edge) → IsStepOf line e → Contains
-      (edges_after (chain_polygraph (log_of s.sessions)) (kept_by s.entries)) e
-      ⊎ OneHas s.sessions decided e
-
--- step k is the first that has an edge of one of these lines of which the log shows no reason
-pub record IsNeededIn (ss : List ClientSession) (steps : List ChainOrder)
-    (lines : List (Bor (List ℕ))) (k : ℕ) : Type 0 where
-  pub line : Bor (List ℕ)
-  pub among : Contains lines line
-  pub place : ℕ
-  pub within : place + 1 < length line.now
-  pub none : HaveNone ss (slice_index line.now place) (slice_index line.now (place + 1))
-  pub order : ChainOrder
-  pub first : IsFirstWith (log_of ss) steps k order
-      (slice_index line.now place, slice_index line.now (place + 1))
 
 -- ---- of lines over what steps and decided orders have
 -- both are nodes, and where the log shows no reason of the edge, a step or a decided order has it
@@ -101,45 +47,37 @@ pub record LineStands (ss : List ClientSession) (steps decided : List ChainOrder
   pub each : (i : ℕ) → i + 1 < length line → Stands ss steps decided (slice_index line i)
       (slice_index line (i + 1))
 
--- ---- what orders have of edges that the log does not show
--- the first of the orders that has the edge, by its place
+-- ---- what steps have of edges that the log does not show
+-- the first of the orders that has the edge, by its place, if they are of two chains
 abbrev pub IsFound : Log → List ChainOrder → Edge → Option ℕ → Type 0
-IsFound log orders e None = NoStepHas log orders e
-IsFound log orders e (Some k) = (o : ChainOrder) × IsFirstWith log orders k o e
+IsFound log orders e None = All (IsOrder log) orders → NoStepHas log orders e
+IsFound log orders e (Some k) = (o : ChainOrder) × (slice_get orders k ≡ Some o)
+    × Contains (edges_in log o) e × (All (IsOrder log) orders → IsFirstWith log orders k o e)
 
--- both are nodes, the log shows no reason of the edge, and one of the orders has it
-pub record IsUnshown (ss : List ClientSession) (kept : List ChainOrder) (a b : ℕ) : Type 0 where
-  pub first : IsBetween ss a
-  pub second : IsBetween ss b
-  pub none : HaveNone ss a b
-  pub has : OneHas ss kept (a, b)
+-- both are nodes, and the log shows no reason of the edge
+pub record IsUnshown (ss : List ClientSession) (e : Edge) : Type 0 where
+  pub first : IsBetween ss e.0
+  pub second : IsBetween ss e.1
+  pub none : HaveNone ss e.0 e.1
 
--- the same, where this order, by its place, is the first that has it
-pub record IsFirstUnshown (ss : List ClientSession) (kept : List ChainOrder)
-    (a b k : ℕ) : Type 0 where
-  pub first : IsBetween ss a
-  pub second : IsBetween ss b
-  pub none : HaveNone ss a b
-  pub order : ChainOrder
-  pub by : IsFirstWith (log_of ss) kept k order (a, b)
+-- it is such an edge of the line
+pub record IsUnshownIn (ss : List ClientSession) (line : List ℕ) (e : Edge) : Type 0 where
+  pub place : ℕ
+  pub within : place + 1 < length line
+  pub at : e ≡ (slice_index line place, slice_index line (place + 1))
+  pub unshown : IsUnshown ss e
 
-abbrev pub IsEntry : List ClientSession → List ChainOrder → ℕ → ℕ → Option ℕ → Type 0
-IsEntry ss kept a b None = IsUnshown ss kept a b → ⊥
-IsEntry ss kept a b (Some k) = IsFirstUnshown ss kept a b k
-
--- each such edge of the line is one of a step
+-- the steps have each such edge of the line that the kept orders have
 pub record HasSteps (ss : List ClientSession) (kept steps : List ChainOrder)
     (line : List ℕ) : Type 0 where
-  pub each : (i : ℕ) → i + 1 < length line
-      → IsUnshown ss kept (slice_index line i) (slice_index line (i + 1))
-      → OneHas ss steps (slice_index line i, slice_index line (i + 1))
+  pub each : (e : Edge) → IsUnshownIn ss line e → OneHas ss kept e → OneHas ss steps e
 
 -- ---- what is known of edges
--- both are nodes, and the log shows a reason of the edge
-pub record IsShown (ss : List ClientSession) (a b : ℕ) : Type 0 where
-  pub first : IsBetween ss a
-  pub second : IsBetween ss b
-  pub some : HaveNone ss a b → ⊥
+-- whether the log shows a reason of the edge; or one of the two is no such node
+abbrev pub IsShownAs : List ClientSession → ℕ → ℕ → Option Bool → Type 0
+IsShownAs ss a b None = IsUnshown ss (a, b) → ⊥
+IsShownAs ss a b (Some false) = IsUnshown ss (a, b)
+IsShownAs ss a b (Some true) = IsBetween ss a × IsBetween ss b × (HaveNone ss a b → ⊥)
 
 -- the reason holds, is of the first kind that has one, and no lesser operations would do
 pub record IsGiven (ss : List ClientSession) (a b : ℕ) (r : Reason) : Type 0 where

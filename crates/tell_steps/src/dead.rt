@@ -1,16 +1,17 @@
 //! A dead ledger, told as forced steps that end in a cycle.
 
-ghost use Rattle.std.specs.Prelude.{◌≡◌, IfOk};
+ghost use Rattle.std.specs.Prelude.{◌≡◌, [], IfOk, IfSome};
 ghost use Rattle.serializability.specs.Reads.{IsClean};
 ghost use Rattle.log_definitions.specs.Numbers.{log_of};
 ghost use Rattle.tell_steps.specs.Steps.{IsDeadTold};
 ghost use Rattle.tell_steps.specs.Ledgers as spec;
+ghost use Rattle.tell_steps.specs.Needed.{orders_of, AreBuilt};
 
+use crate::checks::{are_steps, is_closed};
 use crate::item::Item;
 use crate::lines::put_cycle;
 use crate::needed::Walks;
-use crate::orders::{choice_orders, kept_orders};
-use crate::proposed::tell_proposed;
+use crate::orders::{choice_orders, steps_from};
 use crate::shorter::shorter_cycle;
 use crate::shown::Shown;
 use crate::steps::told_steps;
@@ -18,62 +19,76 @@ use prune_ledger::{Ledger, LedgerEntry};
 use serializability::NodeIx;
 use session_history::History;
 use std::alloc::{AllocError, Global};
-use tell_reasons::ChainOrder;
+use tell_proposals::{Proposal, Step, propose};
 use write_chains::Chains;
 
-/// The orders that the entries of a ledger keep.
-pub fn kept_by(
+/// The steps that the entries of a ledger show.
+pub fn steps_in(
     alloc: Global,
     chains: &Chains<'_>,
     entries: &[LedgerEntry],
-) -> Result<Vec<ChainOrder>, AllocError>
+) -> Result<Vec<Step>, AllocError>
     requires clean { IsClean (log_of chains.now) }
     requires entries { spec.AreEntries chains.now entries.now }
-    ensures kept { IfOk result (λ kept. kept.items ≡ spec.kept_by chains.now entries.now) }
-    ensures steps { IfOk result (λ kept. spec.AreSteps chains.now kept.items entries.now) }
+    ensures kept { IfOk result (λ steps. orders_of steps.items ≡ spec.kept_by chains.now entries.now) }
+    ensures built { IfOk result (λ steps. AreBuilt chains.now [] steps.items) }
 {
     let orders = choice_orders(alloc, chains)?;
-    kept_orders(alloc, &orders, entries)
+    steps_from(alloc, &orders, entries)
 }
 
-/// The steps that this cycle needs, which tell entries of a ledger, and the cycle.
-pub fn tell_steps(
-    chains: &Chains<'_>,
+/// Those of these steps that this cycle needs, and the cycle.
+fn tell_steps(
     shown: &mut Shown<'_>,
-    kept: &[ChainOrder],
-    entries: &[LedgerEntry],
+    steps: Vec<Step>,
     cycle: &[NodeIx],
     walks: Walks,
 ) -> Result<Vec<Item>, AllocError>
-    requires same { shown.old ≡ chains.now }
-    requires steps { spec.AreSteps chains.now kept.now entries.now }
-    requires closed { spec.IsClosed chains.now kept.now cycle.now }
-    ensures same { shown.new ≡ chains.now }
-    ensures told { IfOk result (λ items. IsDeadTold chains.now items.items) }
+    requires built { AreBuilt shown.old [] steps.items }
+    requires closed { spec.IsClosed shown.old (orders_of steps.items) cycle.now }
+    ensures same { shown.new ≡ shown.old }
+    ensures told { IfOk result (λ items. IsDeadTold shown.old items.items) }
 {
-    let told = told_steps(chains, shown, kept, entries, &[cycle], walks)?;
+    let told = told_steps(shown, steps, &[cycle], walks)?;
     let mut items = told.items;
-    put_cycle(&mut items, chains, shown, &told.orders, &[], cycle)?;
+    put_cycle(&mut items, shown, &told.steps, &[], cycle)?;
     Ok(items)
 }
 
 /// The steps that this cycle over what the entries of a ledger keep needs, and the cycle, where the
 /// log shows a shortcut with that.
 fn tell_with(
-    alloc: Global,
-    chains: &Chains<'_>,
+    shown: &mut Shown<'_>,
     entries: &[LedgerEntry],
     cycle: &[NodeIx],
 ) -> Result<Vec<Item>, AllocError>
-    requires clean { IsClean (log_of chains.now) }
-    requires entries { spec.AreEntries chains.now entries.now }
-    requires closed { spec.IsClosed chains.now (spec.kept_by chains.now entries.now) cycle.now }
-    ensures told { IfOk result (λ items. IsDeadTold chains.now items.items) }
+    requires clean { IsClean (log_of shown.old) }
+    requires entries { spec.AreEntries shown.old entries.now }
+    requires closed { spec.IsClosed shown.old (spec.kept_by shown.old entries.now) cycle.now }
+    ensures told { IfOk result (λ items. IsDeadTold shown.old items.items) }
 {
-    let kept = kept_by(alloc, chains, entries)?;
-    let mut shown = Shown::of(alloc, chains);
-    let round = shorter_cycle(chains, &mut shown, &kept, cycle)?;
-    tell_steps(chains, &mut shown, &kept, entries, &round, Walks::Shorter)
+    let steps = steps_in(shown.alloc(), shown.chains(), entries)?;
+    let round = shorter_cycle(shown, &steps, cycle)?;
+    tell_steps(shown, steps, &round, Walks::Shorter)
+}
+
+/// Proposed steps of few words and the cycle that they end in, where these are right.
+fn tell_proposed(shown: &mut Shown<'_>) -> Result<Option<Vec<Item>>, AllocError>
+    ensures same { shown.new ≡ shown.old }
+    ensures told { IfOk result (λ told. IfSome told (λ items. IsDeadTold shown.old items.items)) }
+{
+    let Some(Proposal { steps, cycle }) = propose(shown.alloc(), shown.chains())? else {
+        return Ok(None);
+    };
+    let right = are_steps(shown, &steps)?;
+    if !right {
+        return Ok(None);
+    }
+    let closed = is_closed(shown, &steps, &cycle)?;
+    if !closed {
+        return Ok(None);
+    }
+    Ok(Some(tell_steps(shown, steps, &cycle, Walks::Same)?))
 }
 
 /// A dead ledger, told as forced steps, and the cycle that they end in: only the steps that the
@@ -91,10 +106,11 @@ pub fn tell_dead(
     requires ledger { spec.IsDeadLedger history.now ledger.now }
     ensures told { IfOk result (λ items. IsDeadTold history.now items.items) }
 {
+    let mut shown = Shown::of(alloc, chains);
     match &ledger.cycle {
-        Some(cycle) => match tell_proposed(alloc, chains)? {
+        Some(cycle) => match tell_proposed(&mut shown)? {
             Some(items) => Ok(items),
-            None => tell_with(alloc, chains, &ledger.entries, cycle),
+            None => tell_with(&mut shown, &ledger.entries, cycle),
         },
         None => Ok(Vec::new(alloc)),
     }

@@ -1,15 +1,16 @@
 //! The forced steps that some lines need.
 
-ghost use Rattle.std.specs.Prelude.{◌≡◌, ◌⊎◌, ℕ, ◌<◌, length, IfOk, OnOk};
+ghost use Rattle.std.specs.Prelude.{◌≡◌, ◌⊎◌, ℕ, ◌<◌, length, map, IfOk, OnOk};
 ghost use Rattle.std.specs.List.{All};
 ghost use Rattle.serializability.specs.Reads.{IsClean};
 ghost use Rattle.log_definitions.specs.Numbers.{log_of};
 ghost use Rattle.tell_steps.specs.Steps.{IsOrder, AreStepsTold, IsNamed};
-ghost use Rattle.tell_steps.specs.Lines.{HasLedger, IsLineOfNodes, IsCovered, HasEdges, IsRound};
-ghost use Rattle.tell_steps.specs.Lines.{IsNeededIn};
+ghost use Rattle.tell_steps.specs.Lines.{IsRound, LineStands};
+ghost use Rattle.tell_steps.specs.Ledgers as spec;
+ghost use Rattle.tell_steps.specs.Needed.{IsNeededIn};
 ghost use Rattle.tell_steps.specs.Told.{IsPut, IsRoundTold};
 
-use crate::dead::kept_by;
+use crate::dead::steps_in;
 use crate::item::Item;
 use crate::lines::put_cycle;
 use crate::needed::Walks;
@@ -20,6 +21,7 @@ use serializability::NodeIx;
 use session_history::History;
 use std::alloc::{AllocError, Global};
 use std::marker::Model;
+use tell_proposals::Step;
 use tell_reasons::ChainOrder;
 use write_chains::Chains;
 
@@ -28,9 +30,8 @@ use write_chains::Chains;
 #[derive(Drop)]
 pub struct Steps<'a> {
     shown: Shown<'a>,
-    chains: &'a Chains<'a>,
     entries: &'a [LedgerEntry],
-    orders: Vec<ChainOrder>,
+    steps: Vec<Step>,
 }
 
 impl<'a> Model for Steps<'a> {
@@ -56,22 +57,21 @@ pub fn steps_of<'a>(
 ) -> Result<(Steps<'a>, Vec<Item>), AllocError>
     requires clean { IsClean (log_of history.now) }
     requires chains { chains.now ≡ history.now }
-    requires ledger { HasLedger history.now entries.now }
+    requires ledger { spec.AreEntries history.now entries.now }
     ensures sessions { IfOk result (λ made. made.0.sessions ≡ history.now) }
     ensures entries { IfOk result (λ made. made.0.entries ≡ entries.now) }
     ensures told { IfOk result (λ made. AreStepsTold history.now made.0.orders made.1.items) }
-    ensures covered { IfOk result (λ made. All (λ line. IsCovered made.0 line.now) lines.now) }
+    ensures covered { IfOk result (λ made. All (λ line. spec.IsCovered made.0 line.now) lines.now) }
     ensures needed { IfOk result (λ made. (k : ℕ) → k < length made.0.orders
-        → IsNamed made.1.items k ⊎ IsNeededIn history.now made.0.orders lines.now k) }
+        → IsNamed made.1.items k ⊎ IsNeededIn history.now made.0.orders (map (λ l. l.now) lines.now) k) }
 {
-    let kept = kept_by(alloc, chains, entries)?;
+    let all = steps_in(alloc, chains, entries)?;
     let mut shown = Shown::of(alloc, chains);
-    let told = told_steps(chains, &mut shown, &kept, entries, lines, Walks::Shorter)?;
+    let told = told_steps(&mut shown, all, lines, Walks::Shorter)?;
     let steps = Steps {
         shown,
-        chains,
         entries,
-        orders: told.orders,
+        steps: told.steps,
     };
     Ok((steps, told.items))
 }
@@ -83,27 +83,19 @@ impl<'a> Steps<'a> {
     /// up once.
     pub fn put_cycle(
         &mut self,
-        alloc: Global,
         items: &mut Vec<Item>,
         decided: &[ChainOrder],
         line: &[NodeIx],
     ) -> Result<(), AllocError>
-        requires line { IsLineOfNodes self.old.sessions line.now }
         requires decided { All (IsOrder (log_of self.old.sessions)) decided.now }
-        requires covered { IsCovered self.old line.now }
-        requires edges { HasEdges self.old decided.now line.now }
+        requires covered { spec.IsCovered self.old line.now }
+        requires stands { LineStands self.old.sessions
+            (spec.kept_by self.old.sessions self.old.entries) decided.now line.now }
         requires round { IsRound line.now }
         ensures same { self.new ≡ self.old }
         ensures told { OnOk result (IsPut items.old.items items.new.items
             (IsRoundTold self.old.sessions self.old.orders decided.now line.now)) }
     {
-        put_cycle(
-            items,
-            self.chains,
-            &mut self.shown,
-            &self.orders,
-            decided,
-            line,
-        )
+        put_cycle(items, &mut self.shown, &self.steps, decided, line)
     }
 }

@@ -4,21 +4,18 @@
 //! Called by `tell_decision` and `tell_trees`. It knows no format, no tree and no piece.
 #![tactic(auto)]
 
-mod chain;
 mod checks;
 mod dead;
 mod decided;
 mod forced;
-mod ground;
 mod item;
 mod lines;
-mod marks;
 mod needed;
 mod orders;
-mod proposed;
 mod shorter;
 mod shown;
 mod steps;
+mod wants;
 
 pub use dead::tell_dead;
 pub use forced::{Steps, steps_of};

@@ -1,28 +1,15 @@
 //! The steps of a ledger that some lines need.
 
-ghost use Rattle.std.specs.Prelude.{◌≡◌, IfOk};
-ghost use Rattle.std.specs.List.{All};
-ghost use Rattle.log_definitions.specs.Numbers.{log_of};
-ghost use Rattle.tell_steps.specs.Steps.{IsOrder};
-ghost use Rattle.tell_steps.specs.Ledgers.{IsStep, AreSteps};
-ghost use Rattle.tell_steps.specs.Needed.{AreNeeded};
+ghost use Rattle.std.specs.Prelude.{◌≡◌, [], map, IfOk};
+ghost use Rattle.tell_steps.specs.Ledgers.{IsStep};
+ghost use Rattle.tell_steps.specs.Needed.{orders_of, AreBuilt, AreNeeded};
 
-use crate::marks::{mark_line, mark_lines};
-use crate::shorter::{same_post, shorter_step};
+use crate::shorter::shorter_step;
 use crate::shown::Shown;
-use prune_ledger::LedgerEntry;
-use prune_ledger::messages::Refutation;
+use crate::wants::{is_wanted, put_wants, wants_of};
 use serializability::NodeIx;
 use std::alloc::AllocError;
-use tell_reasons::ChainOrder;
-use write_chains::Chains;
-
-/// A step: the order that it establishes, and why the other way round is refuted.
-#[derive(Drop)]
-pub struct Step {
-    pub order: ChainOrder,
-    pub post: Refutation,
-}
+use tell_proposals::Step;
 
 /// Whether walks are told as they are, or shorter where that is right.
 #[derive(Clone, Copy)]
@@ -31,64 +18,45 @@ pub enum Walks {
     Shorter,
 }
 
-/// A step that establishes this order.
-fn step_by(
-    chains: &Chains<'_>,
-    shown: &mut Shown<'_>,
-    earlier: &[ChainOrder],
-    order: &ChainOrder,
-    post: &Refutation,
-    walks: Walks,
-) -> Result<Step, AllocError>
-    requires same { shown.old ≡ chains.now }
-    requires orders { All (IsOrder (log_of chains.now)) earlier.now }
-    requires step { IsStep chains.now earlier.now order.now post.now }
-    ensures same { shown.new ≡ chains.now }
-    ensures order { IfOk result (λ step. step.order ≡ order.now) }
-    ensures step { IfOk result (λ step. IsStep chains.now earlier.now order.now step.post) }
-{
-    let post = match walks {
-        Walks::Same => same_post(shown.alloc(), post)?,
-        Walks::Shorter => shorter_step(chains, shown, earlier, order, post)?,
-    };
-    Ok(Step {
-        order: *order,
-        post,
-    })
+impl Walks {
+    /// A step that establishes the same order behind these.
+    fn step(self, shown: &mut Shown<'_>, earlier: &[Step], step: Step) -> Result<Step, AllocError>
+        requires step { IsStep shown.old (orders_of earlier.now) step }
+        ensures same { shown.new ≡ shown.old }
+        ensures order { IfOk result (λ made. made.order ≡ step.order) }
+        ensures step { IfOk result (IsStep shown.old (orders_of earlier.now)) }
+    {
+        match self {
+            Walks::Same => Ok(step),
+            Walks::Shorter => shorter_step(shown, earlier, step),
+        }
+    }
 }
 
-/// The steps of a ledger that these lines need, and no others: from the last entry to the first,
-/// each that is the first to have an edge of a line, or of the walk of a later step, which the log
-/// does not show.
+/// Those of the steps that these lines need, and no others: from the last to the first, each that is
+/// the first to have an edge of a line, or of the walk of a later step, which the log does not show.
 pub fn needed_steps(
-    chains: &Chains<'_>,
     shown: &mut Shown<'_>,
-    kept: &[ChainOrder],
-    entries: &[LedgerEntry],
+    steps: Vec<Step>,
     lines: &[&[NodeIx]],
     walks: Walks,
 ) -> Result<Vec<Step>, AllocError>
-    requires same { shown.old ≡ chains.now }
-    requires steps { AreSteps chains.now kept.now entries.now }
-    ensures same { shown.new ≡ chains.now }
-    ensures needed { IfOk result (λ steps. AreNeeded chains.now kept.now lines.now steps.items) }
+    requires built { AreBuilt shown.old [] steps.items }
+    ensures same { shown.new ≡ shown.old }
+    ensures needed { IfOk result (λ needed. AreNeeded shown.old (orders_of steps.items)
+        (map (λ l. l.now) lines.now) [] needed.items) }
 {
-    let mut table = vec![in shown.alloc(); false; kept.len()]?;
-    let marks = table.as_mut_slice();
-    mark_lines(marks, chains, shown, kept, lines)?;
-    let mut steps = Vec::new(shown.alloc());
-    let mut entry = entries.len();
-    while 0 < entry {
-        entry -= 1;
-        let needed = marks[entry];
-        if !needed {
+    let mut left = steps;
+    let mut wants = wants_of(shown, lines)?;
+    let mut needed = Vec::new(shown.alloc());
+    while let Some(step) = left.pop() {
+        if !is_wanted(shown, &left, &step.order, &wants) {
             continue;
         }
-        let post = &entries[entry].post;
-        let step = step_by(chains, shown, &kept[..entry], &kept[entry], post, walks)?;
-        mark_line(marks, chains, shown, kept, &step.post.walk)?;
-        steps.push(step)?;
+        let made = walks.step(shown, &left, step)?;
+        put_wants(&mut wants, shown, &made.walk)?;
+        needed.push(made)?;
     }
-    steps.reverse();
-    Ok(steps)
+    needed.reverse();
+    Ok(needed)
 }

@@ -1,6 +1,6 @@
 //! Orders of two chains: those of the choices between chains, and those that a ledger keeps.
 
-ghost use Rattle.std.specs.Prelude.{◌≡◌, ◌<◌, ◌++◌, length, map, IfOk, OnOk};
+ghost use Rattle.std.specs.Prelude.{◌≡◌, ◌++◌, map, IfOk, OnOk};
 ghost use Rattle.std.specs.List.{All};
 ghost use Rattle.chain_laws.specs.Chains.{chain_choices};
 ghost use Rattle.log_definitions.specs.Numbers.{log_of};
@@ -14,6 +14,7 @@ use prune_ledger::messages::Refutation;
 use pruning_laws::Side;
 use serializability::NodeIx;
 use std::alloc::{AllocError, Global};
+use tell_proposals::Step;
 use tell_reasons::ChainOrder;
 use write_chains::{Chain, Chains};
 
@@ -89,25 +90,32 @@ fn kept_of(refused: Side, order: ChainOrder) -> ChainOrder
 
 /// The order that a refutation keeps, of these orders of all choices.
 fn kept_order(orders: &[ChainOrder], post: &Refutation) -> ChainOrder
-    requires choice { post.now.choice < length orders.now }
     ensures order { result ≡ spec.kept_order orders.now post.now }
 {
-    kept_of(post.side, orders[post.choice.get()])
+    let none = ChainOrder {
+        key: 0,
+        first: NodeIx::INITIAL,
+        second: NodeIx::INITIAL,
+    };
+    let order = orders.get(post.choice.get()).copied();
+    kept_of(post.side, order.unwrap_or(none))
 }
 
-/// The orders that the entries of a ledger keep, of these orders of all choices.
-pub fn kept_orders(
+/// The steps that entries of a ledger show, of these orders of all choices.
+pub fn steps_from(
     alloc: Global,
     orders: &[ChainOrder],
     entries: &[LedgerEntry],
-) -> Result<Vec<ChainOrder>, AllocError>
-    requires choices { All (λ q. q.choice < length orders.now) (posts_in entries.now) }
-    ensures kept { IfOk result (λ kept.
-        kept.items ≡ map (spec.kept_order orders.now) (posts_in entries.now)) }
+) -> Result<Vec<Step>, AllocError>
+    ensures steps { IfOk result (λ made. map spec.step_view made.items
+        ≡ map (spec.shown_by orders.now) (posts_in entries.now)) }
 {
-    let mut kept = Vec::with_capacity(alloc, entries.len())?;
+    let mut steps = Vec::with_capacity(alloc, entries.len())?;
     for entry in entries {
-        kept.push(kept_order(orders, &entry.post))?;
+        steps.push(Step {
+            order: kept_order(orders, &entry.post),
+            walk: Vec::from_slice(alloc, &entry.post.walk)?,
+        })?;
     }
-    Ok(kept)
+    Ok(steps)
 }

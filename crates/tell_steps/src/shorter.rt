@@ -2,21 +2,16 @@
 //! they are found: each is taken only where it is shown to be right.
 
 ghost use Rattle.std.specs.Prelude.{◌≡◌, IfOk};
-ghost use Rattle.std.specs.List.{All};
-ghost use Rattle.log_definitions.specs.Numbers.{log_of};
-ghost use Rattle.tell_steps.specs.Steps.{IsOrder};
 ghost use Rattle.tell_steps.specs.Ledgers.{IsStep, IsClosed};
+ghost use Rattle.tell_steps.specs.Needed.{orders_of};
 
-use crate::chain::first_chain;
 use crate::checks::{is_closed, is_step};
+use crate::decided::readers_behind;
 use crate::orders::turned;
 use crate::shown::Shown;
-use prune_ledger::messages::Refutation;
-use reach_laws::Edge;
 use serializability::NodeIx;
-use std::alloc::{AllocError, Global};
-use tell_reasons::ChainOrder;
-use write_chains::Chains;
+use std::alloc::AllocError;
+use tell_proposals::Step;
 
 /// The place of the first of these nodes from which the log shows an edge to another; where it
 /// shows none, that of the last.
@@ -24,7 +19,7 @@ fn earliest(shown: &mut Shown<'_>, nodes: &[NodeIx], end: NodeIx) -> Result<usiz
     ensures same { shown.new ≡ shown.old }
 {
     for (place, node) in nodes.iter().enumerate() {
-        if shown.shows(*node, end)? {
+        if shown.shows(*node, end)? == Some(true) {
             return Ok(place);
         }
     }
@@ -71,7 +66,7 @@ fn walk_to_one(
 {
     for place in 0..line.len().saturating_sub(2) {
         for end in ends {
-            if shown.shows(line[place], *end)? {
+            if shown.shows(line[place], *end)? == Some(true) {
                 return Ok(Some(walk_to(shown, &line[..place + 1], *end)?));
             }
         }
@@ -79,84 +74,41 @@ fn walk_to_one(
     Ok(None)
 }
 
-/// A post against the same order by a shorter walk, from a nearer node where there is one.
-fn shorter_post(
-    chains: &Chains<'_>,
-    shown: &mut Shown<'_>,
-    order: ChainOrder,
-    post: &Refutation,
-) -> Result<Refutation, AllocError>
-    requires order { IsOrder (log_of chains.now) order }
+/// A step that establishes the same order, by a shorter walk if that is right, from a nearer node
+/// where there is one.
+pub fn shorter_step(shown: &mut Shown<'_>, earlier: &[Step], step: Step) -> Result<Step, AllocError>
+    requires step { IsStep shown.old (orders_of earlier.now) step }
     ensures same { shown.new ≡ shown.old }
+    ensures order { IfOk result (λ made. made.order ≡ step.order) }
+    ensures step { IfOk result (IsStep shown.old (orders_of earlier.now)) }
 {
-    let line = shorter_line(shown, &post.walk)?;
-    let readers = first_chain(chains, &order).readers.as_slice();
-    let nearer = walk_to_one(shown, &line, readers)?;
-    let walk = nearer.unwrap_or(line);
-    let source = walk.last().copied().unwrap_or(post.edge.source());
-    Ok(Refutation {
-        choice: post.choice,
-        side: post.side,
-        edge: Edge::new(source, post.edge.target()),
-        walk,
-    })
-}
-
-/// The same post.
-pub fn same_post(alloc: Global, post: &Refutation) -> Result<Refutation, AllocError>
-    ensures same { IfOk result (λ made. made ≡ post.now) }
-{
-    let mut walk = Vec::new(alloc);
-    walk.extend_from_slice(&post.walk)?;
-    Ok(Refutation {
-        choice: post.choice,
-        side: post.side,
-        edge: post.edge,
-        walk,
-    })
-}
-
-/// A step that establishes the same order, by a shorter walk if that is right.
-pub fn shorter_step(
-    chains: &Chains<'_>,
-    shown: &mut Shown<'_>,
-    earlier: &[ChainOrder],
-    order: &ChainOrder,
-    post: &Refutation,
-) -> Result<Refutation, AllocError>
-    requires same { shown.old ≡ chains.now }
-    requires orders { All (IsOrder (log_of chains.now)) earlier.now }
-    requires step { IsStep chains.now earlier.now order.now post.now }
-    ensures same { shown.new ≡ chains.now }
-    ensures step { IfOk result (IsStep chains.now earlier.now order.now) }
-{
-    let made = shorter_post(chains, shown, turned(*order), post)?;
-    let right = is_step(chains, shown, earlier, order, &made)?;
+    let line = shorter_line(shown, &step.walk)?;
+    let nearer = walk_to_one(shown, &line, readers_behind(shown, turned(step.order)))?;
+    let made = Step {
+        order: step.order,
+        walk: nearer.unwrap_or(line),
+    };
+    let right = is_step(shown, earlier, &made)?;
     if right {
         return Ok(made);
     }
-    same_post(shown.alloc(), post)
+    Ok(step)
 }
 
 /// A cycle of some nodes of this one, if that is right, and else this one.
 pub fn shorter_cycle(
-    chains: &Chains<'_>,
     shown: &mut Shown<'_>,
-    kept: &[ChainOrder],
+    steps: &[Step],
     cycle: &[NodeIx],
 ) -> Result<Vec<NodeIx>, AllocError>
-    requires same { shown.old ≡ chains.now }
-    requires orders { All (IsOrder (log_of chains.now)) kept.now }
-    requires closed { IsClosed chains.now kept.now cycle.now }
-    ensures same { shown.new ≡ chains.now }
-    ensures closed { IfOk result (λ made. IsClosed chains.now kept.now made.items) }
+    requires closed { IsClosed shown.old (orders_of steps.now) cycle.now }
+    ensures same { shown.new ≡ shown.old }
+    ensures closed { IfOk result (λ made. IsClosed shown.old (orders_of steps.now) made.items) }
 {
     let made = shorter_line(shown, cycle)?;
-    let right = is_closed(chains, shown, kept, &made)?;
+    let right = is_closed(shown, steps, &made)?;
     if right {
         return Ok(made);
     }
-    let mut same = Vec::new(shown.alloc());
-    same.extend_from_slice(cycle)?;
-    Ok(same)
+    Vec::from_slice(shown.alloc(), cycle)
 }

@@ -7,17 +7,17 @@ ghost use Rattle.tell_steps.specs.Lines as spec;
 
 use reasons::{Reason, reason_of};
 use serializability::NodeIx;
-use session_history::History;
 use std::alloc::{AllocError, Global};
 use std::collections::HashMap;
 use std::marker::Model;
 use write_chains::Chains;
 
-/// What a clean log shows of edges, of which each is looked up once. Contracts see the sessions.
+/// The chains of a clean log, and what the log shows of edges, of which each is looked up once.
+/// Contracts see the sessions.
 #[derive(Drop)]
 pub struct Shown<'a> {
     alloc: Global,
-    history: &'a History,
+    chains: &'a Chains<'a>,
     /// Of each edge that was asked for, why it stands, where the log shows it.
     answers: HashMap<(usize, usize), Option<Reason>>,
 }
@@ -37,13 +37,13 @@ impl<'a> Model for Shown<'a> {
 
 impl<'a> Shown<'a> {
     /// What the log of these chains shows, of which nothing was asked for.
-    pub fn of(alloc: Global, chains: &Chains<'a>) -> Shown<'a>
+    pub fn of(alloc: Global, chains: &'a Chains<'a>) -> Shown<'a>
         requires clean { IsClean (log_of chains.now) }
         ensures sessions { result ≡ chains.now }
     {
         Shown {
             alloc,
-            history: chains.history(),
+            chains,
             answers: HashMap::new(alloc),
         }
     }
@@ -53,12 +53,19 @@ impl<'a> Shown<'a> {
         self.alloc
     }
 
+    /// The chains.
+    pub fn chains(&self) -> &'a Chains<'a>
+        ensures sessions { result.now ≡ self.now }
+    {
+        self.chains
+    }
+
     /// Whether this is a node other than node 0.
-    pub fn is_between(&self, node: NodeIx) -> bool
+    fn is_between(&self, node: NodeIx) -> bool
         ensures yes { IsTrue result → spec.IsBetween self.now node }
         ensures no { spec.IsBetween self.now node → IsTrue result }
     {
-        node.get() != 0 && node.get() <= self.history.committed()
+        node.get() != 0 && node.get() <= self.chains.history().committed()
     }
 
     /// Why `a` stands before `b`, where the log shows it.
@@ -72,19 +79,20 @@ impl<'a> Shown<'a> {
         if let Some(answer) = self.answers.get(&edge).copied() {
             return Ok(answer);
         }
-        let answer = reason_of(self.alloc, self.history, a, b)?;
+        let answer = reason_of(self.alloc, self.chains.history(), a, b)?;
         self.answers.insert(edge, answer)?;
         Ok(answer)
     }
 
     /// Whether the log shows that `a` stands before `b`, where both are nodes other than node 0.
-    pub fn shows(&mut self, a: NodeIx, b: NodeIx) -> Result<bool, AllocError>
+    pub fn shows(&mut self, a: NodeIx, b: NodeIx) -> Result<Option<bool>, AllocError>
         ensures same { self.new ≡ self.old }
-        ensures shown { IfOk result (λ shown. IsTrue shown → spec.IsShown self.old a b) }
+        ensures shown { IfOk result (spec.IsShownAs self.old a b) }
     {
         if !self.is_between(a) || !self.is_between(b) {
-            return Ok(false);
+            return Ok(None);
         }
-        Ok(self.reason(a, b)?.is_some())
+        let reason = self.reason(a, b)?;
+        Ok(Some(reason.is_some()))
     }
 }

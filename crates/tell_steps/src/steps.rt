@@ -1,88 +1,71 @@
 //! Steps, told one behind the other.
 
-ghost use Rattle.std.specs.Prelude.{◌≡◌, [], IfOk, OnOk};
+ghost use Rattle.std.specs.Prelude.{◌≡◌, [], map, IfOk, OnOk};
 ghost use Rattle.std.specs.List.{All};
 ghost use Rattle.log_definitions.specs.Numbers.{log_of};
 ghost use Rattle.tell_steps.specs.Steps.{IsOrder};
 ghost use Rattle.tell_steps.specs.Lines.{LineStands};
-ghost use Rattle.tell_steps.specs.Ledgers.{AreSteps};
-ghost use Rattle.tell_steps.specs.Needed.{AreBuilt};
+ghost use Rattle.tell_steps.specs.Needed.{orders_of, AreBuilt};
 ghost use Rattle.tell_steps.specs.Told as spec;
 
 use crate::item::Item;
 use crate::lines::put_edges;
-use crate::needed::{Step, Walks, needed_steps};
+use crate::needed::{Walks, needed_steps};
 use crate::shown::Shown;
-use prune_ledger::LedgerEntry;
 use serializability::NodeIx;
 use std::alloc::AllocError;
-use tell_reasons::ChainOrder;
-use write_chains::Chains;
+use tell_proposals::Step;
 
-/// Steps that are told: the orders that they establish, and the items.
+/// Steps that are told, and the items.
 #[derive(Drop)]
 pub struct Told {
-    pub orders: Vec<ChainOrder>,
+    pub steps: Vec<Step>,
     pub items: Vec<Item>,
 }
 
-/// Appends a step behind those that establish these orders, and the edges of its walk.
+/// Appends a step behind these, and the edges of its walk.
 fn put_step(
     items: &mut Vec<Item>,
-    chains: &Chains<'_>,
     shown: &mut Shown<'_>,
-    orders: &[ChainOrder],
+    earlier: &[Step],
     step: &Step,
 ) -> Result<(), AllocError>
-    requires same { shown.old ≡ chains.now }
-    requires orders { All (IsOrder (log_of chains.now)) orders.now }
-    requires stands { LineStands chains.now orders.now [] step.now.post.walk }
-    ensures same { shown.new ≡ chains.now }
+    requires orders { All (IsOrder (log_of shown.old)) (orders_of earlier.now) }
+    requires stands { LineStands shown.old (orders_of earlier.now) [] step.now.walk.items }
+    ensures same { shown.new ≡ shown.old }
     ensures put { OnOk result (spec.IsPut items.old.items items.new.items
-        (spec.IsStepTold chains.now orders.now step.now.order step.now.post)) }
+        (spec.IsStepTold shown.old (orders_of earlier.now) step.now)) }
 {
     items.extend_from_slice(&[Item::Step {
-        number: orders.len() + 1,
+        number: earlier.len() + 1,
         order: step.order,
-        source: step.post.edge.source(),
-        target: step.post.edge.target(),
+        source: step.walk[step.walk.len() - 1],
+        target: step.walk[0],
     }])?;
-    put_edges(items, chains, shown, orders, &[], &step.post.walk)
+    put_edges(items, shown, earlier, &[], &step.walk)
 }
 
-/// Tells these steps.
-fn tell_all(chains: &Chains<'_>, shown: &mut Shown<'_>, steps: &[Step]) -> Result<Told, AllocError>
-    requires same { shown.old ≡ chains.now }
-    requires built { AreBuilt chains.now [] steps.now }
-    ensures same { shown.new ≡ chains.now }
-    ensures told { IfOk result (λ told. spec.AreTold chains.now steps.now told.orders.items
-        told.items.items) }
-{
-    let mut items = Vec::new(shown.alloc());
-    let mut orders = Vec::with_capacity(shown.alloc(), steps.len())?;
-    for step in steps {
-        put_step(&mut items, chains, shown, &orders, step)?;
-        orders.push(step.order)?;
-    }
-    Ok(Told { orders, items })
-}
-
-/// The steps that these lines need, each of which rests on what the log shows and on earlier steps.
+/// Those of the steps that these lines need, each of which rests on what the log shows and on
+/// earlier ones.
 pub fn told_steps(
-    chains: &Chains<'_>,
     shown: &mut Shown<'_>,
-    kept: &[ChainOrder],
-    entries: &[LedgerEntry],
+    steps: Vec<Step>,
     lines: &[&[NodeIx]],
     walks: Walks,
 ) -> Result<Told, AllocError>
-    requires same { shown.old ≡ chains.now }
-    requires steps { AreSteps chains.now kept.now entries.now }
-    ensures same { shown.new ≡ chains.now }
-    ensures orders { IfOk result (λ told. All (IsOrder (log_of chains.now)) told.orders.items) }
-    ensures told { IfOk result (λ told. spec.AreToldFor chains.now kept.now told.orders.items
-        told.items.items lines.now) }
+    requires built { AreBuilt shown.old [] steps.items }
+    ensures same { shown.new ≡ shown.old }
+    ensures told { IfOk result (λ told. spec.AreToldFor shown.old (orders_of steps.items)
+        (map (λ l. l.now) lines.now) (orders_of told.steps.items) [] told.items.items) }
 {
-    let steps = needed_steps(chains, shown, kept, entries, lines, walks)?;
-    tell_all(chains, shown, &steps)
+    let needed = needed_steps(shown, steps, lines, walks)?;
+    let mut items = Vec::new(shown.alloc());
+    let told = needed.as_slice();
+    for (place, step) in told.iter().enumerate() {
+        put_step(&mut items, shown, &told[..place], step)?;
+    }
+    Ok(Told {
+        steps: needed,
+        items,
+    })
 }

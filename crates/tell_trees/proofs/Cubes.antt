@@ -10,8 +10,9 @@ use Rattle.serializability.specs.Polygraph.{Choice, Edge, Polygraph}
 use Rattle.pruning_laws.specs.declared.side.Side.TheVariants.{One, Two}
 use Rattle.pruning_laws.specs.Forced.{open_from, edges_of, kept_from}
 use Rattle.pruning_laws.specs.Ledger.{Entry, same_side, sides_in}
-use Rattle.prune_ledger.specs.Ledger.{kept_side, kept_after, side_of, edges_after}
-use Rattle.prune_ledger.specs.Pruned.{kept_by, posts_in, Remainder}
+use Rattle.prune_ledger.specs.Ledger.{kept_side, kept_after, side_of, edges_after, AreShown}
+use Rattle.prune_ledger.specs.Pruned.{posts_in, Remainder}
+use Rattle.prune_ledger.specs.Pruned as pruned
 use Rattle.prune_ledger.specs.declared.ledger.LedgerEntry.{LedgerEntry}
 use Rattle.chain_laws.specs.Chains.{chain_choices, chain_polygraph}
 use Rattle.log_definitions.specs.Numbers.{log_of}
@@ -23,7 +24,7 @@ use Rattle.tell_steps.specs.Steps.{IsOrder, edges_in}
 use Rattle.tell_trees.specs.Orders.{AreOrdersOf, names_choice, unsettled_from, no_order, sided, order_at, IsSearched}
 use Rattle.std.specs.Prelude.{slice_get, slice_index, slice_index_or, IfSome}
 use Rattle.std.proofs.lemmas.List.{length-append}
-use Rattle.std.proofs.lemmas.Option.{same_Some, get_or_from_slice_get}
+use Rattle.std.proofs.lemmas.Option.{same_Some, get_or_from_slice_get, slice_get_within}
 use Rattle.list_lemmas.proofs.Elements.{same_item, behind}
 use Rattle.reach_laws.specs.Reach.{Walk}
 use Rattle.pruning_laws.specs.declared.side.Side.{Side}
@@ -38,10 +39,10 @@ use Rattle.cube_laws.specs.Trees.{cube_below, cube_of, IsChild, IsRefutationTree
 use Rattle.cube_laws.proofs.Lists.{some_map, map_length}
 use Rattle.cube_laws.proofs.Upward.{cube_under, cube_top, cube_past}
 use Rattle.tell_steps.specs.View.{StepsView}
-use Rattle.tell_steps.specs.Lines.{IsBetween, IsLineOfNodes, IsOfLedger, OneHas, IsCovered, HasEdges, IsRound}
+use Rattle.tell_steps.specs.Lines.{IsRound, LineStands}
+use Rattle.tell_steps.specs.Ledgers.{AreEntries, IsCovered, kept_by}
 use Rattle.tell_steps.proofs.Chosen.{turned_order}
-use Rattle.tell_steps.proofs.Ledgers.{order_leads}
-use Rattle.tell_steps.proofs.Covering.{ledger_leads, round_nodes}
+use Rattle.tell_steps.proofs.Ledgers.{order_leads, Rests, AllRest, all_rest, round_stands}
 use Rattle.tell_trees.specs.Visits.{IsTreeOver, IsGrown, decided_at, IsUp, IsReady}
 use Rattle.tell_trees.specs.declared.visits.Visit.{Visit}
 
@@ -62,19 +63,19 @@ named_after kept (x ∷ xs) c =
     ∙ sym (or_assoc (names_choice xs c) (eqb x.post.choice c) (named_in kept c))
     ∙ ap (λ b. b || named_in kept c) (or_comm (names_choice xs c) (eqb x.post.choice c))
 
-settled_is : (entries : List LedgerEntry) (c : ℕ) → (sides_in (kept_by entries) c One || sides_in (kept_by entries) c Two) ≡ names_choice entries c
-settled_is entries c = kept_named (kept_by entries) c ∙ named_after [] entries c ∙ or-false (names_choice entries c)
+settled_is : (entries : List LedgerEntry) (c : ℕ) → (sides_in (pruned.kept_by entries) c One || sides_in (pruned.kept_by entries) c Two) ≡ names_choice entries c
+settled_is entries c = kept_named (pruned.kept_by entries) c ∙ named_after [] entries c ∙ or-false (names_choice entries c)
 
 -- ---- the orders that are left
 left_or : (log : Log) (b : Bool) (o : ChainOrder) (xs : List ChainOrder) (ys : List Choice) → IsOrder log o → AreOrdersOf log ys xs → AreOrdersOf log (cond b ys (choice_of log o ∷ ys)) (cond b xs (o ∷ xs))
 left_or log true o xs ys h a = a
 left_or log false o xs ys h a = record { sides = ap (λ l. choice_of log o ∷ l) a.sides; each = All-cons (IsOrder log) o xs h a.each }
 
-left_from : (log : Log) (entries : List LedgerEntry) (c : ℕ) (os : List ChainOrder) → All (IsOrder log) os → AreOrdersOf log (open_from (sides_in (kept_by entries)) c (map (choice_of log) os)) (unsettled_from entries c os)
+left_from : (log : Log) (entries : List LedgerEntry) (c : ℕ) (os : List ChainOrder) → All (IsOrder log) os → AreOrdersOf log (open_from (sides_in (pruned.kept_by entries)) c (map (choice_of log) os)) (unsettled_from entries c os)
 left_from log entries c [] a = record { sides = refl; each = All-nil (IsOrder log) }
 left_from log entries c (o ∷ os) a =
     let xs = unsettled_from entries (c + 1) os in
-    let ys = open_from (sides_in (kept_by entries)) (c + 1) (map (choice_of log) os) in
+    let ys = open_from (sides_in (pruned.kept_by entries)) (c + 1) (map (choice_of log) os) in
     subst (λ b. AreOrdersOf log (cond b ys (choice_of log o ∷ ys)) (cond (names_choice entries c) xs (o ∷ xs))) (sym (settled_is entries c))
     (left_or log (names_choice entries c) o xs ys (All-head (IsOrder log) o os a) (left_from log entries (c + 1) os (All-tail (IsOrder log) o os a)))
 
@@ -83,8 +84,8 @@ pub left_open : (ss : List ClientSession) (r : Remainder) → IsOpenHistory ss r
 left_open ss r h entries entries_are orders left same each is =
     let log = log_of ss in
     let choices = same ∙ sym h.unpruned.chained.choices in
-    let left_is : open_from (sides_in (kept_by entries)) 0 (map (choice_of log) orders) ≡ r.poly.choices = (λ z. open_from (sides_in (kept_by (entries_are z))) 0 (choices z)) ∙ sym h.left.choices in
-    subst (λ hs. AreOrdersOf log hs left) left_is (subst (AreOrdersOf log (open_from (sides_in (kept_by entries)) 0 (map (choice_of log) orders))) (sym is) (left_from log entries 0 orders each))
+    let left_is : open_from (sides_in (pruned.kept_by entries)) 0 (map (choice_of log) orders) ≡ r.poly.choices = (λ z. open_from (sides_in (pruned.kept_by (entries_are z))) 0 (choices z)) ∙ sym h.left.choices in
+    subst (λ hs. AreOrdersOf log hs left) left_is (subst (AreOrdersOf log (open_from (sides_in (pruned.kept_by entries)) 0 (map (choice_of log) orders))) (sym is) (left_from log entries 0 orders each))
 
 -- ---- cubes
 -- a node that decides a choice beyond its parent's cube
@@ -152,16 +153,6 @@ module _ (orders : List ChainOrder) (nodes : List TreeNode) (t : IsTreeOver (len
         (omega (arith, among, t.count), λ o e. (m.before, ap (map (order_at orders)) (m.cube ∙ ap (λ (z : CubeDecision). (z.choice, z.side) ∷ cube_of nodes x.parent) same) ∙ ap (λ z. z ∷ decided_at orders nodes x.parent) (sym e)))
   ]
 
--- ---- the steps of a walk
-no_more : (x : ℕ) (front back : List ℕ) (a b : ℕ) → x ∷ [] ≡ front ++ a ∷ b ∷ back → ⊥
-no_more x front back a b e = omega (arith, ap length e, length-append front (a ∷ b ∷ back))
-
-walk_step : (edges : List Edge) (u v : ℕ) (inner front back : List ℕ) (a b : ℕ) → Walk edges u inner v → u ∷ (inner ++ v ∷ []) ≡ front ++ a ∷ b ∷ back → Contains edges (a, b)
-walk_step edges u v [] [] back a b w e = let one : u ≡ a = cc in let two : v ≡ b = cc in rw (sym one, sym two) w
-walk_step edges u v [] (y ∷ front) back a b w e = absurd (no_more v front back a b (cc))
-walk_step edges u v (x ∷ inner) [] back a b w e = let one : u ≡ a = cc in let two : x ≡ b = cc in rw (sym one, sym two) w.0
-walk_step edges u v (x ∷ inner) (y ∷ front) back a b w e = walk_step edges x v inner front back a b w.1 (cc)
-
 -- ---- the sides of a cube
 edges_sided : (log : Log) (o : ChainOrder) (s : Side) → edges_of (choice_of log o) s ≡ edges_in log (sided s o)
 edges_sided log o One = refl
@@ -190,26 +181,45 @@ module _ (s : StepsView) (orders : List ChainOrder) (nodes : List TreeNode) (h :
       side_is p.choices d.0 g.choice d.1 g.at ∙ ap (λ (z : Choice). edges_of z d.1) (sym r.2) ∙ edges_sided log r.0 d.1 ∙ ap (λ (z : ChainOrder). edges_in log (sided d.1 z)) (sym (get_or_from_slice_get orders d.0 r.0 no_order r.1)) in
       Contains-from_In (edges_in log (order_at orders d)) e (subst (In e) same i)
 
-  -- what is known of the polygraph is known of the chains, or an entry of the ledger keeps it
-  known_kept : (e : Edge) → Contains p.known e → IsOfLedger s e
-  known_kept e c =
-      let made = h.left.unpruned.chained in
-      let kept : List Choice → List Edge = kept_from (sides_in (kept_by h.reduced.ledger.entries.items)) 0 in
-      subst (λ entries. Contains (edges_after (chain_polygraph log) (kept_by entries)) e) (sym h.entries_are)
-      (subst (λ (cs : List Choice). Contains ((chain_polygraph log).known ++ kept cs) e) made.choices (elim (Contains-append_cases h.left.poly.known (kept h.left.poly.choices) e ((h.left.left.known e).0 c)) [
-        | inl a ↦ Contains-append_left (chain_polygraph log).known (kept h.left.poly.choices) e ((made.known e).0 a)
-        | inr b ↦ Contains-append_right (chain_polygraph log).known (kept h.left.poly.choices) e b
-      ]))
+  sided_at : (d : Entry) (e : Edge) → In e (side_of p.choices d.0 d.1) → IsOrder log (order_at orders d)
+  sided_at d e i =
+      let g = choice_of_edge p.choices d.0 d.1 e i in
+      sided_order log (slice_index_or orders d.0 no_order) d.1 (h.sides.each d.0 no_order (omega (arith, slice_get_within p.choices d.0 g.choice g.at, orders_count log p.choices orders h.sides)))
 
-  cube_edge : (cube : Cube) (e : Edge) → In e (edges_after p cube) → IsOfLedger s e ⊎ OneHas s.sessions (map (order_at orders) cube) e
-  cube_edge [] e i = inl (known_kept e (Contains-from_In p.known e (no_kept p e i)))
-  cube_edge (d ∷ cube) e i = elim (kept_cases p cube d e i) [
-    | inl a ↦ elim (cube_edge cube e a) [
-      | inl k ↦ inl k
-      | inr o ↦ inr (record { order = o.order; among = behind (order_at orders d) (map (order_at orders) cube) o.order o.among; has = o.has })
-    ]
-    | inr b ↦ inr (record { order = order_at orders d; among = (0, omega arith, refl); has = side_has d e b })
-  ]
+  -- the ledger of what pruning left
+  pub entries_shown : AreEntries s.sessions s.entries
+  entries_shown =
+      let made = h.left.unpruned.chained in
+      record { poly = h.left.poly; known = λ e. (made.known e).0; choices = made.choices; shown = subst (λ es. AreShown h.left.poly [] (posts_in es)) (sym h.entries_are) h.left.left.ledger.shown }
+
+  known_rests : (e : Edge) → Contains p.known e → Rests s.sessions (kept_by s.sessions s.entries) [] e
+  unfolding entries_shown
+  known_rests e c =
+      let all = entries_shown in
+      all_rest s.sessions all.poly (record { clean = h.clean; known = all.known; choices = all.choices }) [] (posts_in s.entries) e (subst (λ es. Contains (edges_after all.poly (pruned.kept_by es)) e) (sym h.entries_are) ((h.left.left.known e).0 c))
+
+  cube_rests : (cube : Cube) → AllRest s.sessions (kept_by s.sessions s.entries) (map (order_at orders) cube) (edges_after p cube)
+  cube_rests cube e c = in_cube cube (In-from_Contains (edges_after p cube) e c)
+    where
+      in_cube : (cube : Cube) → In e (edges_after p cube) → Rests s.sessions (kept_by s.sessions s.entries) (map (order_at orders) cube) e
+      in_cube [] i = known_rests e (Contains-from_In p.known e (no_kept p e i))
+      in_cube (d ∷ cube) i = elim (kept_cases p cube d e i) [
+        | inl a ↦
+            let r = in_cube cube a in
+            record {
+              second = r.second;
+              has = λ lo none. elim (r.has lo none) [
+                | inl o ↦ inl o
+                | inr o ↦ inr (record { order = o.order; among = behind (order_at orders d) (map (order_at orders) cube) o.order o.among; has = o.has })
+              ];
+            }
+        | inr b ↦
+            let has = side_has d e b in
+            record {
+              second = order_leads s.sessions (order_at orders d) (sided_at d e b) e has;
+              has = λ lo none. inr (record { order = order_at orders d; among = (0, omega arith, refl); has = has });
+            }
+      ]
 
   module _ (i : ℕ) where
     pub are_orders : All (IsOrder log) (decided_at orders nodes i)
@@ -218,24 +228,11 @@ module _ (s : StepsView) (orders : List ChainOrder) (nodes : List TreeNode) (h :
         (λ d ds lt rest. All-cons (IsOrder log) (order_at orders d) (map (order_at orders) ds) (sided_order log (slice_index_or orders d.0 no_order) d.1 (h.sides.each d.0 no_order (omega (arith, lt, orders_count log p.choices orders h.sides)))) rest)
         (suc i) i (slice_get nodes i) (omega arith) refl
 
-    edge_rests : (e : Edge) → Contains (edges_after p (cube_of nodes i)) e → IsOfLedger s e ⊎ OneHas s.sessions (decided_at orders nodes i) e
-    edge_rests e c = cube_edge (cube_of nodes i) e (In-from_Contains (edges_after p (cube_of nodes i)) e c)
-
-    edge_leads : (e : Edge) → Contains (edges_after p (cube_of nodes i)) e → IsBetween s.sessions e.1
-    edge_leads e c = elim (edge_rests e c) [
-      | inl k ↦ ledger_leads s.sessions s.entries h.clean e k
-      | inr o ↦ order_leads s.sessions o.order (All-contains (IsOrder log) (decided_at orders nodes i) o.order are_orders o.among) e o.has
-    ]
-
-    pub leaf_line : (line : List ℕ) → IsGrown nodes i (Leaf line) → IsLineOfNodes s.sessions line × HasEdges s (decided_at orders nodes i) line × IsRound line
+    pub leaf_line : (line : List ℕ) → IsGrown nodes i (Leaf line) → IsRound line × LineStands s.sessions (kept_by s.sessions s.entries) (decided_at orders nodes i) line
     leaf_line line g =
         let start = slice_index line 0 in
         let edges = edges_after p (cube_of nodes i) in
-        let w = walk_of edges line start start (h.shown.leaves i g.node line g.here g.is) in (
-          round_nodes s.sessions edges edge_leads start w.inner line w.shape w.steps,
-          record { each = λ e step. edge_rests e (walk_step edges start start w.inner step.front step.back e.0 e.1 w.steps (sym w.shape ∙ step.shape)) },
-          record { start = start; ends = record { inner = w.inner; shape = w.shape } },
-        )
+        round_stands s.sessions (kept_by s.sessions s.entries) (decided_at orders nodes i) edges (cube_rests (cube_of nodes i)) line (start, walk_of edges line start start (h.shown.leaves i g.node line g.here g.is))
 
-  pub visit_line : (v : Visit) (line : Bor (List ℕ)) → v.line ≡ Some line → IsReady s nodes v → IsLineOfNodes s.sessions line.now × HasEdges s (decided_at orders nodes v.node) line.now × IsRound line.now
+  pub visit_line : (v : Visit) (line : Bor (List ℕ)) → v.line ≡ Some line → IsReady s nodes v → IsRound line.now × LineStands s.sessions (kept_by s.sessions s.entries) (decided_at orders nodes v.node) line.now
   visit_line v line e r = leaf_line v.node line.now (subst (λ (o : Option (Bor (List ℕ))). IfSome o (λ l. IsGrown nodes v.node (Leaf l.now) × IsCovered s l.now)) e r).0

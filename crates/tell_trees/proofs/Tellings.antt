@@ -14,7 +14,8 @@ use Rattle.cube_laws.specs.Trees.{IsChild, IsRefutationTree}
 use Rattle.tell_reasons.specs.declared.why.ChainOrder.{ChainOrder}
 use Rattle.tell_steps.specs.View.{StepsView}
 use Rattle.tell_steps.specs.Steps.{turned, IsOrder, IsNamed, AreStepsTold}
-use Rattle.tell_steps.specs.Lines.{IsNeededIn, IsCovered}
+use Rattle.tell_steps.specs.Ledgers.{IsCovered}
+use Rattle.tell_steps.specs.Needed.{IsNeededIn}
 use Rattle.tell_steps.specs.Told.{IsPut, IsRoundTold}
 use Rattle.tell_steps.proofs.Telling.{round_cycle, round_named, named_among}
 use Rattle.tell_steps.specs.declared.item.Item.{Item}
@@ -47,7 +48,7 @@ module _ (s : StepsView) (orders : List ChainOrder) (nodes : List TreeNode) wher
       (h.0 ++ r.0, r.1, (h.0, r.0, h.2, r.2, refl), r.3, h.4 ∙ ap (λ l. h.0 ++ l) r.4 ∙ sym (append_assoc h.0 r.0 r.1))
 
   -- what a told line needs is named
-  pub line_named : (vs : List Visit) (items : List Item) → AreVisitsTold s orders nodes vs items → (lines : List (Bor (List ℕ))) (k : ℕ) (n : IsNeededIn s.sessions s.orders lines k) → In n.line (filter_map (λ (v : Visit). v.line) vs) → IsNamed items k
+  pub line_named : (vs : List Visit) (items : List Item) → AreVisitsTold s orders nodes vs items → (lines : List (List ℕ)) (k : ℕ) (n : IsNeededIn s.sessions s.orders lines k) → In n.wanted.line (map (λ (l : Bor (List ℕ)). l.now) (filter_map (λ (v : Visit). v.line) vs)) → IsNamed items k
   line_named [] items h lines k n i = absurd i
   line_named (v ∷ vs) items h lines k n i = go (line_named vs h.1 h.3 lines k n) v.line h.2.leaf i
     where
@@ -60,9 +61,9 @@ module _ (s : StepsView) (orders : List ChainOrder) (nodes : List TreeNode) wher
       later : IsNamed h.1 k → IsNamed items k
       later = named_among h.1 items k (λ x c. subst (λ l. Contains l x) (sym h.4) (Contains-append_right h.0 h.1 x c))
 
-      go : (In n.line (filter_map (λ (w : Visit). w.line) vs) → IsNamed h.1 k) → (o : Option (Bor (List ℕ))) → IsLeafTold s decided o h.2.cycle → In n.line (cons_option o (filter_map (λ (w : Visit). w.line) vs)) → IsNamed items k
+      go : (In n.wanted.line (map (λ (l : Bor (List ℕ)). l.now) (filter_map (λ (w : Visit). w.line) vs)) → IsNamed h.1 k) → (o : Option (Bor (List ℕ))) → IsLeafTold s decided o h.2.cycle → In n.wanted.line (map (λ (l : Bor (List ℕ)). l.now) (cons_option o (filter_map (λ (w : Visit). w.line) vs))) → IsNamed items k
       go below None told j = later (below j)
-      go below (Some l) told (inl same) = named_among h.2.cycle items k own (round_named s.sessions s.orders decided lines k h.2.cycle n (subst (λ (z : Bor (List ℕ)). IsRoundTold s.sessions s.orders decided z.now h.2.cycle) same told))
+      go below (Some l) told (inl same) = named_among h.2.cycle items k own (round_named s.sessions s.orders decided lines k h.2.cycle n (subst (λ z. IsRoundTold s.sessions s.orders decided z h.2.cycle) same told))
       go below (Some l) told (inr j) = later (below j)
 
   -- a node, whose cube decides these orders, with all below it
@@ -128,7 +129,7 @@ visits_ready s nodes last visits lines v e a = all_ready s nodes v (λ l j. All-
 
 -- what is told of the visits, behind the steps and how many leaves there are, is the tree told
 pub whole_told : (s : StepsView) (orders : List ChainOrder) (nodes : List TreeNode) (p : Polygraph) → IsRefutationTree p nodes → (visits : List Visit) (last : ℕ) → IsVisited nodes 0 0 last visits → (before mid items : List Item) → mid ≡ before ++ leaves_items (leaf_count nodes) → IsPut mid items (AreVisitsTold s orders nodes visits)
-    → (lines : List (Bor (List ℕ))) → lines ≡ filter_map (λ w. w.line) visits → AreStepsTold s.sessions s.orders before → ((k : ℕ) → k < length s.orders → IsNamed before k ⊎ IsNeededIn s.sessions s.orders lines k) → AreOrdersOf (log_of s.sessions) p.choices orders → IsTreeTold s.sessions p.choices nodes items
+    → (lines : List (Bor (List ℕ))) → lines ≡ filter_map (λ w. w.line) visits → AreStepsTold s.sessions s.orders before → ((k : ℕ) → k < length s.orders → IsNamed before k ⊎ IsNeededIn s.sessions s.orders (map (λ (l : Bor (List ℕ)). l.now) lines) k) → AreOrdersOf (log_of s.sessions) p.choices orders → IsTreeTold s.sessions p.choices nodes items
 whole_told s orders nodes p t visits last v before mid items mid_is put lines lines_are steps needed sides =
     let whole : items ≡ before ++ (leaves_items (leaf_count nodes) ++ put.items) = put.appended ∙ ap (λ l. l ++ put.items) mid_is ∙ append_assoc before (leaves_items (leaf_count nodes)) put.items in
     let told = node_told s orders nodes p t sides.each (orders_count (log_of s.sessions) p.choices orders sides) v put.items put.kind in
@@ -147,7 +148,7 @@ whole_told s orders nodes p t visits last v before mid items mid_is put lines li
       needed = λ k lt. elim (needed k lt) [
         | inl n ↦ named_among before items k (λ x c. subst (λ l. Contains l x) (sym whole) (Contains-append_left before (leaves_items (leaf_count nodes) ++ put.items) x c)) n
         | inr n ↦
-            let own = line_named s orders nodes visits put.items put.kind lines k n (subst (In n.line) lines_are (In-from_Contains lines n.line n.among)) in
+            let own = line_named s orders nodes visits put.items put.kind (map (λ (l : Bor (List ℕ)). l.now) lines) k n (subst (λ (ls : List (Bor (List ℕ))). In n.wanted.line (map (λ (l : Bor (List ℕ)). l.now) ls)) lines_are (In-from_Contains (map (λ (l : Bor (List ℕ)). l.now) lines) n.wanted.line n.wanted.among)) in
             named_among put.items items k (λ x c. subst (λ l. Contains l x) (sym put.appended) (Contains-append_right mid put.items x c)) own
       ];
     }

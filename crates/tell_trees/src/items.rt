@@ -113,7 +113,7 @@ fn put_visit(
     let decided = decided_orders(alloc, orders, nodes, visit.node)?;
     put_decision(items, &decided)?;
     match visit.line {
-        Some(line) => steps.put_cycle(alloc, items, &decided, line),
+        Some(line) => steps.put_cycle(items, &decided, line),
         None => Ok(()),
     }
 }

@@ -1,37 +1,29 @@
-use Rattle.std.proofs.Common.{[], List, ℕ, Bor, sym, subst, arith}
-use Rattle.std.specs.List.{All}
-use Rattle.std.proofs.lemmas.List.Elements.{All-head}
-use Rattle.log_definitions.specs.Numbers.{log_of}
-use Rattle.tell_reasons.specs.declared.why.ChainOrder.{ChainOrder}
-use Rattle.tell_steps.specs.Steps.{IsOrder}
-use Rattle.tell_steps.specs.Lines.{LineStands, HasSteps}
+use Rattle.std.proofs.Common.{[], ◌∷◌, ◌∙◌, refl, arith}
+use Rattle.tell_steps.specs.Needed.{orders_of}
 use Rattle.tell_steps.specs.Told.{IsPut, IsRoundTold}
-use Rattle.tell_steps.proofs.Telling.{closed_stands, dead_told}
+use Rattle.tell_steps.proofs.Telling.{covered_stands, line_covered, dead_told}
 use Rattle.tell_steps.proofs.dead.tell_steps.Goals as goal
 
 pub put_cycle-requires : goal.put_cycle-requires
 put_cycle-requires c =
-    let ss = c.args.chains.now in
-    let kept = c.args.kept.now in
-    let steps = c.in_ok-told.told.orders.items in
-    let cycle = c.args.cycle in
-    let back = sym c.deref.ensures.value in
-    let has = All-head (λ (l : Bor (List ℕ)). HasSteps ss kept steps l.now) cycle [] c.in_ok-told.ensures.told.stand in
-    record {
-      same = c.in_ok-told.ensures.same;
-      steps = subst (All (IsOrder (log_of ss))) back c.in_ok-told.ensures.orders;
+    let ss = c.args.shown.now in
+    let kept = orders_of c.args.steps.items in
+    let made = orders_of c.in_ok-told.told.steps.items in
+    let told = c.in_ok-told.ensures.told in
+    let cycle = c.args.cycle.now in
+    rw (c.in_ok-told.ensures.same, c.deref.ensures.value) (record {
+      steps = told.two_chains;
       decided = λ k d lt. absurd (omega (arith, lt));
-      stands = subst (λ (os : List ChainOrder). LineStands ss os [] cycle.now) back (closed_stands ss kept steps cycle.now c.requires.closed.rests has);
+      stands = covered_stands ss kept made [] cycle c.requires.closed.rests (line_covered ss kept (cycle ∷ []) made c.in_ok-told.told.items.items cycle told (0, omega arith, refl));
       round = c.requires.closed.round;
-    }
+    })
 
 pub returns : goal.returns
 returns c =
-    let ss = c.args.chains.now in
+    let ss = c.args.shown.now in
+    let cycle = c.args.cycle.now in
     let old = c.in_ok-told.told.items.items in
     let new = c.put_cycle.new.items.items in
-    let put = subst (λ (os : List ChainOrder). IsPut old new (IsRoundTold ss os [] c.args.cycle.now)) c.deref.ensures.value c.in_ok-put_cycle.ensures.put in
-    record {
-      same = c.in_ok-put_cycle.ensures.same;
-      told = dead_told ss c.args.kept.now c.in_ok-told.told.orders.items c.args.cycle old new c.in_ok-told.ensures.told put;
-    }
+    let made = orders_of c.in_ok-told.told.steps.items in
+    let put : IsPut old new (IsRoundTold ss made [] cycle) = rw (← c.in_ok-told.ensures.same, ← c.deref.ensures.value) c.in_ok-put_cycle.ensures.put in
+    record { same = c.in_ok-put_cycle.ensures.same ∙ c.in_ok-told.ensures.same; told = dead_told ss (orders_of c.args.steps.items) made cycle old new c.in_ok-told.ensures.told put }

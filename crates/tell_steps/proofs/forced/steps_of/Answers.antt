@@ -1,43 +1,15 @@
-use Rattle.std.proofs.Common.{◌⊎◌, ◌<◌, List, ℕ, length, get_or, refl, sym, subst, ◌∙◌, Bor}
-use Rattle.std.proofs.lemmas.List.Elements.{All-weaker}
-use Rattle.session_log.specs.Text.{ClientSession}
-use Rattle.serializability.specs.Reads.{IsClean}
-use Rattle.log_definitions.specs.Numbers.{log_of}
-use Rattle.tell_reasons.specs.declared.why.ChainOrder.{ChainOrder}
-use Rattle.tell_steps.specs.View.{StepsView}
-use Rattle.tell_steps.specs.Steps.{AreStepsTold, IsNamed}
-use Rattle.tell_steps.specs.Lines.{HasSteps, IsCovered, IsNeededIn}
-use Rattle.tell_steps.specs.Ledgers.{AreEntries, AreSteps, kept_by}
-use Rattle.tell_steps.proofs.Covering.{ledger_entries, line_covered}
+use Rattle.std.proofs.Common.{ℕ, List, get_or, map, Bor}
+use Rattle.std.proofs.lemmas.List.Elements.{Contains-get_or}
+use Rattle.list_lemmas.proofs.Elements.{mapped}
+use Rattle.tell_steps.specs.Needed.{orders_of}
+use Rattle.tell_steps.proofs.Telling.{line_covered}
 use Rattle.tell_steps.proofs.forced.steps_of.Goals as goal
 
-pub kept_by-requires : goal.kept_by-requires
-kept_by-requires c =
-    let back = sym c.requires.chains in
-    record {
-      clean = subst (λ (s : List ClientSession). IsClean (log_of s)) back c.requires.clean;
-      entries = subst (λ (s : List ClientSession). AreEntries s c.args.entries.now) back (ledger_entries c.args.history.now c.args.entries.now c.requires.ledger);
-    }
-
-pub told_steps-requires-clause-steps : goal.told_steps-requires-clause-steps
-told_steps-requires-clause-steps c = subst (λ (os : List ChainOrder). AreSteps c.args.chains.now os c.args.entries.now) (sym c.deref.ensures.value) c.in_ok-kept.ensures.steps
-
-pub returns : goal.returns
-returns c =
-    let ss = c.args.chains.now in
-    let entries = c.args.entries.now in
-    let orders = c.in_ok-told.told.orders.items in
-    let items = c.in_ok-told.told.items.items in
+pub returns-clause-covered : goal.returns-clause-covered
+returns-clause-covered c =
+    let now : List (Bor (List ℕ)) → List (List ℕ) = map (λ (l : Bor (List ℕ)). l.now) in
     let lines = c.args.lines.now in
+    let orders = orders_of c.in_ok-told.told.steps.items in
     let told = c.in_ok-told.ensures.told in
-    let same = c.requires.chains in
-    let clean = subst (λ (s : List ClientSession). IsClean (log_of s)) (sym same) c.requires.clean in
-    let view : StepsView = record { sessions = ss; entries = entries; orders = orders } in
-    let stand = subst (λ (os : List ChainOrder). (k : ℕ) (d : Bor (List ℕ)) → k < length lines → HasSteps ss os orders (get_or lines k d).now) (c.deref.ensures.value ∙ c.in_ok-kept.ensures.kept) told.stand in
-    record {
-      sessions = same;
-      entries = refl;
-      told = subst (λ (s : List ClientSession). AreStepsTold s orders items) same told.told;
-      covered = All-weaker (λ (l : Bor (List ℕ)). HasSteps ss (kept_by ss entries) orders l.now) (λ (l : Bor (List ℕ)). IsCovered view l.now) (λ l h. line_covered ss entries orders clean l.now h) lines stand;
-      needed = subst (λ (s : List ClientSession). (k : ℕ) → k < length orders → IsNamed items k ⊎ IsNeededIn s orders lines k) same told.needed;
-    }
+    λ k d lt. rw (c.in_ok-told.ensures.same, c.of-shown.ensures.sessions, ← c.in_ok-all.ensures.kept)
+    (line_covered c.args.chains.now (orders_of c.in_ok-all.all.items) (now lines) orders c.in_ok-told.told.items.items (get_or lines k d).now (rw (← c.of-shown.ensures.sessions) told) (mapped (λ (l : Bor (List ℕ)). l.now) lines (get_or lines k d) (Contains-get_or lines k d lt)))

@@ -1,83 +1,102 @@
-use Rattle.std.proofs.Common.{◌≡◌, ℕ, ◌+◌, ◌-◌, ◌<◌, List, [], ◌∷◌, length, take, Some, sym, ap, ◌∙◌, subst, arith}
-use Rattle.std.specs.Prelude.{reverse, slice_get}
-use Rattle.std.proofs.lemmas.List.{reverse-append}
-use Rattle.list_lemmas.proofs.Elements.{item, some_at}
-use Rattle.prune_ledger.specs.declared.ledger.LedgerEntry.{LedgerEntry}
+use Rattle.std.proofs.Common.{◌≡◌, ◌∙◌, ◌-◌, ◌<◌, ◌∷◌, ◌++◌, ℕ, List, [], Option, Some, get_or, length, map, vec_len, refl, sym, subst, ap, arith, Bor}
+use Rattle.std.specs.Prelude.{reverse}
+use Rattle.std.proofs.lemmas.Bool.{not_from_false}
+use Rattle.std.proofs.lemmas.List.{map-append, reverse-append}
+use Rattle.session_log.specs.Text.{ClientSession}
+use Rattle.tell_proposals.specs.declared.proposal.Step.{Step}
 use Rattle.tell_reasons.specs.declared.why.ChainOrder.{ChainOrder}
-use Rattle.tell_steps.specs.declared.needed.Step.{Step}
 use Rattle.tell_steps.specs.Ledgers.{IsStep}
-use Rattle.tell_steps.specs.Marks.{IsLineMarked}
-use Rattle.tell_steps.specs.Needed.{AreNeeded}
-use Rattle.tell_steps.proofs.Ledgers.{post_at}
-use Rattle.tell_steps.proofs.Taken.{AreTaken, taken_none, taken_less, taken_more, taken_all}
+use Rattle.tell_steps.specs.Needed.{orders_of, AreBuilt, AreUnshown, AreMore, IsFirstOf, IsNoFirstOf, lines_with, AreNeeded}
+use Rattle.tell_steps.proofs.Needing.{built_pop, built_orders, needed_out, needed_in, unshown_cons}
 use Rattle.tell_steps.proofs.needed.needed_steps.Goals as goal
 
-pub loop-entry-init : goal.loop-entry-init
-loop-entry-init c =
-    let ss = c.args.chains.now in
-    let kept = c.args.kept.now in
-    let lines = c.args.lines.now in
-    let marks = c.mark_lines.new.marks in
-    let n = length c.args.entries.now in
+abbrev now : List (Bor (List ℕ)) → List (List ℕ)
+now = map (λ (x : Bor (List ℕ)). x.now)
+
+-- the steps before the last of those that are left
+split : (ss : List ClientSession) (left front : List Step) (s : Step) → left ≡ front ++ s ∷ [] → AreBuilt ss [] left → AreBuilt ss [] front × IsStep ss (orders_of front) s
+split ss left front s is b = built_pop ss [] front s (subst (AreBuilt ss []) is b)
+
+orders_split : (left front : List Step) (s : Step) → left ≡ front ++ s ∷ [] → orders_of left ≡ orders_of front ++ s.order ∷ []
+orders_split left front s is = ap orders_of is ∙ map-append (λ (x : Step). x.order) front (s ∷ [])
+
+none_left : (left : List Step) (n : ℕ) (last : Option Step) → n ≡ length left → ((s : Step) → 0 < n → last ≡ Some (get_or left (n - 1) s)) → ((s : Step) → last ≡ Some s → ⊥) → left ≡ []
+none_left [] n last e value never = refl
+none_left (x ∷ left) n last e value never = absurd (never (get_or (x ∷ left) (n - 1) x) (value x (omega (arith, e))))
+
+pub loop-step-init : goal.loop-step-init
+loop-step-init c =
+    let ss = c.args.shown.now in
+    let all = c.args.steps.items in
+    let lines = now c.args.lines.now in
+    let P : List Step → Type 0 = λ l. AreUnshown ss (lines_with lines (reverse l)) c.in_ok-wants.wants.items in
+    let Q : List Step → Type 0 = λ l. AreNeeded ss (orders_of all) lines (orders_of all) (reverse l) in
     record {
-      same = c.in_ok-mark_lines.ensures.same;
-      within = omega arith;
-      taken = subst (λ (l : List Step). AreTaken ss kept lines marks n (reverse l)) (sym c.new-steps.ensures.items) (taken_none ss kept lines marks n (omega (arith, c.requires.steps.count)) c.in_ok-mark_lines.ensures.marked);
+      same = c.in_ok-wants.ensures.same;
+      built = c.requires.built;
+      wants = subst P (sym c.new-needed.ensures.items) c.in_ok-wants.ensures.wants;
+      needed = subst Q (sym c.new-needed.ensures.items) (λ e u h. h);
     }
 
-pub loop-entry-preserved-then-not-needed : goal.loop-entry-preserved-then-not-needed
-loop-entry-preserved-then-not-needed c =
-    let kept = c.args.kept.now in
-    let i = c.loop-entry.entry - 1 in
-    let back : c.loop-entry.entry ≡ i + 1 = omega (arith, c.loop-entry-test.true) in
-    let below : i < length kept = omega (arith, c.loop-entry-test.true, c.loop-entry.invariant.within, c.requires.steps.count) in
-    let o = some_at kept i below in
-    let later = reverse c.loop-entry.steps.items in
-    let h = subst (λ (n : ℕ). AreTaken c.args.chains.now kept c.args.lines.now c.loop-entry.marks n later) back c.loop-entry.invariant.taken in
+pub is_wanted-requires : goal.is_wanted-requires
+is_wanted-requires c =
+    let ss = c.args.shown.now in
+    let front = c.pop.new.self.items in
+    let parts = split ss c.loop-step.left.items front c.in-Some.step c.in-Some.ensures.items c.loop-step.invariant.built in
+    rw (c.loop-step.invariant.same, c.deref.ensures.value) (record { earlier = built_orders ss [] front parts.0; order = parts.1.two_chains })
+
+pub loop-step-preserved-then-not-is_wanted : goal.loop-step-preserved-then-not-is_wanted
+loop-step-preserved-then-not-is_wanted c =
+    let ss = c.args.shown.now in
+    let lines = now c.args.lines.now in
+    let kept = orders_of c.args.steps.items in
+    let left = c.loop-step.left.items in
+    let front = c.pop.new.self.items in
+    let s = c.in-Some.step in
+    let later = reverse c.loop-step.needed.items in
+    let wants = c.loop-step.wants.items in
+    let parts = split ss left front s c.in-Some.ensures.items c.loop-step.invariant.built in
+    let covers : IsNoFirstOf ss (orders_of front) s.order wants = rw (← c.loop-step.invariant.same, ← c.deref.ensures.value, ← c.deref-in-Some.ensures.value) (c.is_wanted.ensures.no (not_from_false c.is_wanted.result c.if-not-is_wanted.true)) in
     record {
-      same = c.loop-entry.invariant.same;
-      within = omega (arith, c.loop-entry.invariant.within);
-      taken = taken_less c.args.chains.now kept c.args.lines.now c.loop-entry.marks i o.0 later o.1 c.if-not-needed.true h;
+      same = c.loop-step.invariant.same;
+      built = parts.0;
+      wants = c.loop-step.invariant.wants;
+      needed = needed_out ss kept lines (orders_of front) s.order later wants c.loop-step.invariant.wants covers (subst (λ (os : List ChainOrder). AreNeeded ss kept lines os later) (orders_split left front s c.in-Some.ensures.items) c.loop-step.invariant.needed);
     }
 
-pub step_by-requires-clause-step : goal.step_by-requires-clause-step
-step_by-requires-clause-step c =
-    let kept = c.args.kept.now in
-    let entries = c.args.entries.now in
-    let i = c.loop-entry.entry - 1 in
-    let x = c.index-entries-entry.result in
-    let y = c.index-kept-entry.result in
-    let lt : i < length entries = omega (arith, c.loop-entry-test.true, c.loop-entry.invariant.within) in
-    let below : i < length kept = omega (arith, lt, c.requires.steps.count) in
-    let step = c.requires.steps.each i y x.post (item kept i y below c.index-kept-entry.is) (post_at entries i x lt c.index-entries-entry.is) in
-    subst (λ (z : LedgerEntry). IsStep c.args.chains.now (take i kept) y z.post) c.index-entries-entry.is step
+pub step-requires : goal.step-requires
+step-requires c =
+    let parts = split c.args.shown.now c.loop-step.left.items c.pop.new.self.items c.in-Some.step c.in-Some.ensures.items c.loop-step.invariant.built in
+    record { step = rw (c.loop-step.invariant.same, c.deref-in-Some-2.ensures.value) parts.1 }
 
-pub loop-entry-preserved : goal.loop-entry-preserved
-loop-entry-preserved c =
-    let ss = c.args.chains.now in
-    let kept = c.args.kept.now in
-    let lines = c.args.lines.now in
-    let old = c.loop-entry.marks in
-    let new = c.mark_line.new.marks in
-    let i = c.loop-entry.entry - 1 in
-    let s = c.in_ok-step.step in
-    let later = reverse c.loop-entry.steps.items in
-    let back : c.loop-entry.entry ≡ i + 1 = omega (arith, c.loop-entry-test.true) in
-    let below : i < length kept = omega (arith, c.loop-entry-test.true, c.loop-entry.invariant.within, c.requires.steps.count) in
-    let order = sym c.in_ok-step.ensures.order in
-    let at : slice_get kept i ≡ Some s.order = item kept i c.index-kept-entry.result below c.index-kept-entry.is ∙ ap Some order in
-    let step : IsStep ss (take i kept) s.order s.post = subst (λ (o : ChainOrder). IsStep ss (take i kept) o s.post) order c.in_ok-step.ensures.step in
-    let walk : c.deref.result.now ≡ s.post.walk = c.deref.ensures.value ∙ ap (λ (p : Step). p.post.walk) c.step.view_is in
-    let marked = subst (λ (line : List ℕ). IsLineMarked ss kept line (length line) old new) walk c.in_ok-mark_line.ensures.marked in
-    let h = subst (λ (n : ℕ). AreTaken ss kept lines old n later) back c.loop-entry.invariant.taken in
+pub loop-step-preserved : goal.loop-step-preserved
+loop-step-preserved c =
+    let ss = c.args.shown.now in
+    let lines = now c.args.lines.now in
+    let kept = orders_of c.args.steps.items in
+    let left = c.loop-step.left.items in
+    let front = c.pop.new.self.items in
+    let s = c.in-Some.step in
+    let made = c.in_ok-made.made in
+    let later = reverse c.loop-step.needed.items in
+    let old = c.loop-step.wants.items in
+    let new = c.put_wants.new.wants.items in
+    let same = c.in_ok-made.ensures.same ∙ c.loop-step.invariant.same in
+    let parts = split ss left front s c.in-Some.ensures.items c.loop-step.invariant.built in
+    let first : IsFirstOf ss (orders_of front) s.order old = rw (← c.loop-step.invariant.same, ← c.deref.ensures.value, ← c.deref-in-Some.ensures.value) (c.is_wanted.ensures.yes c.if-not-is_wanted.false) in
+    let is : IsStep ss (orders_of front) made = rw (← c.loop-step.invariant.same, ← c.deref-in-Some-2.ensures.value) c.in_ok-made.ensures.step in
+    let more : AreMore ss made.walk.items old new = rw (← same, ← c.deref-in-Some-3.ensures.value) c.in_ok-put_wants.ensures.more in
+    let turned : reverse c.push.new.self.items ≡ made ∷ later = ap reverse c.in_ok-push.ensures.items ∙ reverse-append c.loop-step.needed.items (made ∷ []) in
     record {
-      same = c.in_ok-mark_line.ensures.same;
-      within = omega (arith, c.loop-entry.invariant.within);
-      taken = subst (AreTaken ss kept lines new i) (sym (ap reverse c.in_ok-push.ensures.items ∙ reverse-append c.loop-entry.steps.items (s ∷ []))) (taken_more ss kept lines old new i s later at c.if-not-needed.false step marked h);
+      same = c.in_ok-put_wants.ensures.same ∙ same;
+      built = parts.0;
+      wants = subst (λ (l : List Step). AreUnshown ss (lines_with lines l) new) (sym turned) (unshown_cons ss (lines_with lines later) made.walk.items old new c.loop-step.invariant.wants more);
+      needed = subst (AreNeeded ss kept lines (orders_of front)) (sym turned) (needed_in ss kept lines (orders_of front) s.order made later old c.in_ok-made.ensures.order c.loop-step.invariant.wants first is
+          (subst (λ (os : List ChainOrder). AreNeeded ss kept lines os later) (orders_split left front s c.in-Some.ensures.items) c.loop-step.invariant.needed));
     }
 
-pub returns : goal.returns
-returns c = record {
-  same = c.loop-entry.invariant.same;
-  needed = subst (AreNeeded c.args.chains.now c.args.kept.now c.args.lines.now) (sym c.reverse.ensures.items) (taken_all c.args.chains.now c.args.kept.now c.args.lines.now c.loop-entry.marks c.loop-entry.entry (reverse c.loop-entry.steps.items) (omega (arith, c.loop-entry-test.false)) c.loop-entry.invariant.taken);
-}
+pub returns-clause-needed : goal.returns-clause-needed
+returns-clause-needed c =
+    let left = c.loop-step.left in
+    let empty = none_left left.items (vec_len left) c.pop.result (omega (arith, left.ok.0)) c.pop.ensures.value c.in_default.not-Some in
+    rw c.reverse.ensures.items (subst (λ (l : List Step). AreNeeded c.args.shown.now (orders_of c.args.steps.items) (now c.args.lines.now) (orders_of l) (reverse c.loop-step.needed.items)) empty c.loop-step.invariant.needed)

@@ -6,6 +6,9 @@ use Rattle.tell_trees.specs.Trees.{leaves_items}
 use Rattle.tell_trees.proofs.Tellings.{visits_ready, whole_told}
 use Rattle.tell_trees.proofs.telling.tell_tree.Goals as goal
 
+pub steps_of-requires-clause-ledger : goal.steps_of-requires-clause-ledger
+steps_of-requires-clause-ledger c = ?
+
 pub put_visits-requires-clause-searched : goal.put_visits-requires-clause-searched
 put_visits-requires-clause-searched c = rw (c.in_ok-steps.ensures.sessions, c.in_ok-steps.ensures.entries, c.deref-3.ensures.value, c.nodes-nodes.ensures.nodes) (record {
   clean = c.requires.clean;

@@ -1,13 +1,13 @@
-use Rattle.std.proofs.Common.{List, sym, subst}
-use Rattle.tell_reasons.specs.declared.why.ChainOrder.{ChainOrder}
+use Rattle.std.proofs.Common.{sym, subst}
 use Rattle.tell_steps.specs.View.{StepsView}
 use Rattle.tell_steps.specs.Lines.{LineStands}
-use Rattle.tell_steps.proofs.Covering.{line_stands}
+use Rattle.tell_steps.specs.Ledgers.{kept_by}
+use Rattle.tell_steps.proofs.Telling.{covered_stands}
 use Rattle.tell_steps.proofs.forced.Steps.put_cycle.Goals as goal
 
 pub put_cycle-requires-clause-stands : goal.put_cycle-requires-clause-stands
 put_cycle-requires-clause-stands c =
+    let s = c.args.self.now in
     let decided = c.args.decided.now in
     let line = c.args.line.now in
-    subst (λ (os : List ChainOrder). LineStands c.self.inside.chains.now os decided line) (sym c.deref.ensures.value)
-    (subst (λ (s : StepsView). LineStands s.sessions s.orders decided line) (sym c.self.view_is) (line_stands c.args.self.now decided line c.requires.line c.requires.covered c.requires.edges))
+    rw c.deref.ensures.value (subst (λ (z : StepsView). LineStands z.sessions z.orders decided line) (sym c.self.view_is) (covered_stands s.sessions (kept_by s.sessions s.entries) s.orders decided line c.requires.stands c.requires.covered))
