@@ -1,20 +1,20 @@
 -- The orders that a ledger leaves open and that the cubes of a tree's nodes decide, and what the edges of a leaf's cycle rest on.
-use Rattle.std.proofs.Common.{◌≡◌, ℕ, ◌+◌, Bool, true, false, cond, eqb, ◌&&◌, ◌||◌, List, [], ◌∷◌, map, refl, sym, ap, ◌∙◌, subst, ◌⊎◌, zero, suc, ◌<◌, ◌++◌, length, Option, Some, None, inl, inr, arith, Bor}
+use Rattle.std.proofs.Common.{◌≡◌, ℕ, ◌+◌, Bool, true, false, cond, eqb, ◌&&◌, ◌||◌, List, [], ◌∷◌, map, refl, sym, ap, ◌∙◌, subst, ◌⊎◌, zero, suc, ◌<◌, length, Option, Some, None, inl, inr, arith, Bor}
 use Rattle.std.proofs.Math.Bool.{or_assoc, or_comm, or-false}
 use Rattle.std.specs.List.{All, list_any, Contains}
-use Rattle.std.proofs.lemmas.List.Elements.{All-nil, All-cons, All-head, All-tail, All-contains, Contains-append_left, Contains-append_right, Contains-append_cases}
+use Rattle.std.proofs.lemmas.List.Elements.{All-nil, All-cons, All-head, All-tail}
 use Rattle.list_lemmas.proofs.Bools.{either_way}
 use Rattle.session_log.specs.Text.{ClientSession}
 use Rattle.serializability.specs.Log.{Log}
 use Rattle.serializability.specs.Polygraph.{Choice, Edge, Polygraph}
 use Rattle.pruning_laws.specs.declared.side.Side.TheVariants.{One, Two}
-use Rattle.pruning_laws.specs.Forced.{open_from, edges_of, kept_from}
+use Rattle.pruning_laws.specs.Forced.{open_from, edges_of}
 use Rattle.pruning_laws.specs.Ledger.{Entry, same_side, sides_in}
 use Rattle.prune_ledger.specs.Ledger.{kept_side, kept_after, side_of, edges_after, AreShown}
 use Rattle.prune_ledger.specs.Pruned.{posts_in, Remainder}
 use Rattle.prune_ledger.specs.Pruned as pruned
 use Rattle.prune_ledger.specs.declared.ledger.LedgerEntry.{LedgerEntry}
-use Rattle.chain_laws.specs.Chains.{chain_choices, chain_polygraph}
+use Rattle.chain_laws.specs.Chains.{chain_choices}
 use Rattle.log_definitions.specs.Numbers.{log_of}
 use Rattle.reduction.specs.Outcome.{IsOpenHistory}
 use Rattle.cube_machine.proofs.Flags.{some_side}
@@ -23,10 +23,8 @@ use Rattle.tell_steps.specs.Orders.{choice_of}
 use Rattle.tell_steps.specs.Steps.{IsOrder, edges_in}
 use Rattle.tell_trees.specs.Orders.{AreOrdersOf, names_choice, unsettled_from, no_order, sided, order_at, IsSearched}
 use Rattle.std.specs.Prelude.{slice_get, slice_index, slice_index_or, IfSome}
-use Rattle.std.proofs.lemmas.List.{length-append}
 use Rattle.std.proofs.lemmas.Option.{same_Some, get_or_from_slice_get, slice_get_within}
 use Rattle.list_lemmas.proofs.Elements.{same_item, behind}
-use Rattle.reach_laws.specs.Reach.{Walk}
 use Rattle.pruning_laws.specs.declared.side.Side.{Side}
 use Rattle.known_graph.proofs.Listed.{In, In-from_Contains, Contains-from_In}
 use Rattle.known_graph.proofs.Tested.{walk_of}
