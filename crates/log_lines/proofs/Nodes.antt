@@ -1,8 +1,7 @@
 -- Where the nodes stand.
-use Rattle.std.proofs.Common.{◌≡◌, ℕ, zero, suc, ◌+◌, ◌<◌, ◌≤◌, Bool, List, [], ◌∷◌, ◌++◌, length, map, get_or, slice_get, Some, refl, sym, ap, ◌∙◌, subst, arith}
+use Rattle.std.proofs.Common.{◌≡◌, ℕ, zero, suc, ◌+◌, ◌<◌, ◌≤◌, Bool, List, [], ◌∷◌, ◌++◌, length, map, get_or, slice_get, Some, refl, sym, ap, ◌∙◌, subst, arith, option_and_then}
 use Rattle.std.specs.List.{AllZip, flat_map, filter, enumerate_from}
 use Rattle.std.specs.Option.{option_map_or}
-use Rattle.std.specs.Prelude.{option_and_then}
 use Rattle.std.proofs.lemmas.Slice.Zip.{AllZip-long}
 use Rattle.session_log.specs.Text.{ClientSession, Transaction}
 use Rattle.log_definitions.specs.Unknown.{is_committed, settle, settled, taken, resolved}

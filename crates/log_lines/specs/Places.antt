@@ -1,7 +1,6 @@
 -- Where the operations of a log stand. Lines count from 1, and the first session of the log begins
 -- at line n, behind the header.
-use Rattle.std.specs.Prelude.{◌≡◌, ℕ, ◌+◌, ◌<◌, ◌≤◌, Bool, true, not, ◌==◌, List, [], ◌∷◌}
-use Rattle.std.specs.Prelude.{◌++◌, length, Some, slice_get}
+use Rattle.std.specs.Prelude.{◌≡◌, ℕ, ◌+◌, ◌<◌, ◌≤◌, Bool, true, not, ◌==◌, List, [], ◌∷◌, ◌++◌, length, Some, slice_get}
 use Rattle.std.specs.List.{flat_map, list_all, AllByRecursion}
 use Rattle.session_log.specs.Text.{ClientSession, Transaction, line_text, txn_lines}
 use Rattle.session_log.specs.declared.line.Line.{Line}

@@ -1,6 +1,5 @@
 -- The first read of a key, by which a node reads what the log says.
-use Rattle.std.proofs.Common.{◌≡◌, ℕ, ◌≤◌, true, List, None, Some, sym, ap, ◌∙◌, subst, eqb-true, eq-eqb}
-use Rattle.std.specs.Prelude.{position}
+use Rattle.std.proofs.Common.{◌≡◌, ℕ, ◌≤◌, true, List, None, Some, sym, ap, ◌∙◌, subst, eqb-true, eq-eqb, position}
 use Rattle.std.proofs.lemmas.Bool.{false≢true}
 use Rattle.session_log.specs.Text.{ClientSession}
 use Rattle.session_log.specs.declared.session.Op.TheVariants.{Read}

@@ -1,9 +1,7 @@
 -- A read that names a write.
-use Rattle.std.proofs.Common.{◌≡◌, ◌≢◌, ◌<◌, ◌≤◌, ℕ, true, List, Option, Some, None, sym, ap, ◌∙◌, subst, inl, inr, get_or}
-use Rattle.std.specs.Prelude.{slice_get, position, is_some}
+use Rattle.std.proofs.Common.{◌≡◌, ◌≢◌, ◌<◌, ◌≤◌, ℕ, true, List, Option, Some, None, sym, ap, ◌∙◌, subst, inl, inr, get_or, slice_get, position, is_some, Contains}
 use Rattle.std.proofs.lemmas.Option.{get_or_from_slice_get}
 use Rattle.std.proofs.lemmas.Bool.{false≢true}
-use Rattle.std.specs.List.{Contains}
 use Rattle.list_lemmas.proofs.Elements.{contains_at}
 use Rattle.session_log.specs.Text.{ClientSession}
 use Rattle.session_log.specs.declared.session.Op.TheVariants.{Read, Write}

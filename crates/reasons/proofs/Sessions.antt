@@ -1,6 +1,5 @@
 -- Lines of nodes of which each run of one session is told by its ends.
-use Rattle.std.proofs.Common.{◌≡◌, ◌⊎◌, ℕ, zero, suc, ◌+◌, ◌<◌, true, false, List, [], ◌∷◌, ◌++◌, length, get_or, refl, sym, ap, ◌∙◌, subst, inl, inr, arith, eqb, eqb-true}
-use Rattle.std.specs.Prelude.{nat_lt}
+use Rattle.std.proofs.Common.{◌≡◌, ◌⊎◌, ℕ, zero, suc, ◌+◌, ◌<◌, true, false, List, [], ◌∷◌, ◌++◌, length, get_or, refl, sym, ap, ◌∙◌, subst, inl, inr, arith, eqb, eqb-true, nat_lt}
 use Rattle.std.proofs.lemmas.Bool.{false≢true, and_parts, cond_both, ltb-true}
 use Rattle.session_log.specs.Text.{ClientSession}
 use Rattle.log_definitions.specs.Serial.{session_of}

@@ -1,6 +1,5 @@
 -- Whether crossed reads are told.
-use Rattle.std.specs.Prelude.{ℕ, ◌+◌, ◌*◌, ◌≤◌, List, length, Option, None, Some}
-use Rattle.std.specs.List.{sum_by}
+use Rattle.std.specs.Prelude.{ℕ, ◌+◌, ◌*◌, ◌≤◌, List, length, Option, None, Some, sum_by}
 use Rattle.session_log.specs.Text.{ClientSession}
 use Rattle.serializability.specs.Log.{Log}
 use Rattle.serializability.specs.Polygraph.{committed}

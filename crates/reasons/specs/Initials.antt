@@ -1,6 +1,5 @@
 -- Who reads a key from the chain of its initial value.
-use Rattle.std.specs.Prelude.{◌≡◌, ℕ, zero, suc, List, length, Bool, true, slice_get, None}
-use Rattle.std.specs.Prelude.{Some}
+use Rattle.std.specs.Prelude.{◌≡◌, ℕ, zero, suc, List, length, Bool, true, slice_get, None, Some}
 use Rattle.serializability.specs.Log.{Log}
 use Rattle.serializability.specs.Polygraph.{source}
 use Rattle.serializability.specs.declared.event.Event.{Event}

@@ -1,9 +1,6 @@
 -- Crossed reads by the numbers of a log's nodes and keys, where a version of a key is given by the
 -- node that wrote it; and what a search for them holds.
-use Rattle.std.specs.Prelude.{◌≡◌, ◌≢◌, ◌⊎◌, ℕ, ◌<◌, ◌≤◌, ◌==◌, if◌then◌else◌, List, Option, None}
-use Rattle.std.specs.Prelude.{Some, map}
-use Rattle.std.specs.List.{Contains}
-use Rattle.std.specs.Option.{option_map}
+use Rattle.std.specs.Prelude.{◌≡◌, ◌≢◌, ◌⊎◌, ℕ, ◌<◌, ◌≤◌, ◌==◌, if◌then◌else◌, List, Option, None, Some, map, Contains, option_map}
 use Rattle.std.specs.Ordering.{nat_cmp, ordering_then}
 use Rattle.std.specs.declared.cmp.Ordering.{Ordering}
 use Rattle.serializability.specs.Log.{Log}

@@ -4,8 +4,7 @@
 //! For each key and each version of it that a node wrote, it looks at what is read beside any
 //! version of the key.
 
-ghost use Rattle.std.specs.Prelude.{◌≡◌, ◌≢◌, ◌<◌, ◌≤◌, ◌+◌, ◌++◌, Option, Some, IfOk};
-ghost use Rattle.std.specs.Prelude.{OnOk, map, IfSome, IfNone};
+ghost use Rattle.std.specs.Prelude.{◌≡◌, ◌≢◌, ◌<◌, ◌≤◌, ◌+◌, ◌++◌, Option, Some, IfOk, OnOk, map, IfSome, IfNone};
 ghost use Rattle.std.specs.BTreeMap.{get};
 ghost use Rattle.serializability.specs.Reads.{IsClean};
 ghost use Rattle.log_definitions.specs.Numbers.{log_of};

@@ -1,5 +1,4 @@
-use Rattle.std.proofs.Common.{◌≡◌, ◌+◌, ◌++◌, map, drop, length}
-use Rattle.std.specs.List.{flat_map}
+use Rattle.std.proofs.Common.{◌≡◌, ◌+◌, ◌++◌, map, drop, length, flat_map}
 use Rattle.session_log.specs.Text.{view, view_txn, txn_lines}
 use Rattle.log_lines.specs.Rows.{view_place, own_rows}
 use Rattle.log_lines.proofs.places.own_session.Given as goal

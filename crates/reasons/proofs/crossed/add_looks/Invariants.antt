@@ -1,7 +1,5 @@
-use Rattle.std.proofs.Common.{◌≡◌, ◌+◌, ◌-◌, ◌^◌, min, length, take}
-use Rattle.std.specs.List.{sum_by}
+use Rattle.std.proofs.Common.{◌≡◌, ◌+◌, ◌-◌, ◌^◌, min, length, take, sum_by, map}
 use Rattle.log_definitions.specs.Numbers.{log_of}
-use Rattle.std.specs.Prelude.{map}
 use Rattle.write_chains.proofs.Gathered.{pair_of}
 use Rattle.reasons.proofs.Looks.{looks_by}
 use Rattle.reasons.proofs.crossed.add_looks.Given as goal

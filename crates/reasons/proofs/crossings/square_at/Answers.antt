@@ -1,5 +1,4 @@
-use Rattle.std.proofs.Common.{◌+◌, take, sym, subst, inl, inr}
-use Rattle.std.specs.List.{Contains}
+use Rattle.std.proofs.Common.{◌+◌, take, sym, subst, inl, inr, Contains}
 use Rattle.std.proofs.lemmas.List.{take_all}
 use Rattle.std.proofs.lemmas.List.Elements.{Contains-push_cases}
 use Rattle.list_lemmas.proofs.Lists.{front_more}

@@ -1,5 +1,4 @@
-use Rattle.std.proofs.Common.{ℕ, take}
-use Rattle.std.specs.List.{Contains}
+use Rattle.std.proofs.Common.{ℕ, take, Contains}
 use Rattle.reasons.specs.Squares.{NoSquareOf}
 use Rattle.reasons.proofs.crossings.square_at.Given as goal
 
