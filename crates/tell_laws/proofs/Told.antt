@@ -56,11 +56,11 @@ of_steps ss steps items (told.step before front h o two u v has inner against li
 of_cycle : (ss : List ClientSession) (steps decided : List ChainOrder) (items : List Item) → IsCycleTold ss steps decided items → cycles_in items ≡ 1
 of_cycle ss steps decided items (told.closes start inner edges h) = omega (arith, of_line ss steps decided (start ∷ (inner ++ start ∷ [])) edges h)
 
-of_cube : (ss : List ClientSession) (steps : List ChainOrder) (orders : List ChainOrder) (nodes : List TreeNode) (i depth : ℕ) (decided : List ChainOrder) (n m : ℕ) (items : List Item) → IsCubeTold ss steps orders nodes i depth decided n m items → n + cycles_in items ≡ m
-of_cube ss steps orders nodes i depth decided n m items (trees.leaf v d ks k line round less at h) = omega (arith, of_cycle ss steps ks round h)
-of_cube ss steps orders nodes i depth decided n m items (trees.split v d ks k l j c first second o one two at is order h g) =
-    omega (arith, joined one (item.Decided (d + 1) (turned o) ∷ two), of_cube ss steps orders nodes first (d + 1) (o ∷ ks) k l one h, of_cube ss steps orders nodes second (d + 1) (turned o ∷ ks) l j two g)
-of_cube ss steps orders nodes i depth decided n m items (trees.left_out v d ks) = omega arith
+of_cube : (ss : List ClientSession) (steps : List ChainOrder) (orders : List ChainOrder) (nodes : List TreeNode) (i : ℕ) (decided : List ChainOrder) (n m : ℕ) (items : List Item) → IsCubeTold ss steps orders nodes i decided n m items → n + cycles_in items ≡ m
+of_cube ss steps orders nodes i decided n m items (trees.leaf v ks k line round less at h) = omega (arith, of_cycle ss steps ks round h)
+of_cube ss steps orders nodes i decided n m items (trees.split v ks k l j c first second o one two at is order h g) =
+    omega (arith, joined one (item.Decided (length ks + 1) (turned o) ∷ two), of_cube ss steps orders nodes first (o ∷ ks) k l one h, of_cube ss steps orders nodes second (turned o ∷ ks) l j two g)
+of_cube ss steps orders nodes i decided n m items (trees.left_out v ks) = omega arith
 
 of_leaves : (count : ℕ) (more : Bool) → cycles_in (cond more (item.Leaves count ∷ []) []) ≡ 0
 of_leaves count true = refl
@@ -72,7 +72,7 @@ cycles_are_leaves ss choices nodes items t =
     let before = joined t.before (leaves_items leaves ++ t.tree) in
     let behind = joined (leaves_items leaves) t.tree in
     let all = ap cycles_in t.whole in
-    omega (arith, t.count, all, before, behind, of_steps ss t.steps t.before t.told, of_leaves leaves (nat_lt 1 leaves), of_cube ss t.steps t.orders nodes 0 0 [] 0 t.last t.tree t.root)
+    omega (arith, t.count, all, before, behind, of_steps ss t.steps t.before t.told, of_leaves leaves (nat_lt 1 leaves), of_cube ss t.steps t.orders nodes 0 [] 0 t.last t.tree t.root)
 
 -- ---- of two chains of a key, a serial order has the one before the other
 either_chain_first : (log : Log) → IsClean log → (order : List ℕ) → IsSerial log order → (x a b : ℕ) → x < log.keys → Contains (heads log x) a → Contains (heads log x) b → a ≢ b → Keeps order (chain_first log x a b) ⊎ Keeps order (chain_first log x b a)
@@ -174,17 +174,17 @@ module _ (ss : List ClientSession) (order : List ℕ) (well : IsWellFormedList s
   dead_refuted items t = cycle_refuted t.steps [] (steps_kept t.steps t.before t.told) tt t.round t.cycle
 
   -- ---- cubes
-  cube_refuted : (steps : List ChainOrder) → AreKept steps → (orders : List ChainOrder) (nodes : List TreeNode) (i depth : ℕ) (decided : List ChainOrder) (n m : ℕ) (items : List Item) → IsCubeTold ss steps orders nodes i depth decided n m items → AreKept decided → m < MAX_LEAVES → ⊥
-  cube_refuted steps ks orders nodes i depth decided n m items (trees.leaf v d kd k line round less at h) kept few = cycle_refuted steps kd ks kept round h
-  cube_refuted steps ks orders nodes i depth decided n m items (trees.split v d kd k l j c first second o one two at same two_chains h g) kept few =
-      let first_few : l < MAX_LEAVES = omega (arith, few, of_cube ss steps orders nodes second (d + 1) (turned o ∷ kd) l j two g) in
+  cube_refuted : (steps : List ChainOrder) → AreKept steps → (orders : List ChainOrder) (nodes : List TreeNode) (i : ℕ) (decided : List ChainOrder) (n m : ℕ) (items : List Item) → IsCubeTold ss steps orders nodes i decided n m items → AreKept decided → m < MAX_LEAVES → ⊥
+  cube_refuted steps ks orders nodes i decided n m items (trees.leaf v kd k line round less at h) kept few = cycle_refuted steps kd ks kept round h
+  cube_refuted steps ks orders nodes i decided n m items (trees.split v kd k l j c first second o one two at same two_chains h g) kept few =
+      let first_few : l < MAX_LEAVES = omega (arith, few, of_cube ss steps orders nodes second (turned o ∷ kd) l j two g) in
       elim (one_way o two_chains) [
-        | inl a ↦ cube_refuted steps ks orders nodes first (d + 1) (o ∷ kd) k l one h (a, kept) first_few
-        | inr a ↦ cube_refuted steps ks orders nodes second (d + 1) (turned o ∷ kd) l j two g (a, kept) few
+        | inl a ↦ cube_refuted steps ks orders nodes first (o ∷ kd) k l one h (a, kept) first_few
+        | inr a ↦ cube_refuted steps ks orders nodes second (turned o ∷ kd) l j two g (a, kept) few
       ]
-  cube_refuted steps ks orders nodes i depth decided n m items (trees.left_out v d kd) kept few = absurd (omega (arith, few))
+  cube_refuted steps ks orders nodes i decided n m items (trees.left_out v kd) kept few = absurd (omega (arith, few))
 
   pub tree_refuted : (choices : List Choice) (nodes : List TreeNode) (items : List Item) (t : IsTreeTold ss choices nodes items) → leaf_count nodes < MAX_LEAVES → ⊥
   tree_refuted choices nodes items t less =
       let few : t.last < MAX_LEAVES = omega (arith, t.count, less) in
-      cube_refuted t.steps (steps_kept t.steps t.before t.told) t.orders nodes 0 0 [] 0 t.last t.tree t.root tt few
+      cube_refuted t.steps (steps_kept t.steps t.before t.told) t.orders nodes 0 [] 0 t.last t.tree t.root tt few

@@ -70,17 +70,11 @@ module _ (s : StepsView) (orders : List ChainOrder) (nodes : List TreeNode) wher
   pub record IsNodeTold (decided : List ChainOrder) (i n k : ℕ) (items : List Item) : Type 0 where
     pub after : List Item
     pub whole : items ≡ decision_items decided ++ after
-    pub cube : IsCubeTold s.sessions s.orders orders nodes i (length decided) decided n k after
+    pub cube : IsCubeTold s.sessions s.orders orders nodes i decided n k after
 
   module _ (p : Polygraph) (t : IsRefutationTree p nodes) (each : All (IsOrder (log_of s.sessions)) orders) (count : length orders ≡ length p.choices) where
-    child_told : (i c : ℕ) (side : Side) (j n k : ℕ) (items : List Item) → IsChild nodes i c side j → IsNodeTold (decided_at orders nodes j) j n k items
-        → let o = order_at orders (c, side) in let decided = decided_at orders nodes i in (after : List Item) × (items ≡ item.Decided (length decided + 1) o ∷ after) × IsCubeTold s.sessions s.orders orders nodes j (length decided + 1) (o ∷ decided) n k after
-    child_told i c side j n k items child h =
-        let o = order_at orders (c, side) in
-        let decided = decided_at orders nodes i in
-        let r = subst (λ ds. IsNodeTold ds j n k items) (ap (map (order_at orders)) (child_cube p nodes t i c side j child)) h in
-        let depth : length (o ∷ decided) ≡ length decided + 1 = omega arith in
-        (r.after, r.whole, subst (λ d. IsCubeTold s.sessions s.orders orders nodes j d (o ∷ decided) n k r.after) depth r.cube)
+    child_told : (i c : ℕ) (side : Side) (j n k : ℕ) (items : List Item) → IsChild nodes i c side j → IsNodeTold (decided_at orders nodes j) j n k items → IsNodeTold (order_at orders (c, side) ∷ decided_at orders nodes i) j n k items
+    child_told i c side j n k items child = subst (λ ds. IsNodeTold ds j n k items) (ap (map (order_at orders)) (child_cube p nodes t i c side j child))
 
     pub node_told : {i n k : ℕ} {vs : List Visit} → IsVisited nodes i n k vs → (items : List Item) → AreVisitsTold s orders nodes vs items → IsNodeTold (decided_at orders nodes i) i n k items
     node_told (visited.leaf i n line lt g) items h =
@@ -88,7 +82,7 @@ module _ (s : StepsView) (orders : List ChainOrder) (nodes : List TreeNode) wher
         record {
           after = h.2.cycle;
           whole = h.4 ∙ (λ z. h.2.whole z ++ h.3 z) ∙ append-nil (decision_items decided ++ h.2.cycle);
-          cube = told.leaf i (length decided) decided n line.now h.2.cycle lt g (round_cycle s.sessions s.orders decided line.now h.2.cycle h.2.leaf);
+          cube = told.leaf i decided n line.now h.2.cycle lt g (round_cycle s.sessions s.orders decided line.now h.2.cycle h.2.leaf);
         }
     node_told (visited.split i n m k c first second one two g va vb) items h =
         let decided = decided_at orders nodes i in
@@ -100,16 +94,16 @@ module _ (s : StepsView) (orders : List ChainOrder) (nodes : List TreeNode) wher
         let b = child_told i c Two second m k parts.1 split.two (node_told vb parts.1 parts.3) in
         let order : IsOrder (log_of s.sessions) o = each c no_order (let lt = split.choice in omega (arith, lt, count)) in
         record {
-          after = (item.Decided (L + 1) o ∷ a.0) ++ (item.Decided (L + 1) (turned o) ∷ b.0);
-          whole = h.4 ∙ (λ z. h.2.whole z ++ h.1) ∙ (λ z. (decision_items decided ++ h.2.leaf z) ++ h.1) ∙ (λ z. append-nil (decision_items decided) z ++ h.1) ∙ ap (λ l. decision_items decided ++ l) (parts.4 ∙ (λ z. a.1 z ++ b.1 z));
-          cube = told.split i L decided n m k c first second o a.0 b.0 g refl order a.2 b.2;
+          after = (item.Decided (L + 1) o ∷ a.after) ++ (item.Decided (L + 1) (turned o) ∷ b.after);
+          whole = h.4 ∙ (λ z. h.2.whole z ++ h.1) ∙ (λ z. (decision_items decided ++ h.2.leaf z) ++ h.1) ∙ (λ z. append-nil (decision_items decided) z ++ h.1) ∙ ap (λ l. decision_items decided ++ l) (parts.4 ∙ (λ z. a.whole z ++ b.whole z));
+          cube = told.split i decided n m k c first second o a.after b.after g refl order a.cube b.cube;
         }
     node_told (visited.left_out i) items h =
         let decided = decided_at orders nodes i in
         record {
           after = [];
           whole = h.4 ∙ (λ z. h.2.whole z ++ h.3 z) ∙ append-nil (decision_items decided ++ h.2.cycle) ∙ ap (λ l. decision_items decided ++ l) h.2.leaf;
-          cube = told.left_out i (length decided) decided;
+          cube = told.left_out i decided;
         }
 
 abbrev lines_of : List Visit → List (Bor (List ℕ))
@@ -142,7 +136,7 @@ whole_told s orders nodes p t visits last v before mid items mid_is put lines li
       told = steps;
       sides = sides;
       last = last;
-      root = subst (λ (l : List Item). IsCubeTold s.sessions s.orders orders nodes 0 0 [] 0 last l) (sym root.whole) root.cube;
+      root = subst (λ (l : List Item). IsCubeTold s.sessions s.orders orders nodes 0 [] 0 last l) (sym root.whole) root.cube;
       count = told_count nodes p t last visits v;
       whole = whole;
       needed = λ k lt. elim (needed k lt) [

@@ -20,19 +20,19 @@ use Rattle.tell_trees.specs.declared.TheConstants.{MAX_LEAVES}
 -- orders, of which each makes the cube of a child, which is told in turn; or it is left out, behind
 -- the greatest number of leaves.
 pub data IsCubeTold (ss : List ClientSession) (steps orders : List ChainOrder)
-    (nodes : List TreeNode) : ℕ → ℕ → List ChainOrder → ℕ → ℕ → List Item → Type 0 where
-  leaf : (v depth : ℕ) (decided : List ChainOrder) (n : ℕ) (line : List ℕ) (items : List Item)
+    (nodes : List TreeNode) : ℕ → List ChainOrder → ℕ → ℕ → List Item → Type 0 where
+  leaf : (v : ℕ) (decided : List ChainOrder) (n : ℕ) (line : List ℕ) (items : List Item)
       → n < MAX_LEAVES → IsGrown nodes v (Leaf line) → IsCycleTold ss steps decided items →
-      IsCubeTold ss steps orders nodes v depth decided n (n + 1) items
-  split : (v depth : ℕ) (decided : List ChainOrder) (n m k c first second : ℕ) (o : ChainOrder)
+      IsCubeTold ss steps orders nodes v decided n (n + 1) items
+  split : (v : ℕ) (decided : List ChainOrder) (n m k c first second : ℕ) (o : ChainOrder)
       (one two : List Item)
       → IsGrown nodes v (Inner c first second) → o ≡ order_at orders (c, One) → IsOrder (log_of ss) o →
-      IsCubeTold ss steps orders nodes first (depth + 1) (o ∷ decided) n m one
-      → IsCubeTold ss steps orders nodes second (depth + 1) (turned o ∷ decided) m k two →
-      IsCubeTold ss steps orders nodes v depth decided n k (item.Decided (depth + 1) o ∷ one
-      ++ item.Decided (depth + 1) (turned o) ∷ two)
-  left_out : (v depth : ℕ) (decided : List ChainOrder)
-      → IsCubeTold ss steps orders nodes v depth decided MAX_LEAVES MAX_LEAVES []
+      IsCubeTold ss steps orders nodes first (o ∷ decided) n m one
+      → IsCubeTold ss steps orders nodes second (turned o ∷ decided) m k two →
+      IsCubeTold ss steps orders nodes v decided n k (item.Decided (length decided + 1) o ∷ one
+      ++ item.Decided (length decided + 1) (turned o) ∷ two)
+  left_out : (v : ℕ) (decided : List ChainOrder) →
+      IsCubeTold ss steps orders nodes v decided MAX_LEAVES MAX_LEAVES []
 
 -- how many leaves the tree has, where it has more than one
 abbrev pub leaves_items : ℕ → List Item
@@ -54,7 +54,7 @@ pub record IsTreeTold (ss : List ClientSession) (choices : List Choice) (nodes :
   pub told : AreStepsTold ss steps before
   pub sides : AreOrdersOf (log_of ss) choices orders
   pub last : ℕ
-  pub root : IsCubeTold ss steps orders nodes 0 0 [] 0 last tree
+  pub root : IsCubeTold ss steps orders nodes 0 [] 0 last tree
   pub count : last ≡ told_leaves (leaf_count nodes)
   pub whole : items ≡ before ++ (leaves_items (leaf_count nodes) ++ tree)
   pub needed : (k : ℕ) → k < length steps → IsNamed items k
