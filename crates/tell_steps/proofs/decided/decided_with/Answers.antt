@@ -10,9 +10,6 @@ use Rattle.tell_steps.specs.Steps.{IsOrder, NoStepHas}
 use Rattle.tell_steps.proofs.Needing.{none_more}
 use Rattle.tell_steps.proofs.decided.decided_with.Goals as goal
 
-pub loop-order-init : goal.loop-order-init
-loop-order-init c = λ all. record { none = λ o among has. omega (arith, among.1) }
-
 pub loop-order-preserved : goal.loop-order-preserved
 loop-order-preserved c = λ all.
     let log = log_of c.args.shown.now in

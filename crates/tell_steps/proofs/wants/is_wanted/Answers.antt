@@ -12,9 +12,6 @@ use Rattle.tell_steps.specs.Lines.{OneHas}
 use Rattle.tell_steps.specs.Needed.{orders_of, IsNoFirstOf}
 use Rattle.tell_steps.proofs.wants.is_wanted.Goals as goal
 
-pub loop-edge-init : goal.loop-edge-init
-loop-edge-init c = λ e among has. absurd (omega (arith, among.1))
-
 pub loop-edge-preserved : goal.loop-edge-preserved
 loop-edge-preserved c = λ e among has.
     let ss = c.args.shown.now in
