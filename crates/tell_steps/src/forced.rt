@@ -13,7 +13,7 @@ ghost use Rattle.tell_steps.specs.Told.{IsPut, IsRoundTold};
 use crate::dead::steps_in;
 use crate::item::Item;
 use crate::lines::put_cycle;
-use crate::needed::Walks;
+use crate::shorter::Walks;
 use crate::shown::Shown;
 use crate::steps::told_steps;
 use prune_ledger::LedgerEntry;
