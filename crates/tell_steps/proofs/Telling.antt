@@ -204,6 +204,9 @@ covered_stands ss kept steps decided line rests covered = record {
 pub line_covered : (ss : List ClientSession) (kept : List ChainOrder) (lines : List (List ℕ)) (steps : List ChainOrder) (items : List Item) (line : List ℕ) → AreToldFor ss kept lines steps [] items → Contains lines line → HasSteps ss kept steps line
 line_covered ss kept lines steps items line t among = record { each = λ e u h. t.left e (record { line = line; among = among; by = u }) h }
 
+pub told_stands : (ss : List ClientSession) (kept : List ChainOrder) (line : List ℕ) (steps decided : List ChainOrder) (items : List Item) → AreToldFor ss kept (line ∷ []) steps [] items → LineStands ss kept decided line → LineStands ss steps decided line
+told_stands ss kept line steps decided items t rests = covered_stands ss kept steps decided line rests (line_covered ss kept (line ∷ []) steps items line t (0, omega arith, refl))
+
 -- ---- all of it: a cycle, told behind the steps
 pub round_cycle : (ss : List ClientSession) (steps decided : List ChainOrder) (line : List ℕ) (items : List Item) → IsRoundTold ss steps decided line items → IsCycleTold ss steps decided items
 round_cycle ss steps decided line items h =

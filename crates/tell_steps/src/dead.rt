@@ -10,9 +10,8 @@ ghost use Rattle.tell_steps.specs.Needed.{orders_of, AreBuilt};
 use crate::checks::{are_steps, is_closed};
 use crate::item::Item;
 use crate::lines::put_cycle;
-use crate::needed::Walks;
 use crate::orders::{choice_orders, steps_from};
-use crate::shorter::shorter_cycle;
+use crate::shorter::{Walks, shorter_cycle};
 use crate::shown::Shown;
 use crate::steps::told_steps;
 use prune_ledger::{Ledger, LedgerEntry};
@@ -38,6 +37,7 @@ pub fn steps_in(
 }
 
 /// Those of these steps that this cycle needs, and the cycle.
+#[tactic(auto, using(crate::proofs::Telling::told_stands))]
 fn tell_steps(
     shown: &mut Shown<'_>,
     steps: Vec<Step>,

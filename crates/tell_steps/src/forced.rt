@@ -13,7 +13,7 @@ ghost use Rattle.tell_steps.specs.Told.{IsPut, IsRoundTold};
 use crate::dead::steps_in;
 use crate::item::Item;
 use crate::lines::put_cycle;
-use crate::needed::Walks;
+use crate::shorter::Walks;
 use crate::shown::Shown;
 use crate::steps::told_steps;
 use prune_ledger::LedgerEntry;
@@ -81,6 +81,7 @@ impl<'a> Steps<'a> {
     /// step that has the edge, or by a decided order that has it. One of these is there by what is
     /// required, so the one error is that memory runs out. What the log shows of an edge is looked
     /// up once.
+    #[tactic(auto, using(crate::proofs::Telling::covered_stands))]
     pub fn put_cycle(
         &mut self,
         items: &mut Vec<Item>,

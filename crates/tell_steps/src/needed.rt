@@ -1,37 +1,14 @@
 //! The steps of a ledger that some lines need.
 
 ghost use Rattle.std.specs.Prelude.{◌≡◌, [], map, IfOk};
-ghost use Rattle.tell_steps.specs.Ledgers.{IsStep};
 ghost use Rattle.tell_steps.specs.Needed.{orders_of, AreBuilt, AreNeeded};
 
-use crate::shorter::shorter_step;
+use crate::shorter::{Walks, shorter_step};
 use crate::shown::Shown;
 use crate::wants::{is_wanted, put_wants, wants_of};
 use serializability::NodeIx;
 use std::alloc::AllocError;
 use tell_proposals::Step;
-
-/// Whether walks are told as they are, or shorter where that is right.
-#[derive(Clone, Copy)]
-pub enum Walks {
-    Same,
-    Shorter,
-}
-
-impl Walks {
-    /// A step that establishes the same order behind these.
-    fn step(self, shown: &mut Shown<'_>, earlier: &[Step], step: Step) -> Result<Step, AllocError>
-        requires step { IsStep shown.old (orders_of earlier.now) step }
-        ensures same { shown.new ≡ shown.old }
-        ensures order { IfOk result (λ made. made.order ≡ step.order) }
-        ensures step { IfOk result (IsStep shown.old (orders_of earlier.now)) }
-    {
-        match self {
-            Walks::Same => Ok(step),
-            Walks::Shorter => shorter_step(shown, earlier, step),
-        }
-    }
-}
 
 /// Those of the steps that these lines need, and no others: from the last to the first, each that is
 /// the first to have an edge of a line, or of the walk of a later step, which the log does not show.
@@ -53,7 +30,7 @@ pub fn needed_steps(
         if !is_wanted(shown, &left, &step.order, &wants) {
             continue;
         }
-        let made = walks.step(shown, &left, step)?;
+        let made = shorter_step(shown, &left, step, walks)?;
         put_wants(&mut wants, shown, &made.walk)?;
         needed.push(made)?;
     }

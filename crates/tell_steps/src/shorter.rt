@@ -13,6 +13,13 @@ use serializability::NodeIx;
 use std::alloc::AllocError;
 use tell_proposals::Step;
 
+/// Whether walks are told as they are, or shorter where that is right.
+#[derive(Clone, Copy)]
+pub enum Walks {
+    Same,
+    Shorter,
+}
+
 /// The place of the first of these nodes from which the log shows an edge to another; where it
 /// shows none, that of the last.
 fn earliest(shown: &mut Shown<'_>, nodes: &[NodeIx], end: NodeIx) -> Result<usize, AllocError>
@@ -74,14 +81,22 @@ fn walk_to_one(
     Ok(None)
 }
 
-/// A step that establishes the same order, by a shorter walk if that is right, from a nearer node
-/// where there is one.
-pub fn shorter_step(shown: &mut Shown<'_>, earlier: &[Step], step: Step) -> Result<Step, AllocError>
+/// A step that establishes the same order: where walks may be shorter, by one that is right, from a
+/// nearer node where there is one, and else the same step.
+pub fn shorter_step(
+    shown: &mut Shown<'_>,
+    earlier: &[Step],
+    step: Step,
+    walks: Walks,
+) -> Result<Step, AllocError>
     requires step { IsStep shown.old (orders_of earlier.now) step }
     ensures same { shown.new ≡ shown.old }
     ensures order { IfOk result (λ made. made.order ≡ step.order) }
     ensures step { IfOk result (IsStep shown.old (orders_of earlier.now)) }
 {
+    if let Walks::Same = walks {
+        return Ok(step);
+    }
     let line = shorter_line(shown, &step.walk)?;
     let nearer = walk_to_one(shown, &line, readers_behind(shown, turned(step.order)))?;
     let made = Step {

@@ -10,7 +10,8 @@ ghost use Rattle.tell_steps.specs.Told as spec;
 
 use crate::item::Item;
 use crate::lines::put_edges;
-use crate::needed::{Walks, needed_steps};
+use crate::needed::needed_steps;
+use crate::shorter::Walks;
 use crate::shown::Shown;
 use serializability::NodeIx;
 use std::alloc::AllocError;

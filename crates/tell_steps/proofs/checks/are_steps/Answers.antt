@@ -1,5 +1,4 @@
-use Rattle.std.proofs.Common.{◌∙◌, List, [], take, sym, subst, arith}
-use Rattle.std.proofs.lemmas.List.{take_all}
+use Rattle.std.proofs.Common.{◌∙◌, List, [], take, sym, subst}
 use Rattle.list_lemmas.proofs.Lists.{front_more}
 use Rattle.session_log.specs.Text.{ClientSession}
 use Rattle.tell_steps.specs.Ledgers.{IsStep}
@@ -18,6 +17,3 @@ loop-place-preserved c =
       same = c.in_ok-right.ensures.same ∙ c.loop-place.invariant.same;
       built = subst (AreBuilt ss []) (sym (front_more steps i x c.loop-place-test.true c.index-steps-place.is)) (built_push ss [] (take i steps) x c.loop-place.invariant.built is);
     }
-
-pub returns-clause-steps : goal.returns-clause-steps
-returns-clause-steps c = λ t. subst (AreBuilt c.args.shown.now []) (take_all c.loop-place.place c.args.steps.now (omega (arith, c.loop-place-test.false))) c.loop-place.invariant.built

@@ -1,22 +1,8 @@
-use Rattle.std.proofs.Common.{[], ◌∷◌, ◌∙◌, refl, arith}
+use Rattle.std.proofs.Common.{[], ◌∙◌}
 use Rattle.tell_steps.specs.Needed.{orders_of}
 use Rattle.tell_steps.specs.Told.{IsPut, IsRoundTold}
-use Rattle.tell_steps.proofs.Telling.{covered_stands, line_covered, dead_told}
+use Rattle.tell_steps.proofs.Telling.{dead_told}
 use Rattle.tell_steps.proofs.dead.tell_steps.Goals as goal
-
-pub put_cycle-requires : goal.put_cycle-requires
-put_cycle-requires c =
-    let ss = c.args.shown.now in
-    let kept = orders_of c.args.steps.items in
-    let made = orders_of c.in_ok-told.told.steps.items in
-    let told = c.in_ok-told.ensures.told in
-    let cycle = c.args.cycle.now in
-    rw (c.in_ok-told.ensures.same, c.deref.ensures.value) (record {
-      steps = told.two_chains;
-      decided = λ k d lt. absurd (omega (arith, lt));
-      stands = covered_stands ss kept made [] cycle c.requires.closed.rests (line_covered ss kept (cycle ∷ []) made c.in_ok-told.told.items.items cycle told (0, omega arith, refl));
-      round = c.requires.closed.round;
-    })
 
 pub returns : goal.returns
 returns c =

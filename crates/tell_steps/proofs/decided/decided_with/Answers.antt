@@ -1,6 +1,5 @@
-use Rattle.std.proofs.Common.{List, take, sym, subst, arith}
+use Rattle.std.proofs.Common.{List, take, sym, subst}
 use Rattle.std.proofs.lemmas.Bool.{not_from_false}
-use Rattle.std.proofs.lemmas.List.{take_all}
 use Rattle.std.proofs.lemmas.List.Elements.{All-contains}
 use Rattle.list_lemmas.proofs.Elements.{item, contains_at}
 use Rattle.list_lemmas.proofs.Lists.{front_more}
@@ -9,9 +8,6 @@ use Rattle.tell_reasons.specs.declared.why.ChainOrder.{ChainOrder}
 use Rattle.tell_steps.specs.Steps.{IsOrder, NoStepHas}
 use Rattle.tell_steps.proofs.Needing.{none_more}
 use Rattle.tell_steps.proofs.decided.decided_with.Goals as goal
-
-pub loop-order-init : goal.loop-order-init
-loop-order-init c = λ all. record { none = λ o among has. omega (arith, among.1) }
 
 pub loop-order-preserved : goal.loop-order-preserved
 loop-order-preserved c = λ all.
@@ -22,6 +18,3 @@ loop-order-preserved c = λ all.
     let two = All-contains (IsOrder log) decided x all (contains_at decided i x (item decided i x c.loop-order-test.true c.order-item.is)) in
     subst (λ (os : List ChainOrder). NoStepHas log os (c.args.a, c.args.b)) (sym (front_more decided i x c.loop-order-test.true c.order-item.is))
     (none_more log (take i decided) x (c.args.a, c.args.b) (c.loop-order.invariant all) (λ has. c.has_edge.ensures.no (not_from_false c.has_edge.result c.if-has_edge.false) two has))
-
-pub returns-clause-none : goal.returns-clause-none
-returns-clause-none c = λ all. subst (λ (os : List ChainOrder). NoStepHas (log_of c.args.shown.now) os (c.args.a, c.args.b)) (take_all c.loop-order.order-index c.args.decided.now (omega (arith, c.loop-order-test.false))) (c.loop-order.invariant all)

@@ -23,6 +23,3 @@ pub returns-then-get-clause-no : goal.returns-then-get-clause-no
 returns-then-get-clause-no c = λ t two has.
     let target : c.args.b ≡ c.args.order.second = order_target (log_of c.args.shown.now) c.args.order (c.args.a, c.args.b) has in
     c.if-get.true (omega (arith, target, c.get.ensures.value, c.get-2.ensures.value))
-
-pub returns-in-None-clause-no : goal.returns-in-None-clause-no
-returns-in-None-clause-no c = λ t two has. c.in-None.ensures.chain two.key_of two.one

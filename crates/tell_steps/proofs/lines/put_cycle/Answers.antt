@@ -14,12 +14,6 @@ use Rattle.tell_steps.proofs.lines.put_cycle.Goals as goal
 short_stands : (ss hs : List ClientSession) (steps decided : List ChainOrder) (line short : List ℕ) → short ≡ without_runs hs line → hs ≡ ss → LineStands ss steps decided line → LineStands ss steps decided short
 short_stands ss hs steps decided line short is same h = subst (LineStands ss steps decided) (sym (is ∙ ap (λ s. without_runs s line) same)) (runs_stand ss steps decided line h)
 
-pub index-start-requires : goal.index-start-requires
-index-start-requires c = omega (arith, (short_stands c.args.shown.now c.history.result.now (orders_of c.args.steps.now) c.args.decided.now c.args.line.now c.in_ok-line.line.items c.in_ok-line.ensures (c.history.ensures.history ∙ c.chains.ensures.sessions) c.requires.stands).some, c.in_ok-line.line.ok.0)
-
-pub overflow_sub-edges : goal.overflow_sub-edges
-overflow_sub-edges c = omega (arith, (short_stands c.args.shown.now c.history.result.now (orders_of c.args.steps.now) c.args.decided.now c.args.line.now c.in_ok-line.line.items c.in_ok-line.ensures (c.history.ensures.history ∙ c.chains.ensures.sessions) c.requires.stands).some, c.in_ok-line.line.ok.0, c.len-edges.ensures)
-
 pub put_edges-requires-clause-stands : goal.put_edges-requires-clause-stands
 put_edges-requires-clause-stands c = subst (LineStands c.args.shown.now (orders_of c.args.steps.now) c.args.decided.now) (sym c.deref.ensures.value) (short_stands c.args.shown.now c.history.result.now (orders_of c.args.steps.now) c.args.decided.now c.args.line.now c.in_ok-line.line.items c.in_ok-line.ensures (c.history.ensures.history ∙ c.chains.ensures.sessions) c.requires.stands)
 

@@ -1,12 +1,9 @@
-use Rattle.std.proofs.Common.{◌≡◌, ◌∙◌, ◌+◌, ◌<◌, length, get_or, refl, arith}
+use Rattle.std.proofs.Common.{◌≡◌, ◌∙◌, ◌+◌, ◌<◌, length, get_or, arith}
 use Rattle.std.proofs.lemmas.List.{get_or_read}
 use Rattle.tell_steps.specs.Needed.{orders_of}
 use Rattle.tell_steps.specs.Told.{WhyPut}
-use Rattle.tell_steps.proofs.Telling.{put_none, put_more, put_all}
+use Rattle.tell_steps.proofs.Telling.{put_more, put_all}
 use Rattle.tell_steps.proofs.lines.put_edges.Goals as goal
-
-pub loop-i-init : goal.loop-i-init
-loop-i-init c = record { same = refl; put = put_none c.args.shown.now (orders_of c.args.steps.now) c.args.decided.now c.args.line.now c.args.items.now.items }
 
 pub loop-i-preserved : goal.loop-i-preserved
 loop-i-preserved c =

@@ -64,8 +64,8 @@ loop-step-preserved-then-not-is_wanted c =
       needed = needed_out ss kept lines (orders_of front) s.order later wants c.loop-step.invariant.wants covers (subst (λ (os : List ChainOrder). AreNeeded ss kept lines os later) (orders_split left front s c.in-Some.ensures.items) c.loop-step.invariant.needed);
     }
 
-pub step-requires : goal.step-requires
-step-requires c =
+pub shorter_step-requires : goal.shorter_step-requires
+shorter_step-requires c =
     let parts = split c.args.shown.now c.loop-step.left.items c.pop.new.self.items c.in-Some.step c.in-Some.ensures.items c.loop-step.invariant.built in
     record { step = rw (c.loop-step.invariant.same, c.deref-in-Some-2.ensures.value) parts.1 }
 

@@ -1,6 +1,5 @@
-use Rattle.std.proofs.Common.{List, take, sym, subst, inl, inr, arith}
+use Rattle.std.proofs.Common.{List, take, sym, subst, inl, inr}
 use Rattle.std.proofs.lemmas.Bool.{not_from_false}
-use Rattle.std.proofs.lemmas.List.{take_all}
 use Rattle.std.proofs.lemmas.List.Elements.{Contains-push_cases}
 use Rattle.list_lemmas.proofs.Elements.{item, contains_at}
 use Rattle.list_lemmas.proofs.Lists.{front_more}
@@ -9,11 +8,8 @@ use Rattle.log_definitions.specs.Numbers.{log_of}
 use Rattle.std.specs.List.{Contains}
 use Rattle.tell_steps.specs.Steps.{edges_in}
 use Rattle.tell_steps.specs.Lines.{OneHas}
-use Rattle.tell_steps.specs.Needed.{orders_of, IsNoFirstOf}
+use Rattle.tell_steps.specs.Needed.{orders_of}
 use Rattle.tell_steps.proofs.wants.is_wanted.Goals as goal
-
-pub loop-edge-init : goal.loop-edge-init
-loop-edge-init c = λ e among has. absurd (omega (arith, among.1))
 
 pub loop-edge-preserved : goal.loop-edge-preserved
 loop-edge-preserved c = λ e among has.
@@ -32,6 +28,3 @@ pub returns-then-is_first-clause-yes : goal.returns-then-is_first-clause-yes
 returns-then-is_first-clause-yes c = λ t.
     let x : Edge = c.edge-item.result in
     (x, contains_at c.args.wants.now c.loop-edge.edge-index x (item c.args.wants.now c.loop-edge.edge-index x c.loop-edge-test.true c.edge-item.is), record { has = c.is_first.ensures.has c.if-is_first.true; first = c.is_first.ensures.first c.if-is_first.true })
-
-pub returns-clause-no : goal.returns-clause-no
-returns-clause-no c = λ t. subst (IsNoFirstOf c.args.shown.now (orders_of c.args.earlier.now) c.args.order.now) (take_all c.loop-edge.edge-index c.args.wants.now (omega (arith, c.loop-edge-test.false))) c.loop-edge.invariant

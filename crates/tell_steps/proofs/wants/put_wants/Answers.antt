@@ -1,11 +1,8 @@
-use Rattle.std.proofs.Common.{◌∙◌, ◌+◌, ◌<◌, length, refl, arith}
+use Rattle.std.proofs.Common.{◌∙◌, ◌+◌, ◌<◌, length, arith}
 use Rattle.std.proofs.lemmas.Bool.{not_from_false}
 use Rattle.std.proofs.lemmas.List.{get_or_read}
-use Rattle.tell_steps.proofs.Needing.{more_none, more_same, more_pushed, more_all}
+use Rattle.tell_steps.proofs.Needing.{more_same, more_pushed, more_all}
 use Rattle.tell_steps.proofs.wants.put_wants.Goals as goal
-
-pub loop-i-init : goal.loop-i-init
-loop-i-init c = record { same = refl; more = more_none c.args.shown.now c.args.line.now c.args.wants.now.items }
 
 pub loop-i-preserved : goal.loop-i-preserved
 loop-i-preserved c =

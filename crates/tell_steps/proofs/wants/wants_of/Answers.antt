@@ -1,13 +1,10 @@
-use Rattle.std.proofs.Common.{◌∙◌, ℕ, List, map, take, refl, sym, subst, arith, Bor}
+use Rattle.std.proofs.Common.{◌∙◌, ℕ, List, map, take, sym, subst, arith, Bor}
 use Rattle.std.proofs.lemmas.List.{take_all}
 use Rattle.list_lemmas.proofs.Lists.{mapped_front}
 use Rattle.session_log.specs.Text.{ClientSession}
 use Rattle.tell_steps.specs.Needed.{AreUnshown, AreMore}
-use Rattle.tell_steps.proofs.Needing.{unshown_none, unshown_push}
+use Rattle.tell_steps.proofs.Needing.{unshown_push}
 use Rattle.tell_steps.proofs.wants.wants_of.Goals as goal
-
-pub loop-line-init : goal.loop-line-init
-loop-line-init c = record { same = refl; wants = rw c.new-wants.ensures.items (unshown_none c.args.shown.now) }
 
 pub loop-line-preserved : goal.loop-line-preserved
 loop-line-preserved c =
