@@ -1,9 +1,10 @@
 -- Operations of nodes, and the events that a history keeps of them.
-use Rattle.std.proofs.Common.{◌≡◌, ℕ, ◌≤◌, List, [], length, Option, None, Some, refl, sym, ap, ◌∙◌, arith, lt-ltb}
+use Rattle.std.proofs.Common.{◌≡◌, ℕ, ◌≤◌, List, [], length, Option, None, Some, refl, sym, ap, ◌∙◌, arith, lt-ltb, get_or}
 use Rattle.std.specs.Prelude.{slice_get, unwrap_or, nat_lt}
 use Rattle.std.specs.Str.{bytes_eq}
 use Rattle.std.proofs.lemmas.Bool.{cond-true}
-use Rattle.std.proofs.lemmas.Option.{slice_get_past}
+use Rattle.std.proofs.lemmas.List.Quantifiers.{position-Some}
+use Rattle.std.proofs.lemmas.Option.{slice_get_past, slice_get-get_or}
 use Rattle.std.proofs.lemmas.Slice.Eq.{bytes_eq-Decides}
 use Rattle.session_log.specs.Text.{ClientSession}
 use Rattle.session_log.specs.declared.session.Op.{Op}
@@ -14,28 +15,27 @@ use Rattle.log_definitions.specs.Numbers.{number_in, log_of}
 use Rattle.log_definitions.proofs.Keys.{Listed, number_below}
 use Rattle.log_definitions.proofs.Nodes.{log_keys}
 use Rattle.reason_laws.proofs.Numbers.{listed_at}
-use Rattle.reasons.proofs.Ops.{event_at, read_at, write_at}
-use Rattle.reasons.proofs.Positions.{first_at}
+use Rattle.reasons.proofs.Ops.{event_at, op_at as op_of_event}
 use Rattle.tell_reasons.specs.Reasons.{op_at, key_bytes}
 
 -- the key with the number of a listed key is that key
 numbered : (keys : List (List ℕ)) (key : List ℕ) → Listed keys key → slice_get keys (number_in keys key) ≡ Some key
 numbered keys key h =
     let n = number_in keys key in
-    let at = first_at (bytes_eq key) keys n (sym (cond-true (nat_lt n (length keys)) (Some n) None (lt-ltb n (length keys) (number_below keys key h)))) in
-    at.stands ∙ ap (λ k. Some k) (sym ((bytes_eq-Decides key at.item).0 at.passes))
+    let at = position-Some (bytes_eq key) keys n [] (cond-true (nat_lt n (length keys)) (Some n) None (lt-ltb n (length keys) (number_below keys key h))) in
+    slice_get-get_or keys n [] at.0 ∙ ap (λ k. Some k) (sym ((bytes_eq-Decides key (get_or keys n [])).0 at.1))
 
 key_is : (ss : List ClientSession) (x : ℕ) (key : List ℕ) → number_in (keys_in ss) key ≡ x → Listed (keys_in ss) key → key ≡ key_bytes ss x
 key_is ss x key e h = ap (λ k. unwrap_or k []) (sym (numbered (keys_in ss) key h)) ∙ ap (key_bytes ss) e
 
 pub read_told : (ss : List ClientSession) (v i x w : ℕ) → slice_get ((log_of ss).ops v) i ≡ Some (event.Read x w) → Some (Read (key_bytes ss x) w) ≡ op_at ss v i
 read_told ss v i x w h =
-    let r = read_at ss v i x w h in
+    let r = op_of_event ss v i (event.Read x w) h in
     sym (r.stands ∙ ap (λ key. Some (Read key w)) (key_is ss x r.key r.number (listed_at ss v i (Read r.key w) r.stands)))
 
 pub write_told : (ss : List ClientSession) (v i x w : ℕ) → slice_get ((log_of ss).ops v) i ≡ Some (event.Write x w) → Some (Write (key_bytes ss x) w) ≡ op_at ss v i
 write_told ss v i x w h =
-    let r = write_at ss v i x w h in
+    let r = op_of_event ss v i (event.Write x w) h in
     sym (r.stands ∙ ap (λ key. Some (Write key w)) (key_is ss x r.key r.number (listed_at ss v i (Write r.key w) r.stands)))
 
 pub no_op : (ss : List ClientSession) (v i : ℕ) → None ≡ slice_get ((log_of ss).ops v) i → None ≡ op_at ss v i

@@ -163,6 +163,12 @@ sided_order log o Two h = turned_order log o h
 pub orders_count : (log : Log) (choices : List Choice) (orders : List ChainOrder) → AreOrdersOf log choices orders → length orders ≡ length choices
 orders_count log choices orders h = sym (map_length (choice_of log) orders) ∙ ap length h.sides
 
+-- ---- the ledger of what pruning left
+pub ledger_shown : (ss : List ClientSession) (reduced : Remainder) → IsOpenHistory ss reduced → AreEntries ss reduced.ledger.entries.items
+ledger_shown ss reduced left =
+    let made = left.unpruned.chained in
+    record { poly = left.poly; known = λ e. (made.known e).0; choices = made.choices; shown = left.left.ledger.shown }
+
 -- ---- a leaf's cycle
 module _ (s : StepsView) (orders : List ChainOrder) (nodes : List TreeNode) (h : IsSearched s.sessions s.entries orders nodes) where
   abbrev log : Log
@@ -184,16 +190,10 @@ module _ (s : StepsView) (orders : List ChainOrder) (nodes : List TreeNode) (h :
       let g = choice_of_edge p.choices d.0 d.1 e i in
       sided_order log (slice_index_or orders d.0 no_order) d.1 (h.sides.each d.0 no_order (omega (arith, slice_get_within p.choices d.0 g.choice g.at, orders_count log p.choices orders h.sides)))
 
-  -- the ledger of what pruning left
-  pub entries_shown : AreEntries s.sessions s.entries
-  entries_shown =
-      let made = h.left.unpruned.chained in
-      record { poly = h.left.poly; known = λ e. (made.known e).0; choices = made.choices; shown = subst (λ es. AreShown h.left.poly [] (posts_in es)) (sym h.entries_are) h.left.left.ledger.shown }
-
   known_rests : (e : Edge) → Contains p.known e → Rests s.sessions (kept_by s.sessions s.entries) [] e
-  unfolding entries_shown
+  unfolding ledger_shown
   known_rests e c =
-      let all = entries_shown in
+      let all = ledger_shown s.sessions h.reduced h.left in
       all_rest s.sessions all.poly (record { clean = h.clean; known = all.known; choices = all.choices }) [] (posts_in s.entries) e (subst (λ es. Contains (edges_after all.poly (pruned.kept_by es)) e) (sym h.entries_are) ((h.left.left.known e).0 c))
 
   cube_rests : (cube : Cube) → AllRest s.sessions (kept_by s.sessions s.entries) (map (order_at orders) cube) (edges_after p cube)

@@ -1,13 +1,16 @@
-use Rattle.std.proofs.Common.{◌≡◌, ◌++◌, ◌∙◌, ap, subst}
+use Rattle.std.proofs.Common.{◌≡◌, ◌++◌, ◌∙◌, ap, sym, subst}
 use Rattle.std.specs.List.{filter_map}
 use Rattle.prune_ledger.specs.declared.ledger.Ledger.{Ledger}
+use Rattle.tell_steps.specs.Ledgers.{AreEntries}
 use Rattle.tell_trees.specs.declared.visits.Visit.{Visit}
 use Rattle.tell_trees.specs.Trees.{leaves_items}
+use Rattle.tell_trees.proofs.Cubes.{ledger_shown}
 use Rattle.tell_trees.proofs.Tellings.{visits_ready, whole_told}
 use Rattle.tell_trees.proofs.telling.tell_tree.Goals as goal
 
 pub steps_of-requires-clause-ledger : goal.steps_of-requires-clause-ledger
-steps_of-requires-clause-ledger c = ?
+steps_of-requires-clause-ledger c = rw c.as_slice-entries.ensures.value (subst (λ (l : Ledger). AreEntries c.args.history.now l.entries.items) (sym c.ledger.ensures)
+    (ledger_shown c.args.history.now c.args.reduced.now c.requires.left))
 
 pub put_visits-requires-clause-searched : goal.put_visits-requires-clause-searched
 put_visits-requires-clause-searched c = rw (c.in_ok-steps.ensures.sessions, c.in_ok-steps.ensures.entries, c.deref-3.ensures.value, c.nodes-nodes.ensures.nodes) (record {
