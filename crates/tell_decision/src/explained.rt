@@ -58,7 +58,6 @@ pub fn explain_cycle(
 
 /// Reads that rule out every order, where there are such and they are sought; the forced steps that
 /// the cycle of a dead ledger needs, the cycle, and its name.
-#[tactic(auto, using(crate::proofs::Known::dead_ledger))]
 pub fn explain_dead(
     alloc: Global,
     log: &PlacedHistory<'_>,
