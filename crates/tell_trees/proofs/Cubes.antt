@@ -10,7 +10,7 @@ use Rattle.serializability.specs.Polygraph.{Choice, Edge, Polygraph}
 use Rattle.pruning_laws.specs.declared.side.Side.TheVariants.{One, Two}
 use Rattle.pruning_laws.specs.Forced.{open_from, edges_of}
 use Rattle.pruning_laws.specs.Ledger.{Entry, same_side, sides_in}
-use Rattle.prune_ledger.specs.Ledger.{kept_side, kept_after, side_of, edges_after, AreShown}
+use Rattle.prune_ledger.specs.Ledger.{kept_side, kept_after, side_of, edges_after}
 use Rattle.prune_ledger.specs.Pruned.{posts_in, Remainder}
 use Rattle.prune_ledger.specs.Pruned as pruned
 use Rattle.prune_ledger.specs.declared.ledger.LedgerEntry.{LedgerEntry}
