@@ -1,1 +1,2 @@
+pub mod Anomalies
 pub mod Told

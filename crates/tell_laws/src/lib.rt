@@ -1,4 +1,4 @@
-//! What the told lines rule out.
+//! What the told lines rule out, and what an anomaly's text speaks of.
 //!
 //! Cited by no crate: its contracts are for the reader of `docs/PROMISES.md`. It knows no code.
 #![tactic(auto)]
