@@ -1,5 +1,5 @@
 -- The text of an order of a level.
-use Rattle.std.proofs.Common.{◌≡◌, ℕ, List, sym, ap, ◌∙◌, subst}
+use Rattle.std.proofs.Common.{◌≡◌, ℕ, List, sym, ap, ◌∙◌, subst, true}
 use Rattle.std.specs.Prelude.{codes}
 use Rattle.std.specs.List.{flat_map}
 use Rattle.std.specs.Option.{option_map_or}
@@ -51,13 +51,14 @@ text_stays ss order =
     ∙ ap (λ (f : Point → List ℕ). flat_map f (points_along ss order)) (fun_ext (lines_stay ss))
 
 snapshot_order : (ss : List ClientSession) (order : List ℕ) → IsLog (resolved ss) → IsOrderAt level.Snapshot ss order → IsSnapshotOrder ss (points_along ss order)
+unfolding locks_of
 snapshot_order ss order log h =
     let room = room_resolved ss ∙ h.room in
     let fresh = (locks_are_fresh (resolved ss) log.legal log.sound room).0 in
     let serial = subst (λ l. IsSerialOrder l order) (sym (judged_resolved ss)) h.serial in
     let of_resolved = points_of_writers (resolved ss) (locks_of (resolved ss)) log.sound fresh order serial in
     from_nodes ss (points_along ss order)
-    (subst (λ nodes. Snapshots nodes (flat_map (points_at (points_from 1 nodes)) order)) (nodes_stay ss) (to_nodes (resolved ss) (points_along (resolved ss) order) of_resolved))
+    (subst (λ nodes. Snapshots true nodes (flat_map (points_at (points_from 1 nodes)) order)) (nodes_stay ss) (to_nodes (resolved ss) (points_along (resolved ss) order) of_resolved))
 
 pub points_order : (l : Level) (ss known : List ClientSession) (order text : List ℕ) → l ≡ level.Snapshot → IsLog known → known ≡ resolved ss → IsOrderAt l ss order → text ≡ points_text known (points_along known order) → IsOrderText l ss text
 points_order level.Serializable ss known order text at log same h e = absurd (other_level (sym at))

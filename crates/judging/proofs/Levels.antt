@@ -1,5 +1,5 @@
 -- What is judged at a level, and what it says of a log whose outcomes are known, and of the sessions that this comes from.
-use Rattle.std.proofs.Common.{◌≡◌, ℕ, ◌+◌, List, length, sym, ap, ◌∙◌, subst}
+use Rattle.std.proofs.Common.{◌≡◌, ℕ, ◌+◌, List, length, sym, ap, ◌∙◌, subst, true}
 use Rattle.std.specs.List.{AllByRecursion}
 use Rattle.session_log.specs.Text.{ClientSession, IsLegal}
 use Rattle.session_log.specs.declared.session.Op.{Op}
@@ -45,6 +45,7 @@ locks_resolved ss = ap by_ops (ops_resolved ss)
     by_ops ops = record {
       key = lock_key (most_leading ops + 1);
       identity = λ v. largest ops + 1 + place_of (written ops) v;
+      taken = true;
     }
 
 pub room_resolved : (ss : List ClientSession) → no_room (resolved ss) ≡ no_room ss

@@ -156,6 +156,7 @@ locks_are_fresh ss legal sound room = (
 )
 
 pub snapshot_by_split_log : SnapshotBySplitLog
+unfolding locks_of
 snapshot_by_split_log ss log room =
     let names = locks_are_fresh ss log.legal log.sound room in
     let same : resolved ss ≡ ss = learnt_resolved ss log.learnt in
@@ -164,13 +165,14 @@ snapshot_by_split_log ss log room =
 -- ---- where outcomes are unknown: the names are those of the operations alone
 same_locks : (a b : List ClientSession) → ops_in a ≡ ops_in b → locks_of a ≡ locks_of b
 unfolding locks_of
-same_locks a b e = ap (λ ops. record { key = lock_key (most_leading ops + 1); identity = λ v. largest ops + 1 + place_of (written ops) v }) e
+same_locks a b e = ap (λ ops. record { key = lock_key (most_leading ops + 1); identity = λ v. largest ops + 1 + place_of (written ops) v; taken = true }) e
 
 same_room : (a b : List ClientSession) → ops_in a ≡ ops_in b → no_room a ≡ no_room b
 unfolding no_room
 same_room a b e = ap (λ ops. refusal (most_leading ops + 1) (longest ops) (largest ops) (length (written ops))) e
 
 pub snapshot_by_resolved_split : SnapshotByResolvedSplit
+unfolding locks_of
 snapshot_by_resolved_split ss legal sound room =
     let same : ops_in (resolved ss) ≡ ops_in ss = ops_resolved ss in
     let names = locks_are_fresh ss legal sound (sym (same_room (resolved ss) ss same) ∙ room) in
