@@ -7,8 +7,8 @@ use Rattle.std.proofs.Math.Path.{fun_ext}
 use Rattle.session_log.specs.Text.{ClientSession}
 use Rattle.log_definitions.specs.Unknown.{resolved}
 use Rattle.log_definitions.specs.Serial.{Committed, node_in, node_of, IsSerialOrder}
-use Rattle.piece_laws.specs.Logs.{IsLog}
-use Rattle.piece_laws.proofs.Several.{nodes_stay}
+use Rattle.log_laws.specs.Logs.{IsLog}
+use Rattle.log_laws.proofs.Resolved.{nodes_stay}
 use Rattle.session_history.specs.Tables.{name_in}
 use Rattle.level_laws.specs.Snapshot.{Point, snapshot, commit, IsSnapshotOrder}
 use Rattle.level_laws.specs.Points.{points_from, points_at, points_along}

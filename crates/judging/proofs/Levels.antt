@@ -9,8 +9,8 @@ use Rattle.log_definitions.specs.WellFormed.{written}
 use Rattle.log_definitions.specs.Serial.{IsSerialOrder}
 use Rattle.log_definitions.proofs.Settled.{ops_resolved}
 use Rattle.log_definitions.proofs.OnlyTaken.{some_where_serial}
-use Rattle.piece_laws.specs.Logs.{IsSoundLog, IsLog}
-use Rattle.piece_laws.proofs.Several.{nodes_stay}
+use Rattle.log_laws.specs.Logs.{IsSoundLog, IsLog}
+use Rattle.log_laws.proofs.Resolved.{nodes_stay, resolved_is_log}
 use Rattle.part_laws.specs.Parts.{IsPart}
 use Rattle.level_laws.specs.Split.{Locks, split_writers}
 use Rattle.level_laws.proofs.Resolved.{of_same_nodes}
@@ -33,7 +33,7 @@ use Rattle.judging.specs.Limits.{IsOver}
 use Rattle.judging.specs.Levels.{judged_at, HasNoOrderAt, IsOrderAt, IsJudgedAt}
 use Rattle.judging.specs.Judges.{Finds, IsRefutedLog, IsUndecidedBy}
 use Rattle.judging.specs.Finds.{IsFound, of_serial}
-use Rattle.judging.proofs.Resolved.{twice, known, serial_of_resolved, resolved_is_log}
+use Rattle.judging.proofs.Resolved.{twice, known, serial_of_resolved}
 use Rattle.judging.proofs.Parts.{none_of_part}
 
 -- ---- names of locks are those of the operations alone

@@ -7,7 +7,7 @@ use Rattle.log_definitions.proofs.Members.{each_weaker}
 use Rattle.session_log.specs.Text.{ClientSession, IsLegal, view}
 use Rattle.serializability.specs.Log.{Log}
 use Rattle.log_definitions.specs.Unknown.{resolved}
-use Rattle.piece_laws.specs.Logs.{IsSoundLog, IsLog}
+use Rattle.log_laws.specs.Logs.{IsSoundLog, IsLog}
 use Rattle.part_laws.specs.Parts.{IsPart}
 use Rattle.prune_ledger.specs.Pruned.{Remainder}
 use Rattle.serializability.specs.Polygraph.{Polygraph}

@@ -4,7 +4,7 @@ use Rattle.std.specs.Prelude.{◌≡◌, ℕ, List, map, Some}
 use Rattle.session_log.specs.Text.{ClientSession, view}
 use Rattle.log_definitions.specs.Unknown.{resolved}
 use Rattle.log_definitions.specs.Serial.{IsSerialOrder}
-use Rattle.piece_laws.specs.Logs.{HasOrder}
+use Rattle.log_laws.specs.Logs.{HasOrder}
 use Rattle.level_laws.specs.Snapshot.{HasSnapshotOrder, HasSomeSnapshotOrder}
 use Rattle.level_laws.specs.Split.{split_writers}
 use Rattle.splitting.specs.Locks.{locks_of, HasRoom, no_room}

@@ -5,7 +5,7 @@ ghost use Rattle.std.specs.List.{AllByRecursion};
 ghost use Rattle.session_log.specs.Text.{ClientSession, IsLegal, view};
 ghost use Rattle.log_definitions.specs.Serial.{IsSerialOrder};
 ghost use Rattle.log_definitions.specs.Unknown.{resolved};
-ghost use Rattle.piece_laws.specs.Logs.{IsSoundLog, IsLog};
+ghost use Rattle.log_laws.specs.Logs.{IsSoundLog, IsLog};
 ghost use Rattle.log_parts.specs.Picked.{flags_view};
 ghost use Rattle.judging.specs.Levels.{IsJudgedAt, IsLogAt};
 ghost use Rattle.judging.specs.Judges.{IsRefutedLog, IsUndecidedBy, IsTried, IsVerdict};

@@ -3,7 +3,7 @@
 
 ghost use Rattle.std.specs.Prelude.{map, IfOk};
 ghost use Rattle.session_log.specs.Text.{view};
-ghost use Rattle.piece_laws.specs.Logs.{IsLog};
+ghost use Rattle.log_laws.specs.Logs.{IsLog};
 ghost use Rattle.judging.specs.Made.{IsToldPart};
 
 use crate::flags::{

@@ -16,10 +16,9 @@ use Rattle.log_definitions.specs.Unknown.{ops_in, txns_in, resolved}
 use Rattle.log_definitions.specs.WellFormed.{written}
 use Rattle.log_definitions.proofs.Members.{member}
 use Rattle.log_definitions.proofs.Settled.{learnt_resolved, ops_resolved}
-use Rattle.piece_laws.specs.Logs.{IsLog, HasOrder}
-use Rattle.piece_laws.proofs.Lists.{of_mapped, of_flat}
-use Rattle.piece_laws.proofs.Sessions.{le_true}
-use Rattle.piece_laws.proofs.Given.{test_le}
+use Rattle.log_laws.specs.Logs.{IsLog, HasOrder}
+use Rattle.log_laws.proofs.Lists.{of_mapped, of_flat, test_le}
+use Rattle.log_laws.proofs.Sessions.{le_true}
 use Rattle.level_laws.specs.Snapshot.{HasSnapshotOrder}
 use Rattle.level_laws.specs.Split.{Locks, HasKey, split_writers}
 use Rattle.level_laws.proofs.Legal.{split_is_log, resolved_split_is_log}

@@ -3,7 +3,7 @@ use Rattle.std.specs.Prelude.{◌↔◌, List}
 use Rattle.std.specs.List.{AllByRecursion}
 use Rattle.session_log.specs.Text.{ClientSession, IsLegal}
 use Rattle.log_definitions.specs.Unknown.{resolved}
-use Rattle.piece_laws.specs.Logs.{IsSoundLog, IsLog, HasOrder}
+use Rattle.log_laws.specs.Logs.{IsSoundLog, IsLog, HasOrder}
 use Rattle.level_laws.specs.Snapshot.{HasSnapshotOrder}
 use Rattle.level_laws.specs.Split.{AreFresh, AreLegalLocks, split_writers}
 use Rattle.splitting.specs.Locks.{locks_of, HasRoom}

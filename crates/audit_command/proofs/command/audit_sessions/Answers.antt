@@ -1,9 +1,9 @@
 use Rattle.std.proofs.Common.{◌≡◌, map, refl, sym, ap, ◌∙◌, subst}
 use Rattle.std.specs.List.{AllByRecursion}
 use Rattle.session_log.specs.Text.{IsLegal, view}
-use Rattle.piece_laws.specs.Logs.{IsSoundLog, IsLog}
+use Rattle.log_laws.specs.Logs.{IsSoundLog, IsLog}
 use Rattle.long_log_definitions.proofs.Texts.{sound_where_long}
-use Rattle.judging.proofs.Resolved.{resolved_is_log}
+use Rattle.log_laws.proofs.Resolved.{resolved_is_log}
 use Rattle.session_log.specs.Version.{first_line, version_of}
 use Rattle.audit_command.specs.Audited.{seen, states_moments, IsAnswer, IsWeaker, AreTotals, IsOrderFile, order_asked}
 use Rattle.audit_command.proofs.Resolved.{seen_legal, seen_sound}

@@ -1,7 +1,7 @@
 use Rattle.std.proofs.Common.{map, inl, inr, sym, ap, ◌∙◌, subst}
 use Rattle.std.proofs.lemmas.Bool.{cases_Bool}
 use Rattle.session_log.specs.Text.{view}
-use Rattle.piece_laws.specs.Logs.{IsLog}
+use Rattle.log_laws.specs.Logs.{IsLog}
 use Rattle.level_laws.specs.Without.{without_moments}
 use Rattle.level_laws.proofs.Without.{legal_without, sound_without, log_without, resolved_without}
 use Rattle.audit_command.specs.Audited.{asks_strict, asks_plain, at_snapshot, IsWordWhere}

@@ -2,7 +2,7 @@ use Rattle.std.proofs.Common.{List, map, sym, subst}
 use Rattle.std.proofs.lemmas.Result.{IfOk-weaker}
 use Rattle.session_log.specs.Text.{view}
 use Rattle.session_log.specs.declared.session.Session.{Session}
-use Rattle.piece_laws.specs.Logs.{IsLog}
+use Rattle.log_laws.specs.Logs.{IsLog}
 use Rattle.judging.specs.declared.level.Level.TheVariants.{Snapshot}
 use Rattle.judging.specs.Levels.{IsLogAt}
 use Rattle.judging.specs.Finds.{IsFound, of_serial}
