@@ -128,7 +128,7 @@ fn most_passed(nodes: &[Node]) -> usize {
 /// Whether the rows of so many nodes, for so many sessions, have few enough numbers.
 fn is_room(level: Level, nodes: usize, width: usize) -> bool {
     match level {
-        Level::ReadCommitted | Level::ReadAtomic => true,
+        Level::MonotonicAtomicView | Level::ReadAtomic => true,
         Level::Causal => width == 0 || nodes <= MOST_REACHES / width,
     }
 }
