@@ -28,8 +28,8 @@ import java.util.stream.Stream;
  * }                                                                    // writes run.log
  * }</pre>
  *
- * A harness that does something of which no true log can be written hears it by a Misuse. There are no barriers. Nothing of this is proved; it
- * needs Java's own classes alone, 8 or later.
+ * A harness that does something of which no true log can be written hears it by a Misuse. Nothing of this is proved; it needs Java's own
+ * classes alone, 8 or later.
  */
 public final class Recorder implements AutoCloseable {
     /** An identity is a count times CLIENTS plus its client's number: its last three digits are the client. Of N processes that write one log

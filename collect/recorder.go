@@ -10,8 +10,8 @@
 //	txn.Commit()                                         // behind the store's answer; or txn.Abort(), or txn.Unknown()
 //	warnings, err := run.Close()                         // writes run.log
 //
-// A harness that does something of which no true log can be written hears it by a panic with a Misuse. There are no barriers. Nothing of this is
-// proved; it needs Go's standard library alone, 1.18 or later.
+// A harness that does something of which no true log can be written hears it by a panic with a Misuse. Nothing of this is proved; it needs Go's
+// standard library alone, 1.18 or later.
 package recorder
 
 import (

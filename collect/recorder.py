@@ -9,8 +9,8 @@
             store.put('stock/7', '%d red' % wid)
     run.close()                                                   # writes run.log, and warns of what makes it worth little
 
-It gives out sessions, identities and, where that is asked for, moments. It sets barriers only where it is told to: these are for a log that
-is to be cut into pieces. Nothing of it is proved; it needs Python's standard library alone, 3.8 or later."""
+It gives out sessions, identities and, where that is asked for, moments. Nothing of it is proved; it needs Python's standard library alone,
+3.8 or later."""
 import atexit, collections, hashlib, itertools, operator, os, re, shutil, sys, tempfile, threading, time
 
 # An identity is a count times CLIENTS plus its client's number: its last three digits are the client. Of N processes that write one log the
@@ -18,11 +18,7 @@ import atexit, collections, hashlib, itertools, operator, os, re, shutil, sys, t
 CLIENTS, MAX_SESSION, MAX_IDENTITY = 1000, 65535, 2 ** 64 - 1
 # So many lines of a client may stand in memory before they go to its file.
 BUFFER = 4096
-# The most that a piece of the log holds, which lies between two barriers.
-PIECE = {'transactions': 1000, 'sessions': 64}
 PLAIN_KEY = re.compile(rb'(?!hex:|sha:)[A-Za-z0-9_.:/-]{1,64}\Z')
-# So often the keys of unknown transactions are read before a barrier.
-LOOKS = 3
 
 
 class Misuse(RuntimeError):
@@ -107,50 +103,34 @@ class Recorder:
     """The log of one run, which `close` writes to `path`. It may be used by any number of threads.
 
     overwrite      whether a file that stands there may be replaced: else a recorder for it is refused
-    share          (K, N) for the K-th of N processes that write one log, each to a path of its own; join.py joins them. It goes with
-                   no barriers, which are those of one process
-    moments        'all': when each transaction began and was committed, for a store that promises strict serializability; None: no moments;
-                   'barriers': no more than that what ended before a barrier came before what began behind it
-    barrier_every  for a log that is to be cut into pieces: after so many transactions of all clients together no client begins one before
-                   none is open. A barrier is told by moments, so 'barriers' stands for moments=None then. None: no barriers, but those that
-                   `barrier` asks for
+    share          (K, N) for the K-th of N processes that write one log, each to a path of its own; join.py joins them
+    moments        'all': when each transaction began and was committed, for a store that promises strict serializability; None: no moments
     aborted        exceptions that say that a transaction was rolled back; where one leaves a transaction's block, it goes no further
     unknown        the same of those behind which nobody knows whether it was committed
-    patience       seconds that clients wait at a barrier for the others, before they go on without it
     clock          whole numbers that never fall, one clock for all clients; microseconds since now where it is not given, and of a share
                    `clock_of_day`. Where this may be set during a run, processes of one machine take `clock_of_machine`"""
 
-    def __init__(self, path, barrier_every=None, moments=None, aborted=(), unknown=(), patience=10, clock=None, overwrite=False,
-                 share=None):
-        if moments not in ('all', 'barriers', None):
-            raise Misuse("moments are 'all', 'barriers' or None, and not %r" % (moments,))
-        if barrier_every is not None and not (isinstance(barrier_every, int) and barrier_every >= 1):
-            raise Misuse('barrier_every is a whole number from 1, or None, and not %r' % (barrier_every,))
-        if moments is None and barrier_every is not None and share is None:
-            moments = 'barriers'
-        if share is not None and (barrier_every is not None or moments == 'barriers'):
-            raise Misuse("barriers are those of one process: with share=(K, N) go barrier_every=None, and moments='all' or None")
+    def __init__(self, path, moments=None, aborted=(), unknown=(), clock=None, overwrite=False, share=None):
+        if moments not in ('all', None):
+            raise Misuse("moments are 'all' or None, and not %r" % (moments,))
         if share is not None and not (isinstance(share, tuple) and len(share) == 2 and all(isinstance(it, int) for it in share)
                                       and 1 <= share[0] <= share[1] <= MAX_SESSION):
             raise Misuse('a share is a pair of whole numbers, (K, N) for the K-th of N processes, and not %r' % (share,))
         began = time.monotonic_ns()
         self.path, self._may_replace = os.path.abspath(os.fspath(path)), overwrite
         self._check_free_path()
-        self.barriers = []
         alone = lambda: (time.monotonic_ns() - began) // 1000
         self._clock, self._last = clock or (clock_of_day if share else alone), 0
         self._is_shared, self._share = share is not None, share or (1, 1)
         if not isinstance(self._clock(), int) or self._clock() < 0:
             raise Misuse('a clock gives whole numbers from 0, as time.monotonic_ns does, and not %r' % (self._clock(),))
-        self._barrier_every, self._moments, self._patience = barrier_every, moments, patience
+        self._moments = moments
         self._named = self._outcomes(abort=aborted, unknown=unknown)
         # All that follows is read and changed with this lock held.
-        self._turn = threading.Condition()
+        self._turn = threading.Lock()
         self._numbers, self._parts, self._idle = itertools.count(*self._share), [], []
-        self._open, self._due, self._setter, self._ended, self._unseen = {}, False, None, 0, {}
+        self._open = {}
         self._counts, self._strange, self._left_open, self._warnings = collections.Counter(), None, [], None
-        # what a piece of the log has so far, and the most that one had
-        self._piece, self._most = {'transactions': 0, 'sessions': set()}, dict.fromkeys(PIECE, 0)
         self._closed, self._process = False, os.getpid()
         self._folder = tempfile.mkdtemp(prefix=os.path.basename(self.path) + '.', dir=os.path.dirname(self.path))
         atexit.register(self._at_exit)
@@ -170,9 +150,8 @@ class Recorder:
         """What an exception of this class says of its transaction; of several classes that are named, the closest decides."""
         return next((self._named[it] for it in kind.__mro__ if it in self._named), None)
 
-    def session(self, look=None):
-        """One client. `look(keys)` reads these keys in a transaction of this session that commits; it is called before a barrier, in the
-        client's thread, with what transactions wrote of which nobody knows whether they were committed."""
+    def session(self):
+        """One client."""
         with self._turn:
             self._check_open()
             if not self._idle:
@@ -180,15 +159,7 @@ class Recorder:
                     raise Misuse('more than %d sessions at once: leave a session when its client ends' % len(self._parts))
                 self._parts.append(_Part(len(self._parts) + 1, self._folder, self._share))
                 self._idle.append(self._parts[-1])
-            return Session(self, self._idle.pop(), look)
-
-    def barrier(self):
-        """Asks for a barrier: no client begins a transaction before none is open."""
-        if self._moments is None or self._is_shared:
-            raise Misuse('a barrier is told by moments, and this recorder states none, or is one of several')
-        with self._turn:
-            self._check_open()
-            self._due = True
+            return Session(self, self._idle.pop())
 
     def close(self):
         """Writes the log, and gives a list of what makes it worth little, which is also told on standard error. A transaction that is
@@ -199,7 +170,6 @@ class Recorder:
                 self._left_open += [it.name for it in self._open]
                 for txn in list(self._open):
                     self._end(txn, 'unknown')
-                self._turn.notify_all()
                 self._join()
                 self._warnings = list(self._worth_little())
                 for text in self._warnings:
@@ -267,16 +237,6 @@ class Recorder:
                    % self._strange)
         if self._left_open:
             yield 'transactions were open when their thread or the run ended, and are unknown: ' + ', '.join(self._left_open[:10])
-        if counts['called off']:
-            yield '%d barriers were called off after %g seconds: let no client wait for another one in a transaction' % (
-                counts['called off'], self._patience)
-        if counts['blind']:
-            yield '%d barriers stand behind unknown outcomes that were not looked for: give each session a look' % counts['blind']
-        self._end_piece()
-        for name, most in PIECE.items():
-            if self._most[name] > most and self._moments == 'barriers':
-                yield '%d %s %s, and a piece has no more than %d: let there be more barriers' % (
-                    self._most[name], name, 'between two barriers' if self.barriers else 'without a barrier', most)
 
     # What follows is called with the lock held.
 
@@ -293,29 +253,19 @@ class Recorder:
     def _begin(self, txn):
         session = txn.session
         session._check_free()
-        if (self._due or self._barrier_every is not None) and threading.current_thread() in self._open.values():
-            raise Misuse('one thread has transactions of two sessions open, and would wait for itself at a barrier: give each client a '
-                         'thread of its own, or take barrier_every=None')
-        self._pass_barrier(session)
         if session.number is None:
             number = next(self._numbers)
             if number > MAX_SESSION:
                 raise Misuse('a log has at most %d sessions, those of all processes together' % MAX_SESSION)
-            session.number, session._place, session._since = number, 0, 0
+            session.number, session._place = number, 0
             self._counts['sessions'] += 1
             txn._lines.append('session %d\n' % session.number)
         session._place += 1
         txn.name = '%d.%d' % (session.number, session._place)
-        if self._moments == 'all':
-            txn._lines.append('begin %d\n' % self._moment())
-        elif session._since < len(self.barriers):
-            # nothing is committed yet in this session behind the last barrier
-            txn._lines.append('begin %d\n' % self.barriers[-1])
-        else:
-            txn._lines.append('begin\n')
+        txn._lines.append('begin %d\n' % self._moment() if self._moments else 'begin\n')
         session._txn = txn
         self._counts['overlaps'] += bool(self._open)
-        self._open[txn] = threading.current_thread()
+        self._open[txn] = True
 
     def _end(self, txn, outcome):
         session, part = txn.session, txn.session._part
@@ -324,77 +274,21 @@ class Recorder:
         part.lines += txn._lines
         part.lines.append('commit %d\n' % self._moment(is_end=True) if outcome == 'commit' and self._moments else outcome + '\n')
         self._counts[outcome] += 1
-        self._piece['transactions'] += outcome != 'abort'
-        self._piece['sessions'].add(session.number)
         if outcome == 'commit':
-            session._since = len(self.barriers)
             self._counts['reads'] += len(txn._reads)
             self._counts['reads of others'] += sum(not session._is_own(wid) for wid in txn._reads.values())
-            if self._setter is session:
-                self._unseen = {name: key for name, key in self._unseen.items() if name not in txn._looked}
         elif outcome == 'unknown':
             session.number = None
-            self._unseen.update(txn._written.values())
-        self._ended += 1
-        if self._barrier_every is not None and self._ended >= self._barrier_every:
-            self._due = True
-        self._turn.notify_all()
         if len(part.lines) > BUFFER:
             part.flush()
-
-    def _end_piece(self):
-        for name, had in (('transactions', self._piece['transactions']), ('sessions', len(self._piece['sessions']))):
-            self._most[name] = max(self._most[name], had)
-        self._piece = {'transactions': 0, 'sessions': set()}
-
-    def _pass_barrier(self, session):
-        """While a barrier is due, holds a client back until no transaction is open; the first that finds it so sets the barrier."""
-        late = time.monotonic() + self._patience
-        while self._due and self._setter is not session:
-            if not self._open and self._setter is None:
-                self._set_barrier(session)
-            elif time.monotonic() > late:
-                self._due, self._ended = False, 0
-                self._counts['called off'] += 1
-                self._turn.notify_all()
-            else:
-                for txn in [it for it, thread in self._open.items() if not thread.is_alive()]:
-                    self._left_open.append(txn.name)
-                    self._end(txn, 'unknown')
-                self._turn.wait(0.05)
-            session._check_free()
-
-    def _set_barrier(self, session):
-        self._setter = session
-        try:
-            for _ in range(LOOKS):
-                if self._unseen and session._look:
-                    self._without_lock(session._look, list(self._unseen.values()))
-        finally:
-            self._setter = None
-            # a client that lost its patience meanwhile may be in a transaction
-            if not self._open:
-                self.barriers.append(self._moment())
-                self._end_piece()
-                self._counts['blind'] += bool(self._unseen)
-                self._unseen.clear()
-            self._due, self._ended = False, 0
-            self._turn.notify_all()
-
-    def _without_lock(self, call, *arguments):
-        self._turn.release()
-        try:
-            call(*arguments)
-        finally:
-            self._turn.acquire()
 
 
 class Session:
     """One client, which does one thing after the other. Its number in the log is None until it begins a transaction, and behind one of an
     unknown outcome, where it goes on under a new one."""
 
-    def __init__(self, run, part, look):
-        self.number, self._run, self._part, self._look, self._txn, self._place, self._since = None, run, part, look, None, 0, 0
+    def __init__(self, run, part):
+        self.number, self._run, self._part, self._txn, self._place = None, run, part, None, 0
         # another client may have had this part before
         self._first_write = part.writes + 1
 
@@ -439,7 +333,7 @@ class Transaction:
 
     def __init__(self, session, commit):
         self.session, self.name, self.outcome, self._commit = session, None, None, commit
-        self._lines, self._written, self._reads, self._looked = [], {}, {}, set()
+        self._lines, self._written, self._reads = [], {}, {}
         self._run = session._run
         with self._run._turn:
             self._run._begin(self)
@@ -451,7 +345,6 @@ class Transaction:
         self._check_open()
         place = len(self._lines) if before is None else self._lines.index(self._line_of(before))
         self._lines.insert(place, 'r %s %d\n' % (name, wid))
-        self._looked.add(name)
         if wid:
             self._reads[name] = wid
             parts, client = self._run._parts, wid % CLIENTS
@@ -464,7 +357,7 @@ class Transaction:
         name = name_of(key)
         self._check_open()
         wid = self.session._part.identity()
-        self._written[wid] = name, key
+        self._written[wid] = name
         self._lines.append('w %s %d\n' % (name, wid))
         return wid
 
@@ -522,7 +415,7 @@ class Transaction:
     def _line_of(self, wid):
         if wid not in self._written:
             raise Misuse('%s did not write with identity %r' % (self.name, wid))
-        return 'w %s %d\n' % (self._written[wid][0], wid)
+        return 'w %s %d\n' % (self._written[wid], wid)
 
     def _check_open(self):
         if self.outcome is not None:

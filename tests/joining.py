@@ -45,7 +45,7 @@ def process(store, path, share, seed, together, words):
             for _ in range(TRANSACTIONS):
                 transaction(store, session, dice)
 
-    with Recorder(path, barrier_every=None, share=share, overwrite=True, **words) as run:
+    with Recorder(path, share=share, overwrite=True, **words) as run:
         together.wait()
         threads = [threading.Thread(target=client, args=(number,)) for number in range(THREADS)]
         for thread in threads:
@@ -133,7 +133,7 @@ def runs(checks):
 def shares(checks):
     """Processes have no session and no identity in common, and one alone has those that it always had."""
     def numbers(name, share):
-        run = Recorder(checks.path(name), barrier_every=None, moments=None, share=share)
+        run = Recorder(checks.path(name), share=share)
         sessions = [run.session() for _ in range(3)]
         found = set()
         for _ in range(3):

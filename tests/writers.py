@@ -44,7 +44,7 @@ class InPython:
         key = lambda place: bytes.fromhex(words[place].strip('-'))
         if kind == 'open':
             moments, share = (None if words[1] == 'none' else 'all'), (int(words[2]), int(words[3]))
-            self.run = Recorder(words[0], None, moments, clock=lambda: self.now, overwrite=words[4] == 'yes', share=share if share[1] else None)
+            self.run = Recorder(words[0], moments, clock=lambda: self.now, overwrite=words[4] == 'yes', share=share if share[1] else None)
         elif kind == 'clock':
             self.now = int(words[0])
         elif kind == 'name':
