@@ -83,16 +83,18 @@ def transactions_of(lines, wanted=None):
     return found
 
 
-def audited(program, path):
-    """What `audit --explain` of a refuted log says as JSON. Stop where it is none, with the program's status where it refuses or does not
-    know."""
-    words = [program or RUN, 'audit', '--explain', '--format', 'json', '--workers', '1', os.path.join('.', path)]
-    ran = subprocess.run(words, stdin=subprocess.DEVNULL, stdout=subprocess.PIPE, stderr=subprocess.PIPE)
+def audited(program, path, level=None):
+    """What `audit --explain` of a refuted log says as JSON, with a level where one is asked for. Stop where it is none, with the program's status
+    where it refuses or does not know."""
+    refuted, held = ('not kept', 'kept') if level else ('not serializable', 'serializable')
+    words = [program or RUN, 'audit', '--explain', '--format', 'json', '--workers', '1', *(['--only', '--level', level] if level else [])]
+    ran = subprocess.run([*words, os.path.join('.', path)], stdin=subprocess.DEVNULL, stdout=subprocess.PIPE, stderr=subprocess.PIPE)
     report = json.loads(ran.stdout) if ran.stdout.startswith(b'{') else {}
-    if (ran.returncode, report.get('verdict')) == (NOT_SERIALIZABLE, 'not serializable'):
+    if (ran.returncode, report.get('verdict')) == (NOT_SERIALIZABLE, refuted):
         return report
-    if (ran.returncode, report.get('verdict')) == (SERIALIZABLE, 'serializable'):
-        raise Stop('this log is serializable: it has an order, which audit --order writes, and so there is no fault to tell')
+    if (ran.returncode, report.get('verdict')) == (SERIALIZABLE, held):
+        what = '%s is kept' % report['level'] if level else 'this log is serializable'
+        raise Stop('%s: it has an order, which audit --order writes, and so there is no fault to tell' % what)
     said = report.get('reason') or ran.stderr.decode(errors='replace').strip()
-    raise Stop("audit does not say 'not serializable', but ends with %d: %s" % (ran.returncode, said),
+    raise Stop("audit does not say '%s', but ends with %d: %s" % (refuted, ran.returncode, said),
                ran.returncode if ran.returncode in (REFUSED, UNKNOWN, OUT_OF_MEMORY, DEVICE_FAILED) else AROUND)
