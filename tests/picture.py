@@ -7,7 +7,7 @@ is told must be an arrow between its two boxes, bold, with the told line as its 
 transaction that is told must be a box with those of its operations that are told. Nothing may stand in the browser's console. In the
 browser itself are measured: that words stay in their boxes, that boxes do not meet, and that words on arrows cover no box; and tried: what is marked
 where the mouse is, what is folded, and the switch for what arrows rest on. So are the pages of `--level`: at levels of snapshots each arrow
-begins and ends at the snapshot or the commit that is told. Then come logs and names that are hostile, units of moments,
+begins and ends at the snapshot or the commit that is told. Then come labels, logs and names that are hostile, units of moments,
 and what must end with a status. Chromium is Debian's, and is installed where it is not there; where it cannot be had, a line says so and pages are read without it.
 Last line: 'picture: N passed, M failed'."""
 import collections, html, html.parser, json, os, re, shutil, subprocess, sys, tempfile
@@ -21,7 +21,9 @@ from certificates import HEADING, WHY_NOT, Part
 sys.path.insert(0, os.path.join(TOP, 'tools'))
 import picture
 
-PICTURE = os.path.join(TOP, 'tools', 'picture.py')
+PICTURE, TOLD = (os.path.join(TOP, 'tools', name) for name in ('picture.py', 'told.py'))
+# A lost update of a key that looks like the name of a transaction.
+LABELLED = 'session 1\nbegin\nr 1.1 0\nw 1.1 5\ncommit\nsession 2\nbegin\nr 1.1 0\nw 1.1 6\ncommit\n'
 LONG = 3000
 BROWSERS, AROUND = ('chromium-headless-shell', 'chromium'), 70
 # Another test installs what it needs meanwhile, and of two that read the lists of packages at once one would fail.
@@ -381,6 +383,33 @@ class Checks:
         for moments, words in ((0, '0 µs'), (999, '999 µs'), (1500, '1.5 ms'), (1234567, '1.23457 s')):
             self.expect(history.time(moments) == words, '%d: %s' % (moments, history.time(moments)))
 
+    def labels(self):
+        """Labels stand behind the names that they are of, and behind nothing that looks like one."""
+        path, page, words = self.put('labelled.log', LABELLED), os.path.join(self.folder, 'labelled.html'), ['--program', self.program]
+        plain = self.call(path, '-o', page, *words)
+        self.expect(plain[0] == 0 and 'transfer' not in content(page), 'without labels: %r' % (plain,))
+        self.put('labelled.log.labels', '1 1 transfer, <b>thread</b> 4\n2 1 audit of 1.1\n9 9 nothing\n')
+        for more, told in (([], '2.1 (audit of 1.1) reads 1.1 0 (line'), (['--level', 'snapshot'], "2.1 (audit of 1.1)'s snapshot before 1.1 (transfer")):
+            self.expect(self.call(path, '-o', page, *words, *more)[0] == 0, 'labelled %r' % more)
+            text = content(page)
+            self.expect('1.1 (transfer, &lt;b&gt;thread&lt;/b&gt; 4)</text>' in text and '2.1 (audit of 1.1)</text>' in text and '<b>thread' not in text, 'labels in boxes')
+            said = html.unescape(re.sub('<[^>]*>', '', text))
+            self.expect(told in said and 'reads 1.1 (' not in said, 'labels in lines: %r' % said[-2000:])
+        for at in (['audit', '--explain'], ['audit', '--explain', '--level', 'snapshot'], ['explain']):
+            said = subprocess.run([self.program, *at, path], stdout=subprocess.PIPE).stdout.decode()
+            ran = subprocess.run([sys.executable, TOLD, path], input=said.encode(), stdout=subprocess.PIPE, stderr=subprocess.PIPE)
+            got = ran.stdout.decode()
+            self.expect(ran.returncode == 0 and re.sub(r' \((transfer, <b>thread</b> 4|audit of 1\.1)\)', '', got) == said, 'told %r: %r' % (at, got))
+            named, keys = re.compile('1[.]1 .transfer'), re.compile(r"(?:reads|wrote|writes|write|version of|update of|see 2[.]1's|\]) 1[.]1 \(tr")
+            self.expect(all(named.search(line) for line in got.split('\n') if re.search('which 1[.]1|1[.]1 and|1[.]1 before|by 1[.]1', line)) and not keys.search(got), 'told %r: %r' % (at, got))
+        for text, said in (('1 1\n', 'labels:1: not a label'), ('1 1 x\n1 1 y\n', 'labels:2: a second label of 1.1'), ('1 1 x\x1b[1m\n', 'labels:1: '), ('0 1 x\n', 'labels:1: ')):
+            self.put('labelled.log.labels', text)
+            answer = self.call(path, '-o', os.path.join(self.folder, 'none.html'), *words)
+            self.expect(answer[0] == AROUND and said in answer[2], 'labels %r: %r' % (text, answer))
+        os.remove(path + '.labels')
+        ran = subprocess.run([sys.executable, TOLD, path], stdin=subprocess.DEVNULL, stdout=subprocess.PIPE, stderr=subprocess.PIPE)
+        self.expect(ran.returncode == AROUND and b'No such file' in ran.stderr, 'no labels: %r' % ran)
+
     def statuses(self):
         log = dict(generate.examples((1, 2, 3)))
         page, whole = os.path.join(self.folder, 'none.html'), lambda name: os.path.join(generate.EXAMPLES, name)
@@ -417,6 +446,11 @@ class Checks:
         pages = [os.path.join(self.folder, name) for name in ('one.html', 'two.html')]
         self.expect(all(self.call(whole('long_fork.log'), '-o', page, '--program', self.program)[0] == 0 for page in pages), 'no page')
         self.expect(open(pages[0], 'rb').read() == open(pages[1], 'rb').read(), 'two pages of one log differ')
+
+
+def content(path):
+    with open(path, encoding='utf-8') as file:
+        return file.read()
 
 
 def hostile():
@@ -489,6 +523,7 @@ def main():
             checks.look(command, of_levels[at:at + 100])
         checks.lanes()
         checks.units()
+        checks.labels()
         checks.statuses()
     print('picture: %d passed, %d failed' % (checks.passed, checks.failed))
     sys.exit(1 if checks.failed else 0)

@@ -61,6 +61,8 @@ READING = ('Each column is a session, and time runs downwards, %s. <code>r KEY I
            'wrote it, as in the log. What is told is bold; pale boxes are neighbours in the session. Point at an operation to see its key '
            '(underlined) and its identity (filled) wherever they stand; click to keep that.')
 BY_MOMENTS = 'by the moments that the log states, and else by the place in the session'
+# So many letters of a label stand in a box.
+MOST_LABEL = 40
 # How many nanoseconds a unit of moments has.
 UNITS = {'ns': 1, 'us': 10 ** 3, 'ms': 10 ** 6, 's': 10 ** 9}
 BY_PLACE = 'by the place in the session; a reader stands below what it read'
@@ -73,10 +75,10 @@ def short(key, most=22):
 
 class History:
     """Transactions of a log, with what pictures ask of them. `unit` is that of the moments, where it is known. `has_points` says that boxes are
-    bars from snapshots to commits."""
+    bars from snapshots to commits; `labels` are those of the transactions that have one."""
 
-    def __init__(self, transactions, unit=None, has_points=False):
-        self.all, self.unit, self.has_points = transactions, unit, has_points
+    def __init__(self, transactions, unit=None, has_points=False, labels=()):
+        self.all, self.unit, self.has_points, self.labels = transactions, unit, has_points, dict(labels)
         self.named = {it.name: it for it in self.all}
         self.first_moment = min((moment for it in self.all for moment in it.moments() if moment is not None), default=None)
         self.at, self.wrote, self.owner = {}, {}, {}
@@ -207,7 +209,9 @@ class Scene:
         outcome = {'commit': 'committed', 'abort': 'aborted', 'unknown': 'outcome unknown'}[last[0]]
         label = 'transaction %s, %s: %s' % (name, outcome, ', '.join(row.note.split('\n')[0] for row in rows) or 'no operations')
         badge = '' if last[0] == 'commit' else outcome
-        return Box(name, it.session, it.place, name, label, rows, badge, look, self.supports.get(name, False), *it.moments())
+        known = self.history.labels.get(name)
+        heading, label = ('%s (%s)' % (name, short(known, MOST_LABEL)), '%s; %s' % (label, known)) if known else (name, label)
+        return Box(name, it.session, it.place, heading, label, rows, badge, look, self.supports.get(name, False), *it.moments())
 
     def neighbours(self):
         """The transactions just before and behind those that bold arrows are about, in their sessions."""
@@ -427,7 +431,7 @@ class Page:
         def of_log(found):
             kind, key, wid = self.history.at.get(int(found[1]), (None, None, None))
             return element('span', found[0], class_='at', data_line=found[1], data_key=key, data_wid=wid)
-        inner = told.LINE.sub(of_log, escape(said))
+        inner = told.LINE.sub(of_log, escape(told.labelled(said, self.history.labels)))
         inner = re.sub(r'(, which by )\[([0-9]+)\]', r'\1<a href="#step-\2">[\2]</a>', inner)
         number_of = '<b class="ordinal">%d</b> ' % ordinal if ordinal else ''
         return element(tag, number_of + inner, class_='told-line', data_edge=number)
@@ -547,7 +551,7 @@ class Page:
         facts = '%s: %d transaction%s, of which the explanation names %d' % (self.name, self.count, '' if self.count == 1 else 's', named)
         head = element('p', escape(facts), class_='facts') + element('h1', escape(it.verdict)) + element('p', MEANINGS[it.code], class_='meaning')
         if it.short:
-            head += element('p', escape('In short: ' + it.short), class_='meaning')
+            head += element('p', escape(told.labelled('In short: ' + it.short, self.history.labels)), class_='meaning')
         if it.known_as:
             head += element('p', escape('Known as: ' + it.known_as))
         if it.is_serial_apart:
@@ -590,7 +594,7 @@ PAGE = '''<!DOCTYPE html>
 '''
 
 
-def page_of(log, said, name, unit=None):
+def page_of(log, said, name, unit=None, labels=()):
     """The page of a log, by its lines and what `explain` says of it."""
     explanation = told.read(said)
     if explanation.verdict == 'not serializable' or explanation.verdict.startswith('{'):
@@ -598,10 +602,10 @@ def page_of(log, said, name, unit=None):
     if explanation.code is None:
         raise scripts.Stop("this explanation does not say 'not serializable': %s" % (explanation.verdict or 'it is empty'))
     transactions = scripts.transactions_of(log)
-    return Page(History(transactions, unit), explanation, name, len(transactions))
+    return Page(History(transactions, unit, labels=labels), explanation, name, len(transactions))
 
 
-def page_of_part(log, report, name, unit=None):
+def page_of_part(log, report, name, unit=None, labels=()):
     """The page of the part of a log, given by its lines, that `audit` tells first, with the neighbours in its sessions."""
     part = [it['transaction'].split('.') for it in report['part']]
     if not report['explanation']:
@@ -609,7 +613,7 @@ def page_of_part(log, report, name, unit=None):
     explanation = told.of_part(report)
     near = (-1, 0, 1) if explanation.code != told.PART else (0,)
     shown = {'%s.%d' % (session, int(place) + by) for session, place in part for by in near}
-    history = History(scripts.transactions_of(log, shown), unit, explanation.code in (told.CIRCLE, told.TWO_WRITERS))
+    history = History(scripts.transactions_of(log, shown), unit, explanation.code in (told.CIRCLE, told.TWO_WRITERS), labels)
     return Page(history, explanation, name, sum(report[outcome] for outcome in ('committed', 'aborted', 'unknown')))
 
 
@@ -624,13 +628,14 @@ def main():
     given = words.parse_args()
     if given.level and given.explained:
         words.error('--explained is what explain says without a level')
+    name, labels = os.path.basename(given.log), scripts.labels_of(given.log)
     with open(given.log, encoding='ascii', newline='\n') as log:
         try:
             if given.explained:
                 with open(given.explained, encoding='ascii') as said:
-                    page = page_of(log, said.read(), os.path.basename(given.log), given.unit)
+                    page = page_of(log, said.read(), name, given.unit, labels)
             else:
-                page = page_of_part(log, scripts.audited(given.program, given.log, given.level), os.path.basename(given.log), given.unit)
+                page = page_of_part(log, scripts.audited(given.program, given.log, given.level), name, given.unit, labels)
         except told.Unread as fault:
             raise scripts.Stop(str(fault))
     path, html = given.page or os.path.splitext(given.log)[0] + '.html', page.html()

@@ -1,5 +1,5 @@
 """What scripts around the program share: a log by its lines, a call of the program, and how a script ends."""
-import json, os, subprocess, sys, traceback
+import json, os, re, subprocess, sys, traceback
 
 TOP = os.path.dirname(os.path.dirname(os.path.realpath(__file__)))
 RUN = os.path.join(TOP, 'run')
@@ -10,6 +10,7 @@ if not os.path.exists(RUN):
 AROUND = 70
 SERIALIZABLE, NOT_SERIALIZABLE, REFUSED, UNKNOWN, OUT_OF_MEMORY, DEVICE_FAILED = range(6)
 HEADERS = ('log 2', 'log 3')
+LABEL = re.compile('([1-9][0-9]*) ([1-9][0-9]*) (.*[^ ].*)')
 
 
 class Stop(Exception):
@@ -80,6 +81,22 @@ def transactions_of(lines, wanted=None):
             if wanted is None or it.name in wanted:
                 found.append(it)
         it.lines.append((number, line))
+    return found
+
+
+def labels_of(path, is_needed=False):
+    """The labels that stand beside a log, by the names of its transactions; none where there is no such file, unless it is needed."""
+    path, found = path + '.labels', {}
+    if not is_needed and not os.path.exists(path):
+        return found
+    with open(path, encoding='utf-8', newline='\n') as lines:
+        for number, line in enumerate(lines, 1):
+            line = line.rstrip('\n')
+            form = LABEL.fullmatch(line)
+            if not form or not form[3].isprintable():
+                raise Stop('%s:%d: not a label, SESSION PLACE TEXT: %s' % (path, number, ascii(line[:80])))
+            if found.setdefault('%s.%s' % form.group(1, 2), form[3]) != form[3]:
+                raise Stop('%s:%d: a second label of %s.%s' % (path, number, *form.group(1, 2)))
     return found
 
 

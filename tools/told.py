@@ -1,7 +1,10 @@
-"""What `explain` says as text, and what `audit --explain` says of a part, read by their grammar (docs/FORMATS.md, 'What `explain` says' and
-'Snapshots and commits').
-Nothing is judged here: a reader of a text gets its parts, each with the number of its line in that text, counted from 1."""
-import re
+#!/usr/bin/env python3
+"""told.py LOG < SAID: what `explain` or `audit --explain` said of a log, from standard input, with the labels of LOG.labels behind the names of
+transactions, as `3.1268 (transfer, thread 4)`; each once in a line.
+
+As a module it reads what they say by its grammar (docs/FORMATS.md, 'What `explain` says' and 'Snapshots and commits'). Nothing is judged here: a
+reader of a text gets its parts, each with the number of its line in that text, counted from 1."""
+import argparse, re, sys
 from dataclasses import dataclass, field
 from typing import List, Optional, Tuple
 
@@ -37,6 +40,9 @@ KEPT = r'%s (?:reads|wrote) %s ([0-9]+) \(line %s\)(?:%s|%s|%s)?, which %%s befo
 WALK = 2
 # Where a line of an anomaly names a transaction.
 TELLS = re.compile('(?:^|, which |; )%s (?=reads |then reads |wrote |writes |overwrites )' % NODE)
+# What is no name though it may look like one: a key behind what it stands behind; and a name.
+NO_NAME = r"(?:\b(?:reads|writes|wrote|wrote to|write|[rw]|version of|update of)|'s) {key}|\band {key}(?= [0-9]+ \(line)|(?:\[[0-9]+\]|\bsuppose) {key}(?=: [0-9]+, which)"
+NAMES = re.compile(r'%s|(?<![\w.:/-])%s(?![\w/-]|[.:]\w)' % (NO_NAME.format(key=KEY[1:-1]), NODE))
 # The kinds of what is said of an edge, by its form; the first that fits.
 KINDS = [('session', re.compile('session %s' % NUMBER)), ('first committer', re.compile(r'by \[([0-9]+)\]')),
          ('forced', re.compile(KEPT % r'by \[([0-9]+)\] comes')),
@@ -414,3 +420,27 @@ def read_level(verdict, lines):
         except Unread:
             pass
     return None
+
+
+def labelled(line, labels):
+    """A told line, in which each transaction that has a label has it behind its name, once."""
+    left = dict(labels)
+
+    def of_name(found):
+        label = left.pop(found[1], None)
+        return found[0] if label is None else '%s (%s)' % (found[0], label)
+    return NAMES.sub(of_name, line) if labels else line
+
+
+def main():
+    import scripts
+    words = argparse.ArgumentParser(description='Puts the labels of a log behind the names of its transactions in what explain said. Unproved.')
+    words.add_argument('log', help='the log; its labels stand in LOG.labels')
+    labels = scripts.labels_of(words.parse_args().log, is_needed=True)
+    for line in sys.stdin:
+        sys.stdout.write(labelled(line, labels))
+
+
+if __name__ == '__main__':
+    import scripts
+    scripts.run(main)
