@@ -49,15 +49,14 @@ public final class Recorder implements AutoCloseable {
 
     /** What a recorder may be told, of which all may be absent. */
     public static final class Options {
-        private boolean moments = true, overwrite;
+        private boolean moments, overwrite;
         private int first = 1, all = 1;
         private boolean isShared;
         private LongSupplier clock;
 
-        /** Without moments the log does not say when each transaction began and was committed: for a store that does not promise strict
-         * serializability. */
-        public Options noMoments() {
-            moments = false;
+        /** The log says when each transaction began and was committed, for a store that promises strict serializability. */
+        public Options moments() {
+            moments = true;
             return this;
         }
 
