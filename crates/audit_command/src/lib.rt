@@ -23,6 +23,7 @@ mod files;
 mod known;
 mod levels;
 mod lines;
+mod lower;
 mod object;
 mod options;
 mod outcome;

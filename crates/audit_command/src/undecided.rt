@@ -86,6 +86,7 @@ pub fn reason_text(
         Why::NotBegun => String::from_str(alloc, "the time was up"),
         Why::NoRoom(why) => room_text(alloc, why),
         Why::TooLarge { .. } => large_text(alloc, proposal, tried),
+        Why::NotShown => String::from_str(alloc, "it has too many operations, or sessions"),
     }
 }
 
