@@ -25,6 +25,11 @@ const LEVELS: [&str; 4] = [
     "serializable",
     "strict-snapshot",
     "snapshot",
+    "prefix",
+    "causal",
+    "read-atomic",
+    "monotonic-atomic-view",
+    "read-committed",
 ];
 
 /// The words for strategies.
