@@ -20,7 +20,7 @@ const FORMATS: [&str; 2] = ["text", "dot"];
 const REPORTS: [&str; 2] = ["text", "json"];
 
 /// The words for levels of isolation.
-const LEVELS: [&str; 4] = [
+const LEVELS: [&str; 9] = [
     "strict-serializable",
     "serializable",
     "strict-snapshot",
