@@ -138,7 +138,7 @@ IsNamedBy _ name text = IfSome name (λ called. IsKnownAs (string_bytes called) 
 -- that of some evidence against the part which is right, or none
 abbrev pub IsNameOf : BelowLevel → List ClientSession → Option (String Global) → Evidence → Type 0
 IsNameOf below part name evidence = (is_refuted below part evidence ≡ true)
-    × (option_map string_bytes name ≡ evidence_name below part evidence)
+    × (option_map string_bytes name ≡ evidence_name below evidence)
 
 abbrev pub IsNamedBelow : BelowLevel → RefutedPart → Option (String Global) → Type 0
 IsNamedBelow below p name = (name ≡ None)

@@ -23,13 +23,12 @@ use tell_evidence::{evidence_name, evidence_text};
 fn name_of(
     alloc: Global,
     below: Level,
-    part: &[Session],
     evidence: &Evidence,
 ) -> Result<Option<String>, AllocError>
     ensures name { IfOk result (λ told. option_map string_bytes told
-        ≡ evidence_name below (map view part.now) evidence.now) }
+        ≡ evidence_name below evidence.now) }
 {
-    match evidence_name(below, part, evidence) {
+    match evidence_name(below, evidence) {
         Some(name) => Ok(Some(String::from_str(alloc, name)?)),
         None => Ok(None),
     }
@@ -56,7 +55,7 @@ fn told(
     }
     let places = places_of(alloc, version, sessions, refuted)?;
     let text = evidence_text(alloc, &refuted.part, &places, evidence)?;
-    let known_as = name_of(alloc, below, &refuted.part, evidence)?;
+    let known_as = name_of(alloc, below, evidence)?;
     Ok(Explained { text, known_as })
 }
 

@@ -101,38 +101,52 @@ abbrev pub short_by : Table → List ClientSession → List Edge → Option Edge
 short_by table ss edges None = short_known table ss edges
 short_by table ss edges (Some e) = short_edge table ss e
 
+abbrev pub short_circle : Table → List ClientSession → List Edge → List ℕ
+short_circle table ss edges = short_by table ss edges (find is_forced_edge edges)
+
 unfoldable pub circle_text : Table → List ClientSession → List Edge → List ℕ
-circle_text table ss edges = short_by table ss edges (find is_forced_edge edges)
+circle_text table ss edges = short_circle table ss edges
     ++ edges_text table ss edges ++ clash_text table ss edges
 
 -- ---- faults
 
 -- in a sentence
-abbrev pub short_why : Table → List ClientSession → Why → List ℕ
-short_why table ss (why.MissesOwn write) = codes " does not read its own last write\n"
-short_why table ss why.Unwritten = codes " reads what nobody wrote\n"
-short_why table ss (why.Aborted write) = codes " reads what a transaction wrote that did not commit\n"
-short_why table ss (why.Overwritten write later) =
-    codes " reads what its writer had written over before it committed\n"
-short_why table ss (why.OwnLater write) = codes " reads what it writes itself only later\n"
+abbrev pub short_why : Why → List ℕ
+short_why (why.MissesOwn write) = codes " does not read its own last write\n"
+short_why why.Unwritten = codes " reads what nobody wrote\n"
+short_why (why.Aborted write) = codes " reads what a transaction wrote that did not commit\n"
+short_why (why.Overwritten write later) =
+    codes " reads what its writer wrote over before it committed\n"
+short_why (why.OwnLater write) = codes " reads what it writes itself only later\n"
+
+-- `, but wrote x 7 before (line 8)`
+unfoldable pub missed_text : Table → List ClientSession → OpAt → List ℕ
+missed_text table ss write = codes ", but wrote " ++ key_at ss write ++ codes " "
+    ++ decimal (wid_at ss write) ++ codes " before" ++ in_line (line_of table write)
+
+-- `, which 2.1 wrote (line 4), and 2.1 was aborted (line 5)`
+unfoldable pub aborted_text : Table → List ClientSession → OpAt → List ℕ
+aborted_text table ss write = wrote_text table ss write
+    ++ outcome_text table ss write.txn (outcome_at ss write.txn)
+
+-- `, which 2.1 wrote (line 4) and overwrote with 6 (line 5)`
+unfoldable pub overwritten_text : Table → List ClientSession → OpAt → OpAt → List ℕ
+overwritten_text table ss write later = wrote_text table ss write ++ codes " and overwrote with "
+    ++ decimal (wid_at ss later) ++ in_line (line_of table later)
 
 -- what is wrong with the read
 abbrev pub why_text : Table → List ClientSession → OpAt → Why → List ℕ
-why_text table ss read (why.MissesOwn write) = codes ", but wrote "
-    ++ key_at ss (op_of read.txn write) ++ codes " " ++ decimal (wid_at ss (op_of read.txn write))
-    ++ codes " before" ++ in_line (line_of table (op_of read.txn write))
+why_text table ss read (why.MissesOwn write) = missed_text table ss (op_of read.txn write)
 why_text table ss read why.Unwritten = codes ", which nobody wrote"
-why_text table ss read (why.Aborted write) = wrote_text table ss write
-    ++ outcome_text table ss write.txn (outcome_at ss write.txn)
-why_text table ss read (why.Overwritten write later) = wrote_text table ss write
-    ++ codes " and overwrote with " ++ decimal (wid_at ss (op_of write.txn later))
-    ++ in_line (line_of table (op_of write.txn later))
+why_text table ss read (why.Aborted write) = aborted_text table ss write
+why_text table ss read (why.Overwritten write later) = overwritten_text table ss write
+    (op_of write.txn later)
 why_text table ss read (why.OwnLater write) = codes ", which it writes itself only later"
     ++ in_line (line_of table (op_of read.txn write))
 
 unfoldable pub fault_text : Table → List ClientSession → Fault → List ℕ
 fault_text table ss fault = codes "in short: " ++ name_text table ss fault.read.txn
-    ++ short_why table ss fault.why ++ does_text table ss (codes " reads ") fault.read
+    ++ short_why fault.why ++ does_text table ss (codes " reads ") fault.read
     ++ why_text table ss fault.read fault.why ++ codes "\n"
 
 -- ---- the whole

@@ -67,28 +67,39 @@ is_known_session (edge.Forced o found) = false
 -- ---- names
 
 -- A read overlooks a write that it sees: far away, or else by its session, or else by a read of
--- something else, which has this name where the level is above monotonic atomic view. What is left
--- is that its transaction reads the very write: two versions of a key.
+-- something else, which above monotonic atomic view has the name `skew`. What is left is that its
+-- transaction reads the very write: two versions of a key.
+abbrev pub view_name : Bool → List ℕ
+view_name other = if other then codes "observed transaction vanishes (OTV)"
+    else codes "non-repeatable read"
+
+abbrev pub atomic_name : Bool → Bool → List ℕ → List ℕ
+atomic_name session other skew = if session then codes "stale read of its own session"
+    else if other then skew else codes "non-repeatable read"
+
+abbrev pub causal_name : Bool → Bool → Bool → List ℕ → List ℕ
+causal_name far session other skew = if far then codes "causal violation"
+    else atomic_name session other skew
+
 abbrev pub seen_name : Level → Bool → Bool → Bool → List ℕ → Option (List ℕ)
 seen_name ReadCommitted far session other skew = None
-seen_name MonotonicAtomicView far session other skew =
-    Some (if other then codes "observed transaction vanishes (OTV)" else codes "non-repeatable read")
-seen_name ReadAtomic far session other skew = Some (if session then codes "stale read of its own session"
-    else if other then skew else codes "non-repeatable read")
-seen_name Causal far session other skew = Some (if far then codes "causal violation"
-    else if session then codes "stale read of its own session"
-    else if other then skew else codes "non-repeatable read")
+seen_name MonotonicAtomicView far session other skew = Some (view_name other)
+seen_name ReadAtomic far session other skew = Some (atomic_name session other skew)
+seen_name Causal far session other skew = Some (causal_name far session other skew)
 
 -- of edges of which none is forced
 abbrev pub known_name : List Edge → List ℕ
 known_name edges = if list_any is_known_session edges
-    then codes "circular information flow (G1c-process)" else codes "circular information flow (G1c)"
+    then codes "circular information flow (G1c-process)"
+    else codes "circular information flow (G1c)"
 
--- of several edges that are forced the one that is seen farthest
+-- of edges of which some are forced: that of the read that sees farthest
+abbrev pub forced_name : Level → List Edge → Option (List ℕ)
+forced_name level edges = seen_name level (list_any is_far_edge edges)
+    (list_any is_session_edge edges) (list_any is_other_edge edges) (codes "read skew")
+
 abbrev pub circle_name : Level → List Edge → Option (List ℕ)
-circle_name level edges = if list_any is_forced_edge edges
-    then seen_name level (list_any is_far_edge edges) (list_any is_session_edge edges)
-        (list_any is_other_edge edges) (codes "read skew")
+circle_name level edges = if list_any is_forced_edge edges then forced_name level edges
     else Some (known_name edges)
 
 abbrev pub initial_name : Level → Overlooked → Option (List ℕ)

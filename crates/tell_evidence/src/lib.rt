@@ -28,5 +28,5 @@ mod places;
 mod telling;
 mod words;
 
-// pub use names::evidence_name;
-// pub use telling::evidence_text;
+pub use names::evidence_name;
+pub use telling::evidence_text;
