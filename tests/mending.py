@@ -19,6 +19,15 @@ spec = importlib.util.spec_from_file_location('stores_of_recorder', os.path.join
 stores = importlib.util.module_from_spec(spec)
 spec.loader.exec_module(stores)
 
+# Runs a collector of which few lines stand in memory.
+SMALL = '''
+import os, runpy, sys
+sys.argv = sys.argv[1:]
+sys.path.insert(0, os.path.dirname(sys.argv[0]))
+import recorder
+recorder.BUFFER = 40
+runpy.run_path(sys.argv[0], run_name='__main__')
+'''
 # A log that is not complete, the mended one, and what is said.
 BY_HAND = [
     ('complete', 'log 3\nsession 1\nbegin\nw x 1\ncommit\n', 'log 3\nsession 1\nbegin\nw x 1\ncommit\n', 'nothing was missing'),
@@ -129,7 +138,7 @@ def killed(checks, dice, words, longest):
         shutil.rmtree(path) if os.path.isdir(path) else os.remove(path)
     name, *more = words
     run = checks.path('run.log')
-    collector = subprocess.Popen([sys.executable, os.path.join(COLLECT, name), '--transactions', '100000', '--keys', '10', '--pause', '1', *more, run],
+    collector = subprocess.Popen([sys.executable, '-c', SMALL, os.path.join(COLLECT, name), '--transactions', '100000', '--keys', '10', '--pause', '1', *more, run],
                                  stdout=subprocess.DEVNULL, stderr=subprocess.PIPE, cwd=checks.folder, env=dict(os.environ, TMPDIR=checks.folder))
     late = time.monotonic() + 30
     while not glob.glob(checks.path('run.log*')) and time.monotonic() < late and collector.poll() is None:
