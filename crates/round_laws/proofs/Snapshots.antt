@@ -1,4 +1,4 @@
--- The law of two rounds for snapshot orders: that for serial orders, of the halves of their nodes.
+-- The law of two rounds for snapshot and prefix orders: that for serial orders, of the halves of their nodes.
 use Rattle.std.proofs.Common.{◌≡◌, ◌≢◌, ◌⊎◌, ℕ, ◌+◌, ◌*◌, ◌-◌, ◌<◌, ◌≤◌, Bool, true, false, eqb, not, List, [], ◌∷◌, ◌++◌, map, refl, sym, ap, ◌∙◌, subst, inl, inr, arith, append-nil, eqb-true}
 use Rattle.std.specs.Prelude.{◌↔◌, nat_le}
 use Rattle.std.specs.List.{filter, AllByRecursion, Contains}
@@ -28,7 +28,7 @@ use Rattle.level_laws.specs.Snapshot.{snapshot_reads, HasPointOrder}
 use Rattle.level_laws.specs.Split.{Locks, AreFresh, start_ops, end_ops, split}
 use Rattle.level_laws.proofs.Nodes.{start_node, end_node, both_nodes, split_nodes, split_learnt}
 use Rattle.level_laws.proofs.Orders.{snapshot_by_split, never_later}
-use Rattle.round_laws.specs.Rounds.{Keeper, Leads, is_fence, is_value, bare_node, run_of_two, values, IsSeam, IsInTime, SnapshotsOfRounds, SnapshotOfRun}
+use Rattle.round_laws.specs.Rounds.{Keeper, Leads, is_fence, is_value, bare_node, run_of_two, values, IsInTime, BothOfRun, RunOfBoth}
 use Rattle.round_laws.proofs.Comes.{Comes, by_session, itself, Carries, carried, wider, comes_trans, LeftAs}
 use Rattle.round_laws.proofs.Two.{IsAlike, Rounds, rounds_of_whole, whole_of_rounds}
 use Rattle.round_laws.proofs.Joined.{first_early, placed, cut_of, opens_at, not_true}
@@ -37,7 +37,7 @@ use Rattle.round_laws.proofs.Serial.{Pair, pair_of, placed_second, closing_in, c
 use Rattle.round_laws.proofs.Names.{Names, fresh_where, some_names, start_writes, start_reads, end_writes, end_reads, end_has, halves, which_half, has_start, has_end, half_in, halves_within, alone_halves, ArePlaced, from_start, across, left_halves, halves_replay, halves_leave}
 use Rattle.round_laws.proofs.Operations.{run_ops}
 
--- ---- a log has a snapshot order exactly where the halves of its nodes have a line
+-- ---- a log has an order of points exactly where the halves of its nodes have a line
 split_numbers : (locks : Locks) (ss : List ClientSession) → numbers_of (split locks ss) ≡ numbers_of ss
 split_numbers locks [] = refl
 split_numbers locks (s ∷ ss) = ap (λ l. s.number ∷ l) (split_numbers locks ss)
@@ -455,7 +455,7 @@ apart keeper first second locks o p time x y c d =
       half_times locks a.0 e.0 x m.0 a.2 e.2 (may_precede keeper first second o p time a.0 e.0 a.1 e.1),
     )
 
-pub points_of_rounds : (locked : Bool) (keeper : Keeper) (first second : List ClientSession) → IsSeam keeper first second → HasPointOrder locked (run_of_two keeper first second) → HasPointOrder locked first × HasPointOrder locked second
+pub points_of_rounds : (locked : Bool) → BothOfRun (HasPointOrder locked)
 points_of_rounds locked keeper first second s =
     let o = s.opened.opening in
     let p = pair_of keeper first second s in
@@ -467,7 +467,7 @@ points_of_rounds locked keeper first second s =
     let both = rounds_of_whole (halves locks (nodes_of first)) (halves locks (o ∷ [])) (halves locks (bare_node keeper o ∷ [])) (halves locks (rest_nodes keeper second)) (values keeper o) (twice cut) (early (twice cut)) (opens_at keeper 2) (in_halves keeper first second locks o named.2 p) (l.run.0 h) in
     (l.one.1 both.0, l.two.1 both.1)))
 
-pub points_of_run : (locked : Bool) (keeper : Keeper) (first second : List ClientSession) → IsSeam keeper first second → IsInTime first second → HasPointOrder locked first → HasPointOrder locked second → HasPointOrder locked (run_of_two keeper first second)
+pub points_of_run : (locked : Bool) → RunOfBoth (HasPointOrder locked)
 points_of_run locked keeper first second s time =
     let o = s.opened.opening in
     let p = pair_of keeper first second s in
@@ -477,9 +477,3 @@ points_of_run locked keeper first second s time =
     let l = lines keeper first second locks o named.2 p in
     subst (λ b. HasPointOrder b first → HasPointOrder b second → HasPointOrder b (run_of_two keeper first second)) named.1
     (λ h k. l.run.1 (whole_of_rounds (halves locks (nodes_of first)) (halves locks (o ∷ [])) (halves locks (bare_node keeper o ∷ [])) (halves locks (rest_nodes keeper second)) (values keeper o) (twice cut) (early (twice cut)) (opens_at keeper 2) (in_halves keeper first second locks o named.2 p) (apart keeper first second locks o p time) (l.one.0 h) (l.two.0 k)))
-
-pub snapshots_of_rounds : SnapshotsOfRounds
-snapshots_of_rounds = points_of_rounds true
-
-pub snapshot_of_run : SnapshotOfRun
-snapshot_of_run = points_of_run true
