@@ -34,7 +34,6 @@ use Rattle.round_laws.proofs.Given.{writes_replay}
 
 -- ---- names that are new to all these operations
 pub record Names (locks : Locks) (all : List Op) : Type 0 where
-  pub taken : locks.taken ≡ true
   pub new_key : (o p : Op) → Contains all o → Contains all p → locks.key (key_of o) ≢ key_of p
   pub one_key : (o p : Op) → Contains all o → Contains all p → locks.key (key_of o) ≡ locks.key (key_of p) → key_of o ≡ key_of p
   pub new_identity : (k l : List ℕ) (v w : ℕ) → Contains all (Write k v) → Contains all (Write l w) → locks.identity v ≢ w
@@ -70,7 +69,6 @@ some_names taken first second = (
   locks,
   (some_are_fresh big taken).1,
   record {
-    taken = (some_are_fresh big true).1;
     new_key = λ o p c d. fresh.new_key (key_of o) (key_of p) (has_key big o (within o c)) (has_key big p (within p d));
     one_key = λ o p c d. fresh.one_key (key_of o) (key_of p) (has_key big o (within o c)) (has_key big p (within p d));
     new_identity = λ k l v w c d. fresh.new_identity v w (has_written big k v (within (Write k v) c)) (has_written big l w (within (Write l w) d));

@@ -16,7 +16,7 @@ use Rattle.log_definitions.specs.Serial.{Committed, Map, initial, Replays}
 use Rattle.log_definitions.proofs.Members.{member}
 use Rattle.log_definitions.proofs.Settled.{IsLearnt}
 use Rattle.log_laws.proofs.Sessions.{Firsts, nodes_of, unshift, early, early_is, late_is}
-use Rattle.log_laws.specs.Logs.{IsSoundLog, IsLearntLog, HasOrder}
+use Rattle.log_laws.specs.Logs.{IsSoundLog, IsLearntLog}
 use Rattle.log_laws.proofs.Lines.{MayPrecede, IsLine, ops_along}
 use Rattle.log_laws.proofs.Lists.{of_kept, of_mapped, of_flat, op_of_node, NodeWith, node_with, first_or_behind, test_le}
 use Rattle.log_laws.proofs.Replay.{after, had_or_written}
@@ -391,7 +391,7 @@ lines keeper first second locks o names p = record {
     (λ h. subst (HasLine initial) (sym whole_is) (line_where_same initial (halves locks (nodes_of run)) (halves locks whole) (λ n. (halves_within locks (nodes_of run) whole (λ m. (p.whole m).0) n, halves_within locks whole (nodes_of run) (λ m. (p.whole m).1) n)) (of_run.0 h))),
     (λ l. of_run.1 (line_where_same initial (halves locks whole) (halves locks (nodes_of run)) (λ n. (halves_within locks whole (nodes_of run) (λ m. (p.whole m).1) n, halves_within locks (nodes_of run) whole (λ m. (p.whole m).0) n)) (subst (HasLine initial) whole_is l))),
   );
-  one = snapshot_line locks first p.seam.sound_first p.seam.learnt_first (fresh_where locks all first names (λ q c. Contains-append_left (ops_in first) (ops_in second) q c)) names.taken;
+  one = snapshot_line locks first p.seam.sound_first p.seam.learnt_first (fresh_where locks all first names (λ q c. Contains-append_left (ops_in first) (ops_in second) q c));
   two = (
     (λ h. line_where_same initial (halves locks (nodes_of second)) (halves locks full_nodes) (λ n. (halves_within locks (nodes_of second) full_nodes (λ m. (same m).0) n, halves_within locks full_nodes (nodes_of second) (λ m. (same m).1) n)) (of_second.0 h)),
     (λ l. of_second.1 (line_where_same initial (halves locks full_nodes) (halves locks (nodes_of second)) (λ n. (halves_within locks full_nodes (nodes_of second) (λ m. (same m).1) n, halves_within locks (nodes_of second) full_nodes (λ m. (same m).0) n)) l)),
