@@ -141,6 +141,26 @@ impl Looking {
         Ok(None)
     }
 
+    /// The crossed reads of a pair and one of those before it, as their nodes and who wrote what these
+    /// read.
+    fn look_back(
+        &mut self,
+        alloc: Global,
+        versions: &Versions,
+        before: &[Pair],
+        second: &Pair,
+    ) -> Result<Option<Vec<u32>>, AllocError> {
+        for first in before {
+            if self.looks >= MOST_LOOKS {
+                break;
+            }
+            if let Some(met) = self.meet(first, second)? {
+                return Ok(Some(nodes_of(alloc, versions, first, second, met)?));
+            }
+        }
+        Ok(None)
+    }
+
     /// The first crossed reads among pairs, as their nodes and who wrote what these read.
     fn look(
         &mut self,
@@ -155,13 +175,14 @@ impl Looking {
             {
                 start = i;
             }
-            for first in pairs.iter().take(i).skip(start) {
-                if self.looks >= MOST_LOOKS {
-                    return Ok(None);
-                }
-                if let Some(met) = self.meet(first, second)? {
-                    return Ok(Some(nodes_of(alloc, versions, first, second, met)?));
-                }
+            let Some(before) = pairs.get(start..i) else {
+                break;
+            };
+            if let Some(nodes) = self.look_back(alloc, versions, before, second)? {
+                return Ok(Some(nodes));
+            }
+            if self.looks >= MOST_LOOKS {
+                break;
             }
         }
         Ok(None)
