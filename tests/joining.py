@@ -173,8 +173,8 @@ def misfits(checks):
         ('same identity', 'log 3\nsession 2\nbegin\nw x 2\nw y 1\ncommit\n', r'second.log:5: the identity 1 stands in .*first.log:4 already'),
         ('other version', 'log 2\nsession 2\nbegin\ncommit\n', r'first.log is of log 3, and .*second.log of log 2'),
         ('version 1', 'session 2\nbegin\ncommit\n', r'first.log is of log 3, and .*second.log of version 1'),
-        ('no end', 'log 3\nsession 2\nbegin\nw x 2\n', r'second.log: its last transaction has no end'),
-        ('no end of a line', 'log 3\nsession 2\nbegin\ncommi', r'second.log:4: this line has no end'),
+        ('no end', 'log 3\nsession 2\nbegin\nw x 2\n', r'second.log: the log is not complete, its last transaction has no end'),
+        ('no end of a line', 'log 3\nsession 2\nbegin\ncommi', r'second.log:4: the log is not complete, this line has no end'),
         ('no log', '{:index 1}\n', r'second.log:1: a log begins with'), ('empty', '', r'second.log: it is empty'),
     ):
         checks.refused(name, [first, checks.file('second.log', text)], said)

@@ -27,6 +27,7 @@ mod lower;
 mod object;
 mod options;
 mod outcome;
+mod overlooked;
 mod places;
 mod refusals;
 mod report;

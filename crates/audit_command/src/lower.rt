@@ -235,35 +235,45 @@ pub fn judge_lower<R: Threads + Wait + Clock + Eprint + Sync, P: Progress>(
     let asked = asks_lower(options, answer, snapshot);
     let level = Isolation::Prefix;
     let is_asked = asks_at(options, asked, false, level);
-    let at = judge_where(rt, alloc, sessions, first, level, is_asked, options, progress)?;
+    let at = judge_where(
+        rt, alloc, sessions, first, level, is_asked, options, progress,
+    )?;
     let prefix = at.word;
     let weakest = or_above(level, at, None);
 
     let kept = is_kept(prefix);
     let level = Isolation::Causal;
     let is_asked = asks_at(options, asked, kept, level);
-    let at = judge_where(rt, alloc, sessions, first, level, is_asked, options, progress)?;
+    let at = judge_where(
+        rt, alloc, sessions, first, level, is_asked, options, progress,
+    )?;
     let causal = at.word;
     let weakest = or_above(level, at, weakest);
 
     let kept = is_one_kept(prefix, causal);
     let level = Isolation::ReadAtomic;
     let is_asked = asks_at(options, asked, kept, level);
-    let at = judge_where(rt, alloc, sessions, first, level, is_asked, options, progress)?;
+    let at = judge_where(
+        rt, alloc, sessions, first, level, is_asked, options, progress,
+    )?;
     let read_atomic = at.word;
     let weakest = or_above(level, at, weakest);
 
     let kept = is_kept_or(kept, read_atomic);
     let level = Isolation::MonotonicAtomicView;
     let is_asked = asks_at(options, asked, kept, level);
-    let at = judge_where(rt, alloc, sessions, first, level, is_asked, options, progress)?;
+    let at = judge_where(
+        rt, alloc, sessions, first, level, is_asked, options, progress,
+    )?;
     let monotonic_atomic_view = at.word;
     let weakest = or_above(level, at, weakest);
 
     let kept = is_kept_or(kept, monotonic_atomic_view);
     let level = Isolation::ReadCommitted;
     let is_asked = asks_at(options, asked, kept, level);
-    let at = judge_where(rt, alloc, sessions, first, level, is_asked, options, progress)?;
+    let at = judge_where(
+        rt, alloc, sessions, first, level, is_asked, options, progress,
+    )?;
     let read_committed = at.word;
     let weakest = or_above(level, at, weakest);
 

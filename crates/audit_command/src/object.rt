@@ -446,11 +446,7 @@ fn put_lower(out: &mut Vec<u8>, lower: &Lower) -> Result<(), AllocError>
 }
 
 #[tactic(auto, unfolding(crate::specs::Objects::lowest_value))]
-fn put_lowest(
-    out: &mut Vec<u8>,
-    explain: bool,
-    lowest: &Option<ToldPart>,
-) -> Result<(), AllocError>
+fn put_lowest(out: &mut Vec<u8>, explain: bool, lowest: &Option<ToldPart>) -> Result<(), AllocError>
     ensures put { OnOk result (out.new.items ≡ out.old.items ++ lowest_value explain lowest.now) }
 {
     put(out, b",\"weakest_fault\":")?;

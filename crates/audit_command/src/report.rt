@@ -9,13 +9,15 @@ ghost use Rattle.audit_command.specs.Report.{parts_text, first_size, report_text
 ghost use Rattle.audit_command.specs.Report.{listed, codes_where, behind_first, level_text, reason_line};
 ghost use Rattle.audit_command.specs.Report.{level_row, weaker_text, short_title, found_text};
 ghost use Rattle.audit_command.specs.Report.{kept_line, shown_by, snapshot_row, broken_text, last_part};
+ghost use Rattle.audit_command.specs.Report.{lower_text, title_of, why_lowest, lowest_part};
+ghost use Rattle.audit_command.specs.Lower.{or_above, weakest_of};
 ghost use Rattle.audit_command.specs.Words as spec;
 
 use crate::codes::{
     code_number, finding_title, hint_text, kept_text, verdict_text, word_of, word_text,
 };
 use crate::lines::{put, put_count, put_line, put_lines, put_name, put_number};
-use crate::told::{Answer, Told, ToldPart, ToldTxn, Totals, Word};
+use crate::told::{Answer, Lower, Told, ToldPart, ToldTxn, Totals, Word};
 use isolation::Isolation;
 use std::alloc::{AllocError, Global};
 

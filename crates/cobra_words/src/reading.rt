@@ -53,6 +53,11 @@ fn level_of(matches: &ArgMatches<'_>) -> Option<Isolation> {
         "serializable" => Some(Isolation::Serializable),
         "strict-snapshot" => Some(Isolation::StrictSnapshot),
         "snapshot" => Some(Isolation::Snapshot),
+        "prefix" => Some(Isolation::Prefix),
+        "causal" => Some(Isolation::Causal),
+        "read-atomic" => Some(Isolation::ReadAtomic),
+        "monotonic-atomic-view" => Some(Isolation::MonotonicAtomicView),
+        "read-committed" => Some(Isolation::ReadCommitted),
         _ => None,
     }
 }

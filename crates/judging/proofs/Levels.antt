@@ -24,8 +24,7 @@ use Rattle.seen_laws.proofs.OfPart.{level_of_taken, some_level_of_part}
 use Rattle.level_refutations.specs.declared.evidence.Evidence.{Evidence}
 use Rattle.level_refutations.specs.Refuted.{is_refuted}
 use Rattle.splitting.specs.Locks.{lock_key, most_leading, longest, largest, refusal, locks_of, no_room}
-use Rattle.splitting.proofs.Fresh.{snapshot_by_split_log}
-use Rattle.splitting.proofs.Bare.{prefix_by_split_log}
+use Rattle.splitting.proofs.Fresh.{snapshot_by_split_log, prefix_by_split_log}
 use Rattle.polygraph.specs.declared.fault.PolyFault.TheVariants as poly_fault
 use Rattle.reduction.specs.Outcome.{IsReduceFault}
 use Rattle.branch_search.specs.declared.answer.Answer.TheVariants.{Unknown}

@@ -13,7 +13,7 @@ use crate::judged::{Finding, Why};
 use crate::means::JudgeMeans;
 use level_checks::keeps_level;
 use level_proposals::find_break;
-use level_refutations::refutes;
+use level_refutations::{named_transactions, refutes};
 use log_parts::part_of;
 use proposals::{NotTried, Proposal};
 use seen_laws::Level;
