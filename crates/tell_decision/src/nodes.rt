@@ -1,4 +1,5 @@
-//! The nodes on which a decision rests.
+//! The nodes on which it rests that a history has no order: those of an anomaly, of a cycle, of the
+//! forced steps and of the tree of a search. No contract speaks of what is given.
 
 ghost use Rattle.serializability.specs.Reads.{IsClean};
 ghost use Rattle.log_definitions.specs.Numbers.{log_of};
@@ -6,7 +7,6 @@ ghost use Rattle.reduction.specs.Outcome.{IsDeadHistory, IsOpenHistory};
 ghost use Rattle.cube_laws.specs.Trees.{IsRefutationTree};
 ghost use Rattle.deciding.specs.Decides.{IsDecided};
 
-use crate::items::put_items;
 use cube_laws::Tree;
 use deciding::Decision;
 use prune_ledger::{Ledger, Reduced};
@@ -14,8 +14,77 @@ use reduction::open_chains;
 use serializability::{Anomaly, NodeIx};
 use session_history::History;
 use std::alloc::{AllocError, Global};
-use tell_steps::tell_dead;
+use tell_reasons::{ChainOrder, Why};
+use tell_steps::{Item, tell_dead};
 use tell_trees::tell_tree;
+
+/// Adds the nodes of a chain of the key from this one back to its head.
+fn put_chain(
+    nodes: &mut Vec<NodeIx>,
+    history: &History,
+    key: usize,
+    last: NodeIx,
+) -> Result<(), AllocError> {
+    let mut node = last;
+    for _ in 0..history.committed() {
+        nodes.push(node)?;
+        if key >= history.keys() {
+            break;
+        }
+        let Some(before) = history.source_of(node, key) else {
+            break;
+        };
+        node = before;
+    }
+    Ok(())
+}
+
+/// Adds the heads of two chains, and the first one up to this node.
+fn put_order(
+    nodes: &mut Vec<NodeIx>,
+    history: &History,
+    order: ChainOrder,
+    last: NodeIx,
+) -> Result<(), AllocError> {
+    nodes.push(order.first)?;
+    nodes.push(order.second)?;
+    put_chain(nodes, history, order.key, last)
+}
+
+/// Adds the nodes of an item.
+fn put_item(nodes: &mut Vec<NodeIx>, history: &History, item: &Item) -> Result<(), AllocError> {
+    match item {
+        Item::Step {
+            order,
+            source,
+            target,
+            ..
+        } => {
+            nodes.push(*target)?;
+            put_order(nodes, history, *order, *source)
+        }
+        Item::Edge { first, second, why } => {
+            nodes.push(*first)?;
+            nodes.push(*second)?;
+            match why {
+                Why::Known(_) => Ok(()),
+                Why::Forced { order, .. } | Why::Chosen(order) => {
+                    put_order(nodes, history, *order, *first)
+                }
+            }
+        }
+        Item::Decided { order, .. } => put_order(nodes, history, *order, order.first),
+        Item::Cycle { .. } | Item::Leaves { .. } => Ok(()),
+    }
+}
+
+/// Adds the nodes of items.
+fn put_items(nodes: &mut Vec<NodeIx>, history: &History, items: &[Item]) -> Result<(), AllocError> {
+    for item in items {
+        put_item(nodes, history, item)?;
+    }
+    Ok(())
+}
 
 /// The nodes of an anomaly.
 fn anomaly_nodes(alloc: Global, anomaly: Anomaly) -> Result<Vec<NodeIx>, AllocError> {

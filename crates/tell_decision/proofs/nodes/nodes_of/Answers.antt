@@ -1,5 +1,5 @@
 use Rattle.headline.proofs.Answered.{clean_log}
-use Rattle.decision_nodes.proofs.nodes.nodes_of.Goals as goal
+use Rattle.tell_decision.proofs.nodes.nodes_of.Goals as goal
 
 pub dead_nodes-requires : goal.dead_nodes-requires
 dead_nodes-requires c =
