@@ -2,7 +2,7 @@
 its number and its transactions, as in reference.py."""
 import itertools
 
-import pieces_model
+import small_logs
 
 
 def parted(ops):
@@ -22,7 +22,7 @@ def keys_written(ops):
 
 def nodes_of(sessions):
     """The nodes of a log: those that committed, and the taken ones."""
-    return pieces_model.nodes_of(pieces_model.resolved(sessions))
+    return small_logs.nodes_of(small_logs.resolved(sessions))
 
 
 def is_behind(later, node):
