@@ -418,8 +418,8 @@ class Recorder:
 
     def _keep(self):
         try:
+            self._open_round()
             while True:
-                self._open_round()
                 with self._turn:
                     self._turn.wait_for(lambda: self._round.is_due or self._closed)
                     round, folder = self._round, self._folder
@@ -432,8 +432,12 @@ class Recorder:
                         part.flush()
                     if not self._closed:
                         self._begin_round(round.number + 1)
+                is_last = self._round is round
+                if not is_last:
+                    self._open_round()
+                # what became known of the round is written while the next one goes on
                 self._write_round(round, folder, closings, unknown)
-                if self._round is round:
+                if is_last:
                     return
         except BaseException as fault:
             with self._turn:
