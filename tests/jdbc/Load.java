@@ -27,8 +27,9 @@ public final class Load {
         try (PreparedStatement ask = connection.prepareStatement("SELECT wid FROM stock WHERE item = ?")) {
             ask.setInt(1, key);
             try (ResultSet row = ask.executeQuery()) {
-                row.next();
-                txn.read("k" + key, row.getLong(1));
+                // H2 at READ UNCOMMITTED may find no row while another client changes it
+                if (row.next())
+                    txn.read("k" + key, row.getLong(1));
             }
         }
     }
