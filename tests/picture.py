@@ -379,9 +379,9 @@ class Checks:
             self.expect(len(console) == 1 and 'broken on purpose' in console[0], 'the console has, beside the error that is made: %r' % console)
 
     def lanes(self):
-        """A session whose first transaction behind a barrier was aborted has one lane: the next one states the same barrier."""
+        """A session whose first transaction was aborted has one lane, also if the next one states the same moment."""
         text = 'log 3\nsession 1\nbegin 5\nw x 1\nabort\nbegin 5\nr x 0\nw x 2\ncommit 8\nsession 2\nbegin 5\nr x 0\nw x 3\ncommit 9\n'
-        for _, _, _, page in self.pages([('a barrier', text.encode())]):
+        for _, _, _, page in self.pages([('one moment', text.encode())]):
             self.expect(page.count('>session 1</text>') == 1 and 'data-box="1.1"' in page, 'session 1 has %d lanes' % page.count('>session 1</text>'))
 
     def units(self):

@@ -203,7 +203,7 @@ class Layout:
         for box in sorted(boxes, key=lambda box: box.place):
             first.setdefault((box.lane, box.begun), box.name)
         for box in boxes:
-            # of several of one session that state one barrier only the first began there
+            # of several of one session that state one moment only the first began there
             is_first = box.begun is not None and first[box.lane, box.begun] == box.name
             begin[box.name] = ('begun', box.begun) if is_first else ('begin', box.name)
             end[box.name] = ('end', box.name) if box.ended is None else ('ended', box.ended)

@@ -7,7 +7,7 @@ use Rattle.std.proofs.Math.Path.{fun_ext}
 use Rattle.session_log.specs.Text.{ClientSession}
 use Rattle.log_definitions.specs.Unknown.{resolved}
 use Rattle.log_definitions.specs.Serial.{Committed, committed_in, node_in, node_of}
-use Rattle.piece_laws.proofs.Several.{nodes_stay}
+use Rattle.log_laws.proofs.Resolved.{nodes_stay}
 use Rattle.session_history.specs.Tables.{name_in}
 use Rattle.order_checks.specs.Numbered.{names_of}
 use Rattle.order_text.specs.Text.{name_line, order_text}

@@ -3,7 +3,7 @@ use Rattle.std.proofs.Common.{◌≡◌, Bool, true, false, List, [], ◌∷◌,
 use Rattle.std.specs.List.{AllByRecursion}
 use Rattle.session_log.specs.Text.{ClientSession, IsLegal, view}
 use Rattle.log_definitions.specs.Unknown.{resolved}
-use Rattle.piece_laws.specs.Logs.{IsSoundLog, IsLog}
+use Rattle.log_laws.specs.Logs.{IsSoundLog, IsLog}
 use Rattle.part_laws.proofs.Logs.{part_is_log}
 use Rattle.splitting.specs.declared.room.NoRoom.{NoRoom}
 use Rattle.splitting.specs.Locks.{no_room}
@@ -16,7 +16,7 @@ use Rattle.judging.specs.declared.means.JudgeMeans.{JudgeMeans}
 use Rattle.judging.specs.declared.judged.RefutedPart.{RefutedPart}
 use Rattle.judging.specs.declared.judged.Verdict.{Verdict}
 use Rattle.judging.specs.declared.judged.Verdict.TheVariants.{Serializable, NotSerializable, Undecided}
-use Rattle.judging.proofs.Resolved.{resolved_is_log}
+use Rattle.log_laws.proofs.Resolved.{resolved_is_log}
 use Rattle.judging.proofs.Levels.{room_resolved}
 use Rattle.level_laws.proofs.Without.{legal_without, sound_without}
 use Rattle.audit_command.specs.Audited.{seen}

@@ -4,8 +4,8 @@ use Rattle.std.specs.Prelude.{◌&&◌, ◌||◌}
 use Rattle.std.specs.List.{AllByRecursion}
 use Rattle.session_log.specs.Text.{ClientSession, IsLegal}
 use Rattle.log_definitions.specs.Unknown.{resolved}
-use Rattle.piece_laws.specs.Logs.{IsSoundLog, HasOrder}
-use Rattle.piece_laws.proofs.Several.{nodes_stay}
+use Rattle.log_laws.specs.Logs.{IsSoundLog, HasOrder}
+use Rattle.log_laws.proofs.Resolved.{nodes_stay, resolved_is_log}
 use Rattle.level_laws.specs.Snapshot.{HasSnapshotOrder}
 use Rattle.level_laws.specs.Without.{without_moments}
 use Rattle.level_laws.proofs.Doubled.{snapshot_where_serial}
@@ -15,7 +15,7 @@ use Rattle.level_laws.proofs.Without.{legal_without, sound_without}
 use Rattle.judging.specs.declared.level.Level.{Level}
 use Rattle.judging.specs.declared.level.Level.TheVariants as level
 use Rattle.judging.specs.Levels.{HasOrderAt}
-use Rattle.judging.proofs.Resolved.{serial_resolved, resolved_is_log}
+use Rattle.judging.proofs.Resolved.{serial_resolved}
 use Rattle.audit_command.specs.declared.options.AuditOptions.{AuditOptions}
 use Rattle.audit_command.specs.declared.told.Word.{Word}
 use Rattle.audit_command.specs.declared.told.Word.TheVariants as word
@@ -35,6 +35,8 @@ asked o ss a e = each_of (asks_levels o a) (is_serial o.means.level) (states_mom
 serial_level : (l : Level) → is_serial l ≡ true → l ≡ level.Serializable
 serial_level level.Serializable e = refl
 serial_level level.Snapshot e = cc
+serial_level level.Prefix e = cc
+serial_level (level.Below below) e = cc
 
 -- ---- what is kept
 snapshot_of_order : (ss : List ClientSession) → AllByRecursion IsLegal ss → IsSoundLog ss → HasOrder ss → HasSnapshotOrder ss

@@ -3,7 +3,7 @@ use Rattle.std.specs.Prelude.{◌≡◌, List, map}
 use Rattle.std.specs.List.{AllByRecursion}
 use Rattle.session_log.specs.Text.{ClientSession, IsLegal, view}
 use Rattle.log_definitions.specs.Unknown.{resolved}
-use Rattle.piece_laws.specs.Logs.{IsSoundLog}
+use Rattle.log_laws.specs.Logs.{IsSoundLog}
 use Rattle.judging.specs.Made.{IsMadeOf}
 use Rattle.judging.specs.declared.judged.RefutedPart.{RefutedPart}
 use Rattle.judging.specs.declared.judged.Verdict.{Verdict}

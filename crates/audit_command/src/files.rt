@@ -3,7 +3,7 @@
 ghost use Rattle.std.specs.Prelude.{◌≡◌, ◌++◌, List, map, IfOk, OnOk};
 ghost use Rattle.session_log.specs.Text.{ClientSession, view, log_text, least_version};
 ghost use Rattle.log_definitions.specs.Unknown.{resolved};
-ghost use Rattle.piece_laws.specs.Logs.{IsLog};
+ghost use Rattle.log_laws.specs.Logs.{IsLog};
 ghost use Rattle.order_text.specs.Text.{name_line, order_text};
 ghost use Rattle.audit_command.specs.Orders.{name_at, names_text};
 

@@ -5,7 +5,7 @@ ghost use Rattle.std.specs.List.{AllByRecursion};
 ghost use Rattle.session_log.specs.Text.{ClientSession, IsLegal, view};
 ghost use Rattle.session_log.specs.Version.{first_line};
 ghost use Rattle.log_definitions.specs.Unknown.{resolved};
-ghost use Rattle.piece_laws.specs.Logs.{IsSoundLog, IsLog};
+ghost use Rattle.log_laws.specs.Logs.{IsSoundLog, IsLog};
 ghost use Rattle.judging.specs.Judges.{IsVerdict};
 ghost use Rattle.judging.specs.Made.{IsMade, IsToldPart};
 ghost use Rattle.judging.specs.Levels.{IsLogAt, IsOrderAt, HasOrderAt};

@@ -87,10 +87,7 @@ pub fn read_log_bytes<R: Files, I: Read + Drop>(
     request: &Request<'_>,
     input: I,
 ) -> Result<Vec<u8>, Ending> {
-    let is_long = matches!(
-        &request.command,
-        Command::Audit(_) | Command::Pieces { .. } | Command::Split
-    );
+    let is_long = matches!(&request.command, Command::Audit(_) | Command::Split);
     match request.log {
         Some(path) if is_long => {
             let file = fs::open(rt, path).map_err(|error| Ending::unusable(alloc, path, error))?;

@@ -6,14 +6,12 @@ mod ending;
 mod explain_call;
 mod files;
 mod input;
-mod pieces_call;
 mod split_call;
 
 use crate::audit_call::{audit_log, tell_failure};
 use crate::ending::{Ending, USAGE, report};
 use crate::explain_call::explain_log;
 use crate::input::{read_file, read_log_bytes};
-use crate::pieces_call::cut_log;
 use crate::split_call::split_log;
 use cobra_cli::{Fault, Options, Status, Stop, check, decode, encode, stats, verify};
 use cobra_words::{Command, Request, Words, words_of};
@@ -73,9 +71,6 @@ fn run_on<R: Runtime + Threads + Wait + Sync, W: Write>(
             verify(rt, alloc, log, &order, &options, &OpenGate, sink)?
         }
         Command::Audit(words) => audit_log(rt, alloc, log, request, words, start, sink)?,
-        Command::Pieces { size, wanted } => {
-            cut_log(rt, alloc, log, request, *size, *wanted, sink)?
-        }
         Command::Split => split_log(rt, alloc, log, request, sink)?,
     };
     Ok(status)

@@ -89,15 +89,6 @@ Answers, by exit status:
 
 With --level, the first line has the name of the level, a colon, and kept, not kept or unknown.";
 
-/// What `pieces` answers, by exit status.
-pub const PIECES: &str = "\
-Answers, by exit status:
-  0  a line K TRANSACTIONS OPERATIONS for each piece; or the log of one; or nothing, where they are
-     written into a directory, each as K.log, and as K.map the line of the log for each of its lines
-  2  refused: FILE:LINE: WORDS (CODE), the fault of the log, L1 to L7, L9 or L10; or usage
-  4  out of memory
-  5  device failed: a file and the reason, or output";
-
 /// What `split` answers, by exit status.
 pub const SPLIT: &str = "\
 Answers, by exit status:

@@ -128,16 +128,6 @@ fn audit<'a>(alloc: Global) -> Result<Command<'a>, AllocError> {
     with_search(alloc, command, CUBES_AND_CONFLICTS, AUDIT_DEFAULTS)
 }
 
-fn pieces<'a>(alloc: Global) -> Result<Command<'a>, AllocError> {
-    let command = Command::new(alloc, "pieces")
-        .about("Cut a log of any length into pieces that can be judged one by one")
-        .after_help(answers::PIECES)
-        .arg(options::size(alloc))?
-        .arg(options::piece(alloc)?)?
-        .arg(options::into(alloc))?;
-    with_workers(alloc, command)
-}
-
 fn split<'a>(alloc: Global) -> Result<Command<'a>, AllocError> {
     let command = Command::new(alloc, "split")
         .about("Write the log that has a serial order exactly where this one is snapshot isolated")
@@ -162,6 +152,5 @@ pub fn program<'a>(alloc: Global) -> Result<Command<'a>, AllocError> {
         .subcommand(stats(alloc)?)?
         .subcommand(explain(alloc)?)?
         .subcommand(audit(alloc)?)?
-        .subcommand(pieces(alloc)?)?
         .subcommand(split(alloc)?)
 }

@@ -13,4 +13,4 @@ pub use call_options::Format;
 pub use commands::VERSION;
 pub use cube_machine::StrategyName;
 pub use reading::words_of;
-pub use request::{AuditWords, Command, PiecesWord, Request, Words};
+pub use request::{AuditWords, Command, Request, Words};

@@ -10,9 +10,6 @@ const DEFAULT_WORKERS: &str = "4";
 /// How many lines `commit` a log must have where the words do not say.
 const DEFAULT_AT_LEAST: &str = "1";
 
-/// How many transactions each piece has at least where the words do not say.
-const DEFAULT_SIZE: &str = "100000";
-
 /// How many conflicts a search over a formula may meet where the words do not say.
 const DEFAULT_CONFLICTS: &str = "1000000";
 
@@ -23,11 +20,16 @@ const FORMATS: [&str; 2] = ["text", "dot"];
 const REPORTS: [&str; 2] = ["text", "json"];
 
 /// The words for levels of isolation.
-const LEVELS: [&str; 4] = [
+const LEVELS: [&str; 9] = [
     "strict-serializable",
     "serializable",
     "strict-snapshot",
     "snapshot",
+    "prefix",
+    "causal",
+    "read-atomic",
+    "monotonic-atomic-view",
+    "read-committed",
 ];
 
 /// The words for strategies.
@@ -96,13 +98,6 @@ pub fn format<'a>(alloc: Global) -> Arg<'a> {
 
 pub fn required_file<'a>(alloc: Global, name: &'a str, help: &'a str) -> Arg<'a> {
     valued(alloc, name, "FILE").help(help).required(true)
-}
-
-pub fn size<'a>(alloc: Global) -> Arg<'a> {
-    valued(alloc, "size", "N")
-        .help("How many transactions each piece has at least, 1 to 10000000")
-        .value_parser(clap::value_parser!(u32).range(1..=10_000_000))
-        .default_value(DEFAULT_SIZE)
 }
 
 pub fn at_least<'a>(alloc: Global) -> Arg<'a> {
@@ -181,17 +176,4 @@ pub fn quiet<'a>(alloc: Global) -> Arg<'a> {
 
 pub fn progress<'a>(alloc: Global) -> Arg<'a> {
     flag(alloc, "progress").help("Tell once a second on standard error how far it is")
-}
-
-pub fn piece<'a>(alloc: Global) -> Result<Arg<'a>, AllocError> {
-    valued(alloc, "piece", "K")
-        .help("Write the log of piece K, from 1")
-        .value_parser(clap::value_parser!(u32).range(1..=4_294_967_295))
-        .conflicts_with("into")
-}
-
-pub fn into<'a>(alloc: Global) -> Arg<'a> {
-    valued(alloc, "into", "DIR").help(
-        "Write the log of each piece, and the lines that it comes from, into files of a new or empty directory",
-    )
 }

@@ -1,7 +1,7 @@
 //! From words to what they ask for.
 
 use crate::commands::program;
-use crate::request::{AuditWords, Command, PiecesWord, Request, Words};
+use crate::request::{AuditWords, Command, Request, Words};
 use call_options::{Format, ReportForm};
 use clap::ArgMatches;
 use clap::error::ErrorKind;
@@ -53,6 +53,11 @@ fn level_of(matches: &ArgMatches<'_>) -> Option<Isolation> {
         "serializable" => Some(Isolation::Serializable),
         "strict-snapshot" => Some(Isolation::StrictSnapshot),
         "snapshot" => Some(Isolation::Snapshot),
+        "prefix" => Some(Isolation::Prefix),
+        "causal" => Some(Isolation::Causal),
+        "read-atomic" => Some(Isolation::ReadAtomic),
+        "monotonic-atomic-view" => Some(Isolation::MonotonicAtomicView),
+        "read-committed" => Some(Isolation::ReadCommitted),
         _ => None,
     }
 }
@@ -87,14 +92,6 @@ fn explain_of<'a>(matches: &ArgMatches<'a>) -> Command<'a> {
     }
 }
 
-fn wanted_of<'a>(matches: &ArgMatches<'a>) -> PiecesWord<'a> {
-    match (matches.get_one::<u32>("piece"), matches.get_str("into")) {
-        (Some(piece), _) => PiecesWord::Piece(piece as usize),
-        (None, Some(directory)) => PiecesWord::Into(directory),
-        (None, None) => PiecesWord::List,
-    }
-}
-
 fn command_of<'a>(name: &str, matches: &ArgMatches<'a>) -> Option<Command<'a>> {
     match name {
         "encode" => Some(Command::Encode),
@@ -114,10 +111,6 @@ fn command_of<'a>(name: &str, matches: &ArgMatches<'a>) -> Option<Command<'a>> {
         "stats" => Some(Command::Stats),
         "explain" => Some(explain_of(matches)),
         "audit" => Some(Command::Audit(audit_of(matches))),
-        "pieces" => Some(Command::Pieces {
-            size: matches.get_one::<u32>("size")? as usize,
-            wanted: wanted_of(matches),
-        }),
         "split" => Some(Command::Split),
         _ => None,
     }

@@ -28,8 +28,6 @@ pub enum Command<'a> {
     Explain { format: Format },
     /// Decide whether some serial order explains a log of any length.
     Audit(AuditWords<'a>),
-    /// Cut the log into pieces, of at least so many transactions.
-    Pieces { size: usize, wanted: PiecesWord<'a> },
     /// Write the log in which each committed transaction that writes is split in two.
     Split,
 }
@@ -60,17 +58,6 @@ pub struct AuditWords<'a> {
     pub quiet: bool,
     /// How far it is is to be told from time to time.
     pub progress: bool,
-}
-
-/// What is asked of the pieces of a log.
-#[derive(Clone, Copy, Debug, PartialEq, Eq)]
-pub enum PiecesWord<'a> {
-    /// How large each is.
-    List,
-    /// The log of this one, from 1.
-    Piece(usize),
-    /// The log of each in a file of this directory.
-    Into(&'a str),
 }
 
 /// A call of the program.

@@ -12,7 +12,7 @@ use Rattle.session_log.specs.Faults.{IsFault}
 use Rattle.serializability.proofs.Places.{Apart-from_IsDistinct}
 use Rattle.serializability.proofs.Listed.{IsDistinct-from_Apart}
 use Rattle.log_definitions.specs.WellFormed.{written}
-use Rattle.piece_laws.specs.Logs.{IsLog}
+use Rattle.log_laws.specs.Logs.{IsLog}
 use Rattle.log_definitions.specs.Unknown.{ops_in, txns_in}
 use Rattle.log_definitions.specs.WellFormed.{log_lines, session_twice, write_twice, session_fault, write_fault, limit_fault, list_fault, keys_in, is_aborted}
 use Rattle.log_definitions.proofs.Scanning.{neither}

@@ -5,7 +5,7 @@ use Rattle.session_log.specs.Text.{ClientSession, IsLegal}
 use Rattle.log_definitions.specs.Unknown.{resolved}
 use Rattle.log_definitions.proofs.OnlyTaken.{some_where_serial}
 use Rattle.log_definitions.proofs.Settled.{IsLearnt}
-use Rattle.piece_laws.specs.Logs.{IsSoundLog, IsLog}
+use Rattle.log_laws.specs.Logs.{IsSoundLog, IsLog}
 use Rattle.part_laws.specs.Parts.{IsTxnPart, IsSessionPart, IsPart}
 use Rattle.part_laws.proofs.Thinned.{thinned_same, each_thinned}
 use Rattle.part_laws.proofs.Sessions.{txns_of_part}
@@ -15,7 +15,8 @@ use Rattle.part_laws.proofs.Chosen.{thinned_is_part, session_itself}
 use Rattle.log_parts.specs.Picked.{picked, is_kept, chosen}
 use Rattle.log_parts.proofs.Steps.{passes, some_picked}
 use Rattle.deciding.specs.Decides.{HasNoOrder}
-use Rattle.judging.proofs.Resolved.{serial_resolved, some_order, resolved_is_log}
+use Rattle.judging.proofs.Resolved.{serial_resolved, some_order}
+use Rattle.log_laws.proofs.Resolved.{resolved_is_log}
 
 pub part_log : (ss part : List ClientSession) → IsLog ss → IsPart ss part → IsLog part
 part_log ss part log h =

@@ -8,7 +8,7 @@ ghost use Rattle.log_definitions.specs.Unknown.{resolved};
 ghost use Rattle.log_definitions.specs.WellFormed.{IsWellFormed};
 ghost use Rattle.log_definitions.specs.Serial.{committed_in, IsSerialOrder};
 ghost use Rattle.log_definitions.specs.Numbers.{log_of};
-ghost use Rattle.piece_laws.specs.Logs.{IsSoundLog, IsLog};
+ghost use Rattle.log_laws.specs.Logs.{IsSoundLog, IsLog};
 ghost use Rattle.judging.specs.Limits.{IsOver};
 ghost use Rattle.judging.specs.Judges.{IsVerdict, IsInVain};
 ghost use Rattle.judging.specs.declared.level.Level.TheVariants.{Serializable};

@@ -4,7 +4,7 @@ ghost use Rattle.std.specs.Prelude.{◌≡◌, ◌≤◌, List, length, map, IfO
 ghost use Rattle.std.specs.List.{AllByRecursion};
 ghost use Rattle.session_log.specs.Text.{ClientSession, IsLegal, view};
 ghost use Rattle.log_definitions.specs.Unknown.{resolved};
-ghost use Rattle.piece_laws.specs.Logs.{IsSoundLog, IsLog};
+ghost use Rattle.log_laws.specs.Logs.{IsSoundLog, IsLog};
 ghost use Rattle.judging.specs.Made.{IsToldPart};
 
 use crate::flags::{all_flags, count_flags, flags_in_whole, join_flags, set_flag};

@@ -2,7 +2,7 @@
 
 ghost use Rattle.std.specs.Prelude.{◌≡◌, List, map, IfOk};
 ghost use Rattle.session_log.specs.Text.{ClientSession, view};
-ghost use Rattle.piece_laws.specs.Logs.{IsLog};
+ghost use Rattle.log_laws.specs.Logs.{IsLog};
 ghost use Rattle.log_parts.specs.Picked.{flags_view, chosen};
 ghost use Rattle.judging.specs.Finds.{IsFound, IsAttempt};
 ghost use Rattle.judging.specs.declared.means.JudgeMeans.{JudgeMeans};

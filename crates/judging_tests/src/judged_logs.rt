@@ -1,7 +1,7 @@
 ghost use Rattle.std.specs.Prelude.{◌≡◌, map};
 ghost use Rattle.std.specs.List.{AllByRecursion};
 ghost use Rattle.session_log.specs.Text.{view, IsLegal};
-ghost use Rattle.piece_laws.specs.Logs.{IsSoundLog, IsLog};
+ghost use Rattle.log_laws.specs.Logs.{IsSoundLog, IsLog};
 
 use cube_machine::{Budget, StrategyName};
 use deciding::Means;

@@ -17,8 +17,8 @@ use Rattle.log_definitions.specs.WellFormed as judged
 use Rattle.log_definitions.proofs.Refused.{NotMemory}
 use Rattle.log_definitions.proofs.Room.{lines_bytes}
 use Rattle.log_definitions.proofs.Scanning.{numbers}
-use Rattle.piece_laws.specs.Logs.{IsSoundLog}
-use Rattle.piece_laws.proofs.Sound.{sound_where_legal}
+use Rattle.log_laws.specs.Logs.{IsSoundLog}
+use Rattle.log_laws.proofs.Sound.{sound_where_legal}
 use Rattle.long_log_definitions.specs.LongLog.{size_fault, list_fault, IsLongLog, IsLongLogFault, memory, size, grammar, list, HasOwnNumbers}
 use Rattle.long_log_definitions.proofs.Repeats.{apart_where_none, none_where_apart}
 use Rattle.long_log_definitions.proofs.Lines.{session_numbers, written_identities}

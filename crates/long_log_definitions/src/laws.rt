@@ -9,7 +9,7 @@ ghost use Rattle.session_log.specs.declared.fault.LogFault.TheVariants.{Memory, 
 ghost use Rattle.session_log.specs.declared.fault.Limit.{Limit};
 ghost use Rattle.log_definitions.specs.WellFormed.{IsWellFormed, IsLogFault, limit_fault};
 ghost use Rattle.log_definitions.specs.WellFormed.{log_lines};
-ghost use Rattle.piece_laws.specs.Logs.{IsSoundLog};
+ghost use Rattle.log_laws.specs.Logs.{IsSoundLog};
 ghost use Rattle.long_log_definitions.specs.LongLog.{IsLongLog, IsLongLogFault, HasOwnNumbers};
 ghost use Rattle.long_log_definitions.specs.LongLog.{list_fault};
 ghost use Rattle.long_log_definitions.specs.declared.limits.TheConstants.{MAX_LONG_LOG_BYTES};

@@ -13,12 +13,12 @@ use Rattle.log_definitions.proofs.Members.{each_member}
 use Rattle.log_definitions.proofs.Renumbered.{Orders}
 use Rattle.log_definitions.proofs.OnlyTaken.{orders_from_serial, serial_from_orders}
 use Rattle.log_definitions.proofs.Settled.{IsLearnt}
-use Rattle.piece_laws.specs.Logs.{IsLearntLog}
-use Rattle.piece_laws.proofs.Lines.{IsLine}
-use Rattle.piece_laws.proofs.Left.{numbers_of, split}
-use Rattle.piece_laws.proofs.Orders.{InOrder, one_place, index_of, found, number, order_of, orders_from_line}
-use Rattle.piece_laws.proofs.Sessions.{in_order}
-use Rattle.piece_laws.proofs.Shifted.{nodes_are}
+use Rattle.log_laws.specs.Logs.{IsLearntLog}
+use Rattle.log_laws.proofs.Lines.{IsLine}
+use Rattle.log_laws.proofs.Txns.{numbers_of, split}
+use Rattle.log_laws.proofs.Orders.{InOrder, one_place, index_of, found, number, order_of, orders_from_line}
+use Rattle.log_laws.proofs.Sessions.{in_order}
+use Rattle.log_laws.proofs.Shifted.{nodes_are}
 use Rattle.order_checks.specs.Left.{left_in, Ends, IsAt}
 use Rattle.order_checks.specs.Numbered.{nodes_of, places_from, NamesEach, EndsBy}
 use Rattle.order_checks.proofs.Left.{all_left}

@@ -13,9 +13,9 @@ use Rattle.serializability.proofs.Serial.{behind_zero, node_of}
 use Rattle.log_definitions.specs.Serial.{Committed, node_in, initial, Replays}
 use Rattle.log_definitions.proofs.Members.{each_member}
 use Rattle.log_definitions.proofs.Renumbered.{Orders, session_at, ops_at, begun_at, ended_at}
-use Rattle.piece_laws.proofs.Lines.{MayPrecede, EachPair, IsLine, ops_along}
-use Rattle.piece_laws.proofs.Lists.{first_or_behind}
-use Rattle.piece_laws.proofs.Orders.{InOrder, pair_at}
+use Rattle.log_laws.proofs.Lines.{MayPrecede, EachPair, IsLine, ops_along}
+use Rattle.log_laws.proofs.Lists.{first_or_behind}
+use Rattle.log_laws.proofs.Orders.{InOrder, pair_at}
 use Rattle.order_checks.specs.Numbered.{NamesEach}
 
 named : (nodes : List Committed) (order : List ℕ) → ((v : ℕ) → Has v order → (0 < v) × (v ≤ length nodes)) → (line : List Committed) × NamesEach nodes order line

@@ -12,9 +12,9 @@ use Rattle.serializability.proofs.Listed.{Has-from_any, any-from_Has}
 use Rattle.log_definitions.specs.Unknown.{ops_in}
 use Rattle.log_definitions.specs.WellFormed.{written}
 use Rattle.log_definitions.proofs.Chosen.{Has-written}
-use Rattle.piece_laws.specs.Logs.{has_txns}
-use Rattle.piece_laws.proofs.Lists.{first_or_behind, of_kept, kept as keeps}
-use Rattle.piece_laws.proofs.Identities.{ops_by, ops_in-cons}
+use Rattle.log_laws.specs.Logs.{has_txns}
+use Rattle.log_laws.proofs.Lists.{first_or_behind, of_kept, kept as keeps}
+use Rattle.log_laws.proofs.Identities.{ops_by, ops_in-cons}
 use Rattle.part_laws.specs.Parts.{IsThinned, done, left, kept, IsTxnPart, IsSessionPart}
 use Rattle.part_laws.specs.Chosen.{Flags, flagged, all_flagged, stays, thin_txn, thin, is_source, part_by, ChosenIsPart, ThinnedIsPart}
 use Rattle.part_laws.proofs.Thinned.{thinned_same, thinned_mapped, thinned_trans, thinned_filter, was_in}

@@ -6,7 +6,7 @@ use Rattle.session_log.specs.declared.session.Op.{Op}
 use Rattle.session_log.specs.declared.session.Op.TheVariants.{Read, Write}
 use Rattle.log_definitions.specs.Unknown.{ops_in}
 use Rattle.log_definitions.specs.WellFormed.{written}
-use Rattle.piece_laws.specs.Logs.{IsSoundLog, present}
+use Rattle.log_laws.specs.Logs.{IsSoundLog, present}
 use Rattle.part_laws.specs.Parts.{IsThinned, IsSessionPart, IsPart}
 
 -- whether a transaction is flagged: by its session's number and its place in the session from 1,

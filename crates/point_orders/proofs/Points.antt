@@ -9,8 +9,8 @@ use Rattle.std.proofs.Math.Path.{fun_ext}
 use Rattle.session_log.specs.Text.{ClientSession, Transaction}
 use Rattle.log_definitions.specs.Unknown.{is_committed}
 use Rattle.log_definitions.specs.Serial.{Committed, committed_of, committed_in, node_in, node_of}
-use Rattle.piece_laws.specs.Logs.{IsLearntLog}
-use Rattle.piece_laws.proofs.Sessions.{nodes_from, nodes_of}
+use Rattle.log_laws.specs.Logs.{IsLearntLog}
+use Rattle.log_laws.proofs.Sessions.{nodes_from, nodes_of}
 use Rattle.session_history.specs.Tables.{name_in}
 use Rattle.level_laws.specs.Snapshot.{Point, snapshot, commit}
 use Rattle.session_log.specs.Text.{is_write}

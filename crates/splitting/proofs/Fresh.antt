@@ -16,18 +16,19 @@ use Rattle.log_definitions.specs.Unknown.{ops_in, txns_in, resolved}
 use Rattle.log_definitions.specs.WellFormed.{written}
 use Rattle.log_definitions.proofs.Members.{member}
 use Rattle.log_definitions.proofs.Settled.{learnt_resolved, ops_resolved}
-use Rattle.piece_laws.specs.Logs.{IsLog, HasOrder}
-use Rattle.piece_laws.proofs.Lists.{of_mapped, of_flat}
-use Rattle.piece_laws.proofs.Sessions.{le_true}
-use Rattle.piece_laws.proofs.Given.{test_le}
-use Rattle.level_laws.specs.Snapshot.{HasSnapshotOrder}
+use Rattle.log_laws.specs.Logs.{IsLog, HasOrder}
+use Rattle.log_laws.proofs.Lists.{of_mapped, of_flat, test_le}
+use Rattle.log_laws.proofs.Sessions.{le_true}
+use Rattle.level_laws.specs.Snapshot.{HasSnapshotOrder, HasPrefixOrder}
 use Rattle.level_laws.specs.Split.{Locks, HasKey, split_writers}
 use Rattle.level_laws.proofs.Legal.{split_is_log, resolved_split_is_log}
 use Rattle.level_laws.proofs.Writers.{snapshot_by_writers}
 use Rattle.level_laws.proofs.Fresh.{same_behind}
+use Rattle.level_laws.specs.Prefix.{no_locks}
+use Rattle.level_laws.proofs.Prefix.{prefix_by_split, bare_split_log}
 use Rattle.level_laws.proofs.Doubled.{same_place}
 use Rattle.splitting.specs.Locks.{leading, most_leading, longest, largest, lock_key, marks, locks_of, refusal, no_room, HasRoom}
-use Rattle.splitting.specs.Laws.{LocksAreFresh, SnapshotBySplitLog, SnapshotByResolvedSplit}
+use Rattle.splitting.specs.Laws.{LocksAreFresh, SnapshotBySplitLog, SnapshotByResolvedSplit, PrefixBySplitLog}
 use Rattle.splitting.proofs.Greatest.{within_greatest}
 
 -- ---- keys
@@ -156,6 +157,7 @@ locks_are_fresh ss legal sound room = (
 )
 
 pub snapshot_by_split_log : SnapshotBySplitLog
+unfolding locks_of
 snapshot_by_split_log ss log room =
     let names = locks_are_fresh ss log.legal log.sound room in
     let same : resolved ss ≡ ss = learnt_resolved ss log.learnt in
@@ -164,15 +166,22 @@ snapshot_by_split_log ss log room =
 -- ---- where outcomes are unknown: the names are those of the operations alone
 same_locks : (a b : List ClientSession) → ops_in a ≡ ops_in b → locks_of a ≡ locks_of b
 unfolding locks_of
-same_locks a b e = ap (λ ops. record { key = lock_key (most_leading ops + 1); identity = λ v. largest ops + 1 + place_of (written ops) v }) e
+same_locks a b e = ap (λ ops. record { key = lock_key (most_leading ops + 1); identity = λ v. largest ops + 1 + place_of (written ops) v; taken = true }) e
 
 same_room : (a b : List ClientSession) → ops_in a ≡ ops_in b → no_room a ≡ no_room b
 unfolding no_room
 same_room a b e = ap (λ ops. refusal (most_leading ops + 1) (longest ops) (largest ops) (length (written ops))) e
 
 pub snapshot_by_resolved_split : SnapshotByResolvedSplit
+unfolding locks_of
 snapshot_by_resolved_split ss legal sound room =
     let same : ops_in (resolved ss) ≡ ops_in ss = ops_resolved ss in
     let names = locks_are_fresh ss legal sound (sym (same_room (resolved ss) ss same) ∙ room) in
     let P : Locks → Type 0 = λ l. IsLog (split_writers l (resolved ss)) × (HasSnapshotOrder ss ↔ HasOrder (split_writers l (resolved ss))) in
     subst P (sym (same_locks (resolved ss) ss same)) ((resolved_split_is_log ss (locks_of ss) legal sound names.0 names.1).1, snapshot_by_writers ss (locks_of ss) sound names.0)
+
+-- ---- without locks
+pub prefix_by_split_log : PrefixBySplitLog
+prefix_by_split_log ss log =
+    let P : List ClientSession → Type 0 = λ l. IsLog (split_writers no_locks l) × (HasPrefixOrder ss ↔ HasOrder (split_writers no_locks l)) in
+    subst P (learnt_resolved ss log.learnt) (bare_split_log ss log.legal log.sound, prefix_by_split ss log.sound)

@@ -6,7 +6,7 @@ use Rattle.log_definitions.specs.WellFormed.{written}
 use Rattle.session_log.specs.Text.{key_of}
 use Rattle.log_definitions.proofs.Scanning.{written-append}
 use Rattle.std.proofs.lemmas.List.{length-append}
-use Rattle.piece_laws.proofs.Lists.{first_or_behind}
+use Rattle.log_laws.proofs.Lists.{first_or_behind}
 use Rattle.splitting.specs.Locks.{greatest, wid_of, leading, most_leading, most_marks}
 use Rattle.splitting.specs.Room.{Finds}
 use Rattle.splitting.specs.declared.survey.Survey.{Survey}

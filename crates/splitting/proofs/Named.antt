@@ -41,16 +41,16 @@ give_behind locks last (x ∷ xs) ys h =
     subst (λ n. GiveBehind locks n ys) same (give_behind locks (last + 1) xs ys h.1)
 
 pub named_front : (locks : Locks) (marks last : ℕ) (xs ys : List Op) → AreNamed locks marks last (xs ++ ys) → AreNamed locks marks last xs
-named_front locks marks last xs ys h = record { keys = h.keys; identities = give_front locks last (written xs) (written ys) (subst (GiveBehind locks last) (written-append xs ys) h.identities) }
+named_front locks marks last xs ys h = record { taken = h.taken; keys = h.keys; identities = give_front locks last (written xs) (written ys) (subst (GiveBehind locks last) (written-append xs ys) h.identities) }
 
 pub named_behind : (locks : Locks) (marks last : ℕ) (xs ys : List Op) → AreNamed locks marks last (xs ++ ys) → AreNamed locks marks (last + length (written xs)) ys
-named_behind locks marks last xs ys h = record { keys = h.keys; identities = give_behind locks last (written xs) (written ys) (subst (GiveBehind locks last) (written-append xs ys) h.identities) }
+named_behind locks marks last xs ys h = record { taken = h.taken; keys = h.keys; identities = give_behind locks last (written xs) (written ys) (subst (GiveBehind locks last) (written-append xs ys) h.identities) }
 
 pub named_read : (locks : Locks) (marks last : ℕ) (key : List ℕ) (wid : ℕ) (ops : List Op) → AreNamed locks marks last (Read key wid ∷ ops) → AreNamed locks marks last ops
-named_read locks marks last key wid ops h = record { keys = h.keys; identities = h.identities }
+named_read locks marks last key wid ops h = record { taken = h.taken; keys = h.keys; identities = h.identities }
 
 pub named_write : (locks : Locks) (marks last : ℕ) (key : List ℕ) (wid : ℕ) (ops : List Op) → AreNamed locks marks last (Write key wid ∷ ops) → (locks.identity wid ≡ last + 1) × AreNamed locks marks (last + 1) ops
-named_write locks marks last key wid ops h = (h.identities.0, record { keys = h.keys; identities = h.identities.1 })
+named_write locks marks last key wid ops h = (h.identities.0, record { taken = h.taken; keys = h.keys; identities = h.identities.1 })
 
 -- ---- lists from a place on
 pub item_behind : (ops : List Op) (i : ℕ) (item op : Op) → i < length ops → item ≡ get_or ops i item → item ≡ op → drop i ops ≡ op ∷ drop (i + 1) ops

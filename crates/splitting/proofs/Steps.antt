@@ -36,7 +36,7 @@ pub comes_first : (h : Halves) → h.written.keys ≡ [] → lists_in h ≡ reco
 comes_first h none is marks last ops = record {
   before = [];
   written = λ key. ap (λ l. list_any (λ k. is_eq (slice_cmp nat_cmp key k.now)) l) none;
-  lists = λ locks named. ap (λ l. with_behind locks [] l ops) is;
+  lists = λ locks named. (let taken : locks.taken ≡ true = named.taken in ap (λ l. with_behind locks [] l ops) is ∙ rw taken refl);
 }
 
 -- ---- a read

@@ -9,7 +9,7 @@ use Rattle.session_log.specs.declared.session.Op.{Op}
 use Rattle.log_definitions.specs.Unknown.{ops_in}
 use Rattle.log_definitions.specs.WellFormed.{written}
 use Rattle.log_definitions.proofs.Scanning.{written-append}
-use Rattle.piece_laws.proofs.Identities.{ops_in-cons}
+use Rattle.log_laws.proofs.Identities.{ops_in-cons}
 use Rattle.splitting.specs.Halves.{ops_by}
 
 -- ---- the front of a list with one more

@@ -77,5 +77,6 @@ named_of ss s f distinct =
           let none : largest (ops_in ss) + 0 ≡ largest (ops_in ss) = omega arith in
           subst (λ n. GiveBehind (locks_of ss) n (written (ops_in ss))) none (gives (locks_of ss) (largest (ops_in ss)) (written (ops_in ss)) (λ v. refl) (Apart-from_IsDistinct (written (ops_in ss)) distinct) [] (written (ops_in ss)) refl)
           );
+      taken = refl;
     } in
     subst (λ m. AreNamed (locks_of ss) m s.largest (ops_in ss)) (sym is.marks) (subst (λ l. AreNamed (locks_of ss) (marks ss) l (ops_in ss)) (sym is.largest) named)

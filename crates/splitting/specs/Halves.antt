@@ -7,7 +7,7 @@ use Rattle.std.specs.BTreeSet.{BTreeSet, contains_by}
 use Rattle.session_log.specs.Text.{Transaction}
 use Rattle.session_log.specs.declared.session.Op.{Op}
 use Rattle.level_laws.specs.Snapshot.{is_in, snapshot_reads, snapshot_reads_behind, rest, rest_behind}
-use Rattle.level_laws.specs.Split.{Locks, first_writes, first_writes_behind, take_lock, find_lock}
+use Rattle.level_laws.specs.Split.{Locks, locked_writes, first_writes_behind, take_lock, find_lock}
 use Rattle.level_laws.specs.Split.{split_txn, is_writer}
 use Rattle.splitting.specs.Room.{AreNamed}
 use Rattle.splitting.specs.declared.halves.Halves.{Halves}
@@ -24,8 +24,8 @@ pub record Lists : Type 0 where
 abbrev pub lists_of : Locks → List Op → Lists
 lists_of locks ops = record {
   reads = snapshot_reads ops;
-  takes = map (take_lock locks) (first_writes ops);
-  finds = map (find_lock locks) (first_writes ops);
+  takes = map (take_lock locks) (locked_writes locks ops);
+  finds = map (find_lock locks) (locked_writes locks ops);
   rest = rest ops;
 }
 

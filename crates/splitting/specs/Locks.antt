@@ -1,5 +1,5 @@
 -- How the locks of a log are named, and where there is no room for their names.
-use Rattle.std.specs.Prelude.{◌≡◌, ℕ, ◌+◌, ◌^◌, ◌==◌, max, if◌then◌else◌, nat_lt, List, [], ◌∷◌}
+use Rattle.std.specs.Prelude.{◌≡◌, ℕ, ◌+◌, ◌^◌, ◌==◌, true, max, if◌then◌else◌, nat_lt, List, [], ◌∷◌}
 use Rattle.std.specs.Prelude.{◌++◌, length, map, replicate, Option, Some, None}
 use Rattle.std.specs.List.{prefix_len}
 use Rattle.serializability.specs.Replay.{place_of}
@@ -61,6 +61,7 @@ unfoldable pub locks_of : List ClientSession → Locks
 locks_of ss = record {
   key = lock_key (marks ss);
   identity = λ v. largest (ops_in ss) + 1 + place_of (written (ops_in ss)) v;
+  taken = true;
 }
 
 -- Why locks that begin with so many underscores, the longest of a key of so many bytes, are no keys,

@@ -1,5 +1,5 @@
 -- What is known of the operations that are still to be split.
-use Rattle.std.specs.Prelude.{◌≡◌, ℕ, ◌+◌, ◌≤◌, ◌<◌, ◌^◌, List, [], ◌∷◌, length, max}
+use Rattle.std.specs.Prelude.{◌≡◌, ℕ, ◌+◌, ◌≤◌, ◌<◌, ◌^◌, IsTrue, List, [], ◌∷◌, length, max}
 use Rattle.std.specs.List.{AllByRecursion}
 use Rattle.session_log.specs.declared.session.Op.{Op}
 use Rattle.log_definitions.specs.WellFormed.{written}
@@ -30,3 +30,4 @@ GiveBehind locks last (wid ∷ wids) = (locks.identity wid ≡ last + 1)
 pub record AreNamed (locks : Locks) (marks last : ℕ) (ops : List Op) : Type 0 where
   pub keys : (key : List ℕ) → locks.key key ≡ lock_key marks key
   pub identities : GiveBehind locks last (written ops)
+  pub taken : IsTrue locks.taken

@@ -1,5 +1,5 @@
 use clap::Error;
-use cobra_words::{Command, Format, PiecesWord, Request, StrategyName, Words, words_of};
+use cobra_words::{Command, Format, Request, StrategyName, Words, words_of};
 use isolation::Isolation;
 use std::alloc::Global;
 use std::process::Abort;
@@ -79,12 +79,8 @@ fn refused_words(rt: HostRuntime) {
         "cobra_poly audit --format dot log",
         "cobra_poly audit --plain log",
         "cobra_poly check --size 3 log",
-        "cobra_poly pieces --piece 0 log",
-        "cobra_poly pieces --piece 1 --into d log",
-        "cobra_poly pieces --size 0 log",
-        "cobra_poly pieces --size 10000001 log",
-        "cobra_poly pieces --budget 3 log",
         "cobra_poly split --plain log",
+        "cobra_poly pieces log",
     ] {
         see_status(&rt, rt.alloc(), line, 2);
     }
@@ -145,7 +141,6 @@ fn texts_of_help(rt: HostRuntime) {
             "cobra_poly audit --help",
             "one over the formula may meet, 1 to 1000000 [default: 100000]\n",
         ),
-        ("cobra_poly pieces --help", "each as K.log, and as K.map"),
         ("cobra_poly split --help", "  0  the split log\n"),
     ] {
         see_text(&rt, rt.alloc(), line, part);
@@ -359,53 +354,4 @@ fn see_files(rt: &impl Abort, alloc: Global, line: &str, part: &str, order: &str
 fn files_of_audit(rt: HostRuntime) {
     let line = "cobra_poly audit --part some.log --order an.order log";
     see_files(&rt, rt.alloc(), line, "some.log", "an.order");
-}
-
-/// Whether these words ask for the piece of this number, or for all in this directory.
-fn wants(wanted: &PiecesWord<'_>, number: usize, directory: &str) -> bool {
-    match wanted {
-        PiecesWord::List => number == 0 && directory.is_empty(),
-        PiecesWord::Piece(piece) => *piece == number,
-        PiecesWord::Into(into) => *into == directory,
-    }
-}
-
-/// Whether a call is one of `pieces` of this size that asks for this.
-fn asks_for(request: &Request<'_>, least: usize, number: usize, directory: &str) -> bool {
-    match &request.command {
-        Command::Pieces { size, wanted } => *size == least && wants(wanted, number, directory),
-        _ => false,
-    }
-}
-
-/// Words are a call of `pieces` that asks for this.
-fn see_pieces(
-    rt: &impl Abort,
-    alloc: Global,
-    line: &str,
-    least: usize,
-    number: usize,
-    directory: &str,
-) {
-    let words = words(rt, alloc, line);
-    assert!(rt;
-        asks_for(&request(rt, alloc, &words), least, number, directory),
-        "{line}"
-    );
-}
-
-#[test]
-fn words_of_pieces(rt: HostRuntime) {
-    for (line, least, number, directory) in [
-        ("cobra_poly pieces --size 1 log", 1, 0, ""),
-        ("cobra_poly pieces --piece 17", 100_000, 17, ""),
-        (
-            "cobra_poly pieces --size 10000000 --into new log",
-            10_000_000,
-            0,
-            "new",
-        ),
-    ] {
-        see_pieces(&rt, rt.alloc(), line, least, number, directory);
-    }
 }

@@ -1,7 +1,7 @@
 use Rattle.std.proofs.Common.{map, inl, inr, sym, ap, ◌∙◌, subst}
 use Rattle.std.proofs.lemmas.Bool.{cases_Bool}
 use Rattle.session_log.specs.Text.{view}
-use Rattle.piece_laws.specs.Logs.{IsLog}
+use Rattle.log_laws.specs.Logs.{IsLog}
 use Rattle.level_laws.specs.Without.{without_moments}
 use Rattle.level_laws.proofs.Without.{legal_without, sound_without, log_without, resolved_without}
 use Rattle.audit_command.specs.Audited.{asks_strict, asks_plain, at_snapshot, IsWordWhere}
@@ -18,6 +18,7 @@ plain_where-requires-clause-log g c κs within =
 
 pub returns : goal.returns
 returns g c = record {
+  rest = c.leave_out_moments.ensures;
   weaker = λ ss legal sound same states. (
       let other = without_moments ss in
       let legal_other = legal_without ss legal in

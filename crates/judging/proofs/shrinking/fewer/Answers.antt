@@ -1,7 +1,7 @@
 use Rattle.std.proofs.Common.{List, map, sym, subst}
 use Rattle.session_log.specs.Text.{view}
 use Rattle.session_log.specs.declared.session.Session.{Session}
-use Rattle.piece_laws.specs.Logs.{IsLog}
+use Rattle.log_laws.specs.Logs.{IsLog}
 use Rattle.judging.proofs.Verdicts.{told_is_log}
 use Rattle.judging.proofs.shrinking.fewer.Goals as goal
 

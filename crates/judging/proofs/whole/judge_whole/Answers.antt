@@ -5,8 +5,8 @@ use Rattle.serializability.proofs.Places.{Apart-from_IsDistinct}
 use Rattle.serializability.proofs.Listed.{IsDistinct-from_Apart}
 use Rattle.log_definitions.specs.Unknown.{ops_in}
 use Rattle.log_definitions.specs.WellFormed.{written}
-use Rattle.piece_laws.specs.Logs.{IsLog}
-use Rattle.judging.proofs.Resolved.{resolved_is_log}
+use Rattle.log_laws.specs.Logs.{IsLog}
+use Rattle.log_laws.proofs.Resolved.{resolved_is_log}
 use Rattle.judging.proofs.whole.judge_whole.Goals as goal
 
 pub resolve-requires-clause-writes : goal.resolve-requires-clause-writes

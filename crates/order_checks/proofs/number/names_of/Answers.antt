@@ -8,8 +8,8 @@ use Rattle.session_log.specs.declared.session.Session.{Session}
 use Rattle.session_log.specs.declared.session.Txn.{Txn}
 use Rattle.log_definitions.specs.Serial.{Committed}
 use Rattle.log_definitions.proofs.Settled.{IsLearnt}
-use Rattle.piece_laws.proofs.Left.{split}
-use Rattle.piece_laws.proofs.Shifted.{nodes_are}
+use Rattle.log_laws.proofs.Txns.{split}
+use Rattle.log_laws.proofs.Shifted.{nodes_are}
 use Rattle.order_checks.specs.Left.{nodes_from}
 use Rattle.order_checks.specs.Numbered.{nodes_of, names_of}
 use Rattle.order_checks.proofs.Names.{named_here}

@@ -1,5 +1,0 @@
-pub mod Views
-pub mod Firsts
-pub mod CutOffs
-pub mod Overs
-pub mod Loops

@@ -1,4 +1,0 @@
-pub mod Pieces
-pub mod Ops
-pub mod Reigns
-pub mod Kept

@@ -1,0 +1,188 @@
+//! Whether an order of numbered nodes keeps a level.
+
+ghost use Rattle.std.specs.Prelude.{◌≡◌, ◌+◌, ◌<◌, ℕ, List, map, slice_index, IsTrue, IfOk, IfSome};
+ghost use Rattle.session_log.specs.Text.{view};
+ghost use Rattle.log_laws.specs.Logs.{IsLearntLog, IsSoundLog};
+ghost use Rattle.seen_laws.specs.Seen.{IsLevelOrder};
+ghost use Rattle.level_checks.specs.Chains.{links_of};
+ghost use Rattle.level_checks.specs.Nodes.{brief_of};
+ghost use Rattle.level_checks.specs.Walk.{IsFollowed, Walked, IsWalk};
+
+use crate::node::{Node, indices_of, nodes_of};
+use crate::seen::{Row, judge};
+use crate::trace::trace;
+use crate::trail::Passed;
+use seen_laws::Level;
+use session_log::{Key, Session};
+use std::alloc::{AllocError, Global};
+use std::collections::BTreeMap;
+
+/// How many numbers the rows may have in all.
+const MOST_REACHES: usize = 0x1000_0000;
+
+/// How many writes may be passed for each operation, on the whole way.
+const MOST_PASSED: usize = 4096;
+
+/// The last node of a session that was taken: its number and its position, or 0.
+#[derive(Clone, Copy)]
+pub struct Last {
+    pub number: usize,
+    pub position: usize,
+}
+
+/// What was passed on the way: where the look back for each key begins, the writes, the position at
+/// which each identity was written, how far each node sees, marks, a row of zeros, the last node of each session, and how
+/// many writes may still be passed.
+#[derive(Drop)]
+struct Way<'a> {
+    table: BTreeMap<(u64, &'a Key), u64>,
+    entries: Vec<Passed>,
+    sources: BTreeMap<u64, usize>,
+    rows: Vec<Row>,
+    marks: Vec<usize>,
+    own: Vec<usize>,
+    last: Vec<Last>,
+    steps: usize,
+}
+
+/// The position of the last node of the session, where this one comes behind it there.
+fn follow(last: &mut [Last], session: usize, number: usize, position: usize) -> Option<usize>
+    ensures { IfSome result (IsFollowed last.old last.new session number position) }
+{
+    if session >= last.len() {
+        return None;
+    }
+    let before = last[session];
+    if number <= before.number {
+        return None;
+    }
+    last[session] = Last { number, position };
+    Some(before.position)
+}
+
+/// Takes the node with this number at this position.
+fn take<'a>(
+    alloc: Global,
+    level: Level,
+    nodes: &[Node<'a>],
+    indices: &[usize],
+    way: &mut Way<'a>,
+    position: usize,
+    number: usize,
+) -> Result<bool, AllocError>
+    ensures { IfOk result (λ is. IsTrue is → (order : List ℕ) (i : ℕ)
+        → position ≡ i + 1 → number ≡ slice_index order i
+        → Walked level indices.now (map brief_of nodes.now) order i (links_of way.old.table)
+        way.old.entries.items way.old.rows.items way.old.last.items
+        → Walked level indices.now (map brief_of nodes.now) order (i + 1) (links_of way.new.table)
+        way.new.entries.items way.new.rows.items way.new.last.items) }
+{
+    if number == 0 || number > nodes.len() {
+        return Ok(false);
+    }
+    let node = nodes[number - 1];
+    let index = usize::from(node.session);
+    if index >= indices.len() {
+        return Ok(false);
+    }
+    let session = indices[index];
+    let Some(before) = follow(way.last.as_mut_slice(), session, number, position) else {
+        return Ok(false);
+    };
+    let traced = trace(
+        alloc,
+        &mut way.table,
+        &mut way.entries,
+        &mut way.sources,
+        position,
+        session,
+        node.ops,
+    )?;
+    let Some(looks) = traced else {
+        return Ok(false);
+    };
+    let kept = judge(
+        alloc,
+        level,
+        &way.entries,
+        &looks,
+        &mut way.rows,
+        way.marks.as_mut_slice(),
+        way.own.as_mut_slice(),
+        before,
+        session,
+        position,
+        &mut way.steps,
+    )?;
+    Ok(kept)
+}
+
+/// How many writes may be passed on the whole way, so that the time is linear.
+fn most_passed(nodes: &[Node]) -> usize {
+    let mut count: usize = 1024;
+    for node in nodes {
+        count = count.saturating_add(node.ops.len());
+    }
+    count.saturating_mul(MOST_PASSED)
+}
+
+/// Whether the rows of so many nodes, for so many sessions, have few enough numbers.
+fn is_room(level: Level, nodes: usize, width: usize) -> bool {
+    match level {
+        Level::ReadCommitted | Level::MonotonicAtomicView | Level::ReadAtomic => true,
+        Level::Causal => width == 0 || nodes <= MOST_REACHES / width,
+    }
+}
+
+/// Whether the order keeps the level.
+fn walk(
+    alloc: Global,
+    level: Level,
+    nodes: &[Node],
+    indices: &[usize],
+    width: usize,
+    order: &[usize],
+) -> Result<bool, AllocError>
+    ensures { IfOk result (λ is. IsTrue is
+        → IsWalk level indices.now (map brief_of nodes.now) order.now) }
+{
+    if order.len() != nodes.len() || !is_room(level, order.len(), width) {
+        return Ok(false);
+    }
+    let mut way = Way {
+        table: BTreeMap::new(alloc),
+        entries: Vec::new(alloc),
+        sources: BTreeMap::new(alloc),
+        rows: Vec::new(alloc),
+        marks: vec![in alloc; 0; order.len() + 1]?,
+        own: vec![in alloc; 0; width]?,
+        last: vec![in alloc; Last {
+            number: 0,
+            position: 0
+        }; width]?,
+        steps: most_passed(nodes),
+    };
+    for (i, number) in order.iter().enumerate() {
+        if !take(alloc, level, nodes, indices, &mut way, i + 1, *number)? {
+            return Ok(false);
+        }
+    }
+    Ok(true)
+}
+
+/// Whether this order of these sessions, whose outcomes are known, keeps the level: by the numbers
+/// of their committed transactions, from 1, by session and then by place.
+pub fn keeps_level(
+    alloc: Global,
+    level: Level,
+    sessions: &[Session],
+    order: &[usize],
+) -> Result<bool, AllocError>
+    ensures yes { IfOk result (λ keeps. IsTrue keeps → IsLearntLog (map view sessions.now)
+        → IsSoundLog (map view sessions.now)
+        → IsLevelOrder level (map view sessions.now) order.now) }
+{
+    let nodes = nodes_of(alloc, sessions)?;
+    let indices = indices_of(alloc, sessions)?;
+    walk(alloc, level, &nodes, &indices, sessions.len(), order)
+}

@@ -1,4 +1,0 @@
-pub mod Cut
-pub mod Held
-pub mod Logs
-pub mod Pieces

@@ -1,4 +1,0 @@
-pub mod Folders
-pub mod Faults
-pub mod Files
-pub mod Told
