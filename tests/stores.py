@@ -4,7 +4,7 @@
 H2, HSQLDB and Derby run in the process of their clients, by JDBC. PostgreSQL, MariaDB, Redis and etcd are started here, as a user that is not root, with all that they have in a temporary folder and on
 sockets in it, etcd on ports of this machine; where a package of Debian's is missing it is installed, and what cannot be had is passed over,
 with a note. Each way of a store promises a level, or none: each of its logs must keep that level, also where connections are cut, and some
-log must break the level above it, or where nothing is promised snapshot isolation. Logs are judged by `audit --level`, and a long one of
+log must break a level above it, or where nothing is promised one of the weaker levels. Logs are judged by `audit --level`, and a long one of
 each sound way is too, of LARGE transactions; each must be decided. For each way a line says how many transactions and seconds there were.
 Last line: 'stores: N passed, M failed'."""
 import argparse, contextlib, functools, http.client, os, pwd, re, shutil, socket, subprocess, sys, tempfile, time
@@ -223,31 +223,32 @@ STORES = {
     'H2': (lambda: embedded('h2.jar', 'jdbc:h2:mem:stores;DB_CLOSE_DELAY=-1;LOCK_TIMEOUT=5000'), [
         Way('serializable', 'snapshot', 'serializable'), Way('serializable kill=20', 'snapshot'), Way('serializable moments=1', 'strict-snapshot'),
         Way('snapshot', 'snapshot', 'serializable'), Way('repeatable-read', 'snapshot', 'serializable'),
-        Way('read-committed', None, 'snapshot'), Way('read-uncommitted', None, 'snapshot')]),
+        Way('read-committed', 'monotonic-atomic-view', 'read-atomic'), Way('read-uncommitted', None, 'read-committed')]),
     'HSQLDB': (lambda: embedded('hsqldb.jar', 'jdbc:hsqldb:mem:stores'), [
         Way('serializable ;hsqldb.tx=locks', 'serializable', part=5), Way('serializable ;hsqldb.tx=mvlocks kill=20', 'serializable', part=5),
         Way('serializable ;hsqldb.tx=locks moments=1', 'strict-serializable'), Way('repeatable-read ;hsqldb.tx=locks', 'serializable', part=5),
         Way('serializable ;hsqldb.tx=mvcc', 'snapshot', 'serializable'), Way('repeatable-read ;hsqldb.tx=mvcc', 'snapshot', 'serializable'),
-        Way('read-committed ;hsqldb.tx=locks', None, 'snapshot'), Way('read-committed ;hsqldb.tx=mvcc', None, 'snapshot'),
-        Way('read-uncommitted ;hsqldb.tx=mvcc', None, 'snapshot')]),
+        Way('read-committed ;hsqldb.tx=locks', 'monotonic-atomic-view', 'read-atomic', part=5),
+        Way('read-committed ;hsqldb.tx=mvcc', 'monotonic-atomic-view', 'read-atomic'),
+        Way('read-uncommitted ;hsqldb.tx=mvcc', 'monotonic-atomic-view', 'read-atomic')]),
     'Derby': (lambda: embedded('derby.jar', 'jdbc:derby:memory:stores;create=true'), [
         Way('serializable', 'serializable', part=5), Way('serializable kill=20', 'serializable', part=5),
         Way('serializable moments=1', 'strict-serializable'), Way('repeatable-read', 'serializable', part=5),
-        Way('read-committed', None, 'snapshot'), Way('read-uncommitted', None, 'snapshot')]),
+        Way('read-committed', 'read-committed', 'read-atomic', part=5), Way('read-uncommitted', None, 'read-committed')]),
     'PostgreSQL': (postgresql, [
         Way('', 'serializable'), Way('--kill 20', 'serializable'), Way('--moments all', 'strict-serializable'),
         Way('--level repeatable-read', 'snapshot', 'serializable'), Way('--level repeatable-read --moments all', 'strict-snapshot'),
-        Way('--level read-committed', None, 'snapshot')]),
+        Way('--level read-committed', 'monotonic-atomic-view', 'read-atomic')]),
     'MariaDB': (mariadb, [
         Way('', 'serializable'), Way('--kill 20', 'serializable'), Way('--moments all', 'strict-serializable'),
         Way('--level repeatable-read --snapshot-isolation on', 'snapshot', 'serializable'),
         Way('--level repeatable-read --snapshot-isolation on --kill 20', 'snapshot'),
         Way('--level repeatable-read --snapshot-isolation on --moments all', 'strict-snapshot'),
-        Way('--level repeatable-read --snapshot-isolation off', None, 'snapshot'),
-        Way('--level read-committed', None, 'snapshot'), Way('--level read-uncommitted', None, 'snapshot')]),
+        Way('--level repeatable-read --snapshot-isolation off', 'prefix', 'snapshot'),
+        Way('--level read-committed', 'monotonic-atomic-view', 'read-atomic'), Way('--level read-uncommitted', None, 'read-committed')]),
     'Redis': (redis, [
         Way('', 'serializable'), Way('--kill 20', 'serializable'), Way('--moments all', 'strict-serializable'),
-        Way('--level multi', None, 'snapshot')]),
+        Way('--level multi', 'monotonic-atomic-view', 'read-atomic')]),
     'etcd': (etcd, [
         Way('', 'serializable', part=2), Way('--kill 20', 'serializable', part=2), Way('--moments all', 'strict-serializable'),
         Way('--level snapshot', 'snapshot', 'serializable', part=2), Way('--level snapshot --moments all', 'strict-snapshot'),
