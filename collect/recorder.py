@@ -204,7 +204,7 @@ class Recorder:
         self._numbers, self._parts, self._idle = itertools.count(*self._share), [], []
         self._open, self._taken = {}, set()
         self._counts, self._strange, self._left_open, self._warnings = collections.Counter(), None, [], None
-        self._carried, self._dropped, self._sessions, self._late, self._last_round = [], [], [], [], 0
+        self._carried, self._dropped, self._sessions, self._late, self._last_round, self._labels = [], [], [], [], 0, []
         self._closed, self._process = False, os.getpid()
         self._durable, self._rounds, self._transact, self._patience, self._bound = durable, rounds, transact, patience, bound
         if rounds:
@@ -292,6 +292,11 @@ class Recorder:
         atexit.unregister(self._at_exit)
         self._check_free_path('; this run is in ' + new)
         os.replace(new, self.path)
+        if self._labels:
+            with open(self.path + '.labels', 'w', encoding='utf-8', newline='\n') as out:
+                out.writelines(self._labels)
+        elif self._may_replace and os.path.exists(self.path + '.labels'):
+            os.remove(self.path + '.labels')  # of the log that stood there
         shutil.rmtree(self._folder, ignore_errors=True)
 
     def _worth_little(self):
@@ -730,10 +735,17 @@ class Session:
         # another client may have had this part before
         self._first_write = part.writes + 1
 
-    def transaction(self, commit=None):
+    def transaction(self, commit=None, label=None):
         """Begins a transaction: before its first statement is sent. Where `commit` is given, leaving its block calls it, and where it gives
-        back False the transaction was aborted; without it the block itself commits in the store, as its last statement."""
-        return Transaction(self, commit)
+        back False the transaction was aborted; without it the block itself commits in the store, as its last statement. `label` says on a
+        line what it is for: PATH.labels has that, but for a log in rounds."""
+        if label is not None and not (label.strip() and label.isprintable()):
+            raise Misuse('a label is printable and on one line, and not %r' % (label,))
+        txn = Transaction(self, commit)
+        if label is not None and not self._run._rounds:
+            with self._run._turn:
+                self._run._labels.append('%s %s\n' % (txn.name.replace('.', ' '), label))
+        return txn
 
     def close(self):
         """Leaves; a transaction that is open ends as unknown."""
