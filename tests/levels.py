@@ -231,7 +231,7 @@ def wrong_rows():
 def logs(cases, seed, once):
     yield from generate.examples((1, 2, 3))
     yield from (('made log %d' % number, level_model.made_text(number)) for number in range(seed, seed + cases))
-    yield from (('larger log %d' % number, larger(number)) for number in range(seed, seed + LARGER))
+    yield from (('larger log %d' % number, larger(number)) for number in range(LARGER))
     for number in range(seed, seed + once):
         name = 'made log %d' if number % SAMPLE == 0 else 'asked once: made log %d'
         yield name % number, level_model.made_text(number)
