@@ -10,7 +10,7 @@ use Rattle.judging.proofs.below.found_by.Goals as goal
 pub returns-then-refutes : goal.returns-then-refutes
 returns-then-refutes c =
     let ss = map view c.args.log.now in
-    let evidence = c.in-Evidence.evidence.now in
+    let evidence = c.in-Evidence.evidence in
     let log = c.requires.log in
     let right = sym c.refutes.ensures.exact ∙ c.if-refutes.true in
     let none = c.refutes.ensures.none (subst IsTrue (sym c.if-refutes.true) tt) log.sound log.learnt in
