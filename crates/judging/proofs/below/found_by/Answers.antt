@@ -1,5 +1,4 @@
 use Rattle.std.proofs.Common.{map, sym, ◌∙◌, subst}
-use Rattle.std.specs.Prelude.{IsTrue}
 use Rattle.session_log.specs.Text.{view}
 use Rattle.judging.specs.Judges.{IsRefutedLog}
 use Rattle.judging.specs.declared.level.Level.{Level}
@@ -13,5 +12,5 @@ returns-then-refutes c =
     let evidence = c.in-Evidence.evidence in
     let log = c.requires.log in
     let right = sym c.refutes.ensures.exact ∙ c.if-refutes.true in
-    let none = c.refutes.ensures.none (subst IsTrue (sym c.if-refutes.true) tt) log.sound log.learnt in
+    let none = c.refutes.ensures.none c.if-refutes.true log.sound log.learnt in
     record { found = subst (λ (level : Level). IsRefutedLog level ss Overlooked) (sym c.requires.level) (refuted_below c.args.below ss evidence log right none) }
