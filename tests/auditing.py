@@ -9,7 +9,7 @@ that it keeps, its names and lines; it must have no order, by all of them and by
 transactions, too many sessions at once, parts at the limits of what is decided, refused ones with their codes, words that are none, files
 that cannot be read or written, names that a shell would run, and too little time.
 Last line: 'auditing: N passed, M failed'."""
-import argparse, collections, concurrent.futures, json, os, random, re, subprocess, sys, tempfile
+import argparse, bz2, collections, concurrent.futures, gzip, json, lzma, os, random, re, subprocess, sys, tempfile
 
 HERE = os.path.dirname(os.path.abspath(__file__))
 sys.path.insert(0, HERE)
@@ -251,6 +251,9 @@ ANSWERED = [
 REFUSED = [
     (b'session 1\r\nbegin\r\n', 1, 'L1', 'CR LF'),
     (b'\xef\xbb\xbfsession 1\n', 1, 'L1', 'byte order mark'),
+    (gzip.compress(b'session 1\n'), 1, 'L1', 'compressed by gzip'),
+    (bz2.compress(b'session 1\n'), 1, 'L1', 'compressed by bzip2'),
+    (lzma.compress(b'session 1\n'), 1, 'L1', 'compressed by xz'),
     (b'session 1\n\n', 2, 'L1', 'empty line'),
     (b'session 1\n# begin\n', 2, 'L1', 'comment'),
     (b'session 1\nbegin\nr\tx 0\n', 3, 'L1', 'tab'),

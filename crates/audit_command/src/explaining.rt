@@ -1,6 +1,7 @@
 //! Why a part has no order, in lines, in the names and the lines of the whole log.
 
 ghost use Rattle.std.specs.Prelude.{◌≡◌, ◌+◌, ◌<◌, ◌^◌, length, map, IfOk, IfSome, MatchOption, None};
+ghost use Rattle.std.specs.Option.{option_map, option_copied};
 ghost use Rattle.std.specs.List.{AllByRecursion};
 ghost use Rattle.session_log.specs.Text.{IsLegal, view};
 ghost use Rattle.log_definitions.specs.WellFormed.{log_lines};
@@ -57,6 +58,16 @@ pub fn searched(alloc: Global) -> Result<Explained, AllocError>
         text: Vec::from_slice(alloc, SEARCH_SHOWS)?,
         known_as: None,
     })
+}
+
+/// A name, where there is one.
+pub fn owned(alloc: Global, name: Option<&'static str>) -> Result<Option<String>, AllocError>
+    ensures text { IfOk result (λ text. option_map string_bytes text ≡ option_copied name) }
+{
+    match name {
+        Some(name) => Ok(Some(String::from_str(alloc, name)?)),
+        None => Ok(None),
+    }
 }
 
 /// Where the transactions of a part stand in the log of these sessions, which is of this version.

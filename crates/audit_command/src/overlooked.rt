@@ -1,16 +1,13 @@
 //! Why a part has no order of a level below prefix: by evidence, each place of which stands in a line.
 
 ghost use Rattle.std.specs.Prelude.{◌≡◌, true, map, IfOk};
-ghost use Rattle.std.specs.Option.{option_map};
-ghost use Rattle.std.specs.String.{string_bytes};
 ghost use Rattle.session_log.specs.Text.{view};
 ghost use Rattle.session_log.specs.Version.{first_line};
 ghost use Rattle.judging.specs.Made.{IsMadeOf};
 ghost use Rattle.level_refutations.specs.Refuted.{is_refuted};
-ghost use Rattle.tell_evidence.specs.Names.{evidence_name};
 ghost use Rattle.audit_command.specs.Why.{IsWhyBelow, IsNamedBelow};
 
-use crate::explaining::{Explained, MANY_LINES, places_of, searched};
+use crate::explaining::{Explained, MANY_LINES, owned, places_of, searched};
 use judging::RefutedPart;
 use level_proposals::{Proposal, find_break};
 use level_refutations::{Evidence, refutes};
@@ -18,17 +15,6 @@ use seen_laws::Level;
 use session_log::{Session, Version, line_count};
 use std::alloc::{AllocError, Global};
 use tell_evidence::{evidence_name, evidence_text};
-
-/// What the field calls what evidence shows, where it has a name.
-fn name_of(alloc: Global, below: Level, evidence: &Evidence) -> Result<Option<String>, AllocError>
-    ensures name { IfOk result (λ told. option_map string_bytes told
-        ≡ evidence_name below evidence.now) }
-{
-    match evidence_name(below, evidence) {
-        Some(name) => Ok(Some(String::from_str(alloc, name)?)),
-        None => Ok(None),
-    }
-}
 
 /// What evidence that is right says of a part of these sessions, which are those of a log of this
 /// version.
@@ -51,7 +37,7 @@ fn told(
     }
     let places = places_of(alloc, version, sessions, refuted)?;
     let text = evidence_text(alloc, &refuted.part, &places, evidence)?;
-    let known_as = name_of(alloc, below, evidence)?;
+    let known_as = owned(alloc, evidence_name(below, evidence))?;
     Ok(Explained { text, known_as })
 }
 

@@ -1,8 +1,7 @@
 //! Why a part has no order of the level at which it was judged.
 
-ghost use Rattle.std.specs.Prelude.{◌≡◌, map, IfOk, Some};
-ghost use Rattle.std.specs.Option.{option_map};
-ghost use Rattle.std.specs.String.{string_bytes};
+ghost use Rattle.std.specs.Prelude.{◌≡◌, map, IfOk};
+ghost use Rattle.std.specs.Option.{option_copied};
 ghost use Rattle.std.specs.List.{AllByRecursion};
 ghost use Rattle.session_log.specs.Text.{IsLegal, view};
 ghost use Rattle.session_log.specs.Version.{first_line};
@@ -10,7 +9,7 @@ ghost use Rattle.judging.specs.Made.{IsMadeOf};
 ghost use Rattle.audit_command.specs.Why.{IsWhyOf, IsWhy, IsNamedBy, IsNamed};
 ghost use Rattle.audit_command.specs.Why.{read_name, anomaly_name};
 
-use crate::explaining::{Explained, MANY_LINES, explain_serial, places_of, searched};
+use crate::explaining::{Explained, MANY_LINES, explain_serial, owned, places_of, searched};
 use crate::overlooked::explain_below;
 use deciding::Means;
 use judging::{Finding, JudgeMeans, Level, RefutedPart};
@@ -30,10 +29,6 @@ const NO_SERIAL_ORDER: &str = "why they have no serial order either:";
 
 /// What stands before steps.
 const FORCED: &str = "these orders of snapshots and commits are forced:";
-
-const ABORTED_READ: &str = "aborted read (G1a)";
-
-const INTERMEDIATE_READ: &str = "intermediate read (G1b)";
 
 /// What stands in the names of faults that snapshot isolation allows.
 const ALLOWED: &str = "(G2-";
@@ -61,13 +56,6 @@ fn below_snapshot(alloc: Global, explained: Explained) -> Result<Explained, Allo
         text,
         known_as: explained.known_as.filter(|name| !name.contains(ALLOWED)),
     })
-}
-
-fn owned(alloc: Global, name: Option<&'static str>) -> Result<Option<String>, AllocError> {
-    match name {
-        Some(name) => Ok(Some(String::from_str(alloc, name)?)),
-        None => Ok(None),
-    }
 }
 
 /// A text, and behind it a name, where there is one.
@@ -126,45 +114,27 @@ fn explain_points(
     }
 }
 
-fn named(alloc: Global, name: &str) -> Result<Option<String>, AllocError>
-    ensures text { IfOk result (λ text. option_map string_bytes text ≡ Some name.now) }
-{
-    Ok(Some(String::from_str(alloc, name)?))
-}
-
 /// What the field calls a read that is an anomaly, where it has a name.
-fn read_name(alloc: Global, kind: ReadAnomaly) -> Result<Option<String>, AllocError>
-    ensures name { IfOk result (λ text. option_map string_bytes text ≡ read_name kind) }
+fn read_name(kind: ReadAnomaly) -> Option<&'static str>
+    ensures name { option_copied result ≡ read_name kind }
 {
     match kind {
-        ReadAnomaly::Unknown => Ok(None),
-        ReadAnomaly::Aborted => named(alloc, ABORTED_READ),
-        ReadAnomaly::Intermediate => named(alloc, INTERMEDIATE_READ),
-        ReadAnomaly::OwnWriteMissed => named(alloc, "own write missed (internal)"),
-        ReadAnomaly::Future => named(alloc, "future read (internal)"),
-        ReadAnomaly::Split => named(alloc, "non-repeatable read (internal)"),
+        ReadAnomaly::Unknown => None,
+        ReadAnomaly::Aborted => Some("aborted read (G1a)"),
+        ReadAnomaly::Intermediate => Some("intermediate read (G1b)"),
+        ReadAnomaly::OwnWriteMissed => Some("own write missed (internal)"),
+        ReadAnomaly::Future => Some("future read (internal)"),
+        ReadAnomaly::Split => Some("non-repeatable read (internal)"),
     }
 }
 
 /// What the field calls an anomaly, where it has a name.
-fn anomaly_name(alloc: Global, anomaly: Anomaly) -> Result<Option<String>, AllocError>
-    ensures name { IfOk result (λ text. option_map string_bytes text ≡ anomaly_name anomaly) }
+fn anomaly_name(anomaly: Anomaly) -> Option<&'static str>
+    ensures name { option_copied result ≡ anomaly_name anomaly }
 {
     match anomaly {
-        Anomaly::Read { kind, .. } => read_name(alloc, kind),
-        Anomaly::LostUpdate { .. } => named(alloc, "lost update (G-single)"),
-    }
-}
-
-/// The name of a read that no order has, neither a serial one nor one of snapshots.
-fn name_at_snapshots(anomaly: Anomaly) -> Option<&'static str> {
-    match anomaly {
-        Anomaly::Read { kind, .. } => match kind {
-            ReadAnomaly::Aborted => Some(ABORTED_READ),
-            ReadAnomaly::Intermediate => Some(INTERMEDIATE_READ),
-            _ => None,
-        },
-        Anomaly::LostUpdate { .. } => None,
+        Anomaly::Read { kind, .. } => read_name(kind),
+        Anomaly::LostUpdate { .. } => Some("lost update (G-single)"),
     }
 }
 
@@ -182,7 +152,7 @@ fn explain_snapshot<R: Threads + Wait + Clock + Sync>(
 {
     if let Finding::Anomaly(anomaly) = refuted.finding {
         let explained = explain_serial(rt, alloc, version, sessions, refuted, means)?;
-        return with_name(alloc, explained.text, name_at_snapshots(anomaly));
+        return with_name(alloc, explained.text, anomaly_name(anomaly));
     }
     if let Some(explained) = explain_points(alloc, version, sessions, refuted, true)? {
         return Ok(explained);
@@ -205,7 +175,7 @@ fn explain_prefix<R: Threads + Wait + Clock + Sync>(
 {
     if let Finding::Anomaly(anomaly) = refuted.finding {
         let explained = explain_serial(rt, alloc, version, sessions, refuted, means)?;
-        return with_name(alloc, explained.text, name_at_snapshots(anomaly));
+        return with_name(alloc, explained.text, anomaly_name(anomaly));
     }
     if let Some(explained) = explain_points(alloc, version, sessions, refuted, false)? {
         return Ok(explained);
@@ -240,7 +210,7 @@ fn explain_order<R: Threads + Wait + Clock + Sync>(
             let explained = explain_serial(rt, alloc, version, sessions, refuted, means)?;
             Ok(Explained {
                 text: explained.text,
-                known_as: anomaly_name(alloc, anomaly)?,
+                known_as: owned(alloc, anomaly_name(anomaly))?,
             })
         }
         Finding::Cycle | Finding::Dead | Finding::Refuted => {

@@ -9,6 +9,8 @@ use session_log::{Version, index_of, number_of};
 pub enum Wrong {
     ByteOrderMark,
     WideCharacters,
+    /// The log is compressed by this program.
+    Compressed(&'static str),
     CarriageReturn,
     Empty,
     NoLineFeed,
@@ -63,14 +65,40 @@ fn is_key_byte(byte: u8) -> bool {
     byte.is_ascii_alphanumeric() || matches!(byte, b'_' | b'.' | b':' | b'/' | b'-')
 }
 
+/// The program that compressed a file of these first bytes, and writes it as it was if it is asked by
+/// `-dc`.
+fn compressed_by(bytes: &[u8]) -> Option<&'static str> {
+    if bytes.starts_with(b"\xfd7zXZ") {
+        Some("xz")
+    } else if bytes.starts_with(b"\x1f\x8b") {
+        Some("gzip")
+    } else if bytes.starts_with(b"\x28\xb5\x2f\xfd") {
+        Some("zstd")
+    } else if bytes.starts_with(b"BZh") {
+        Some("bzip2")
+    } else {
+        None
+    }
+}
+
+/// What the whole file looks like by its first line.
+fn wrong_as_a_file(bytes: &[u8]) -> Option<Wrong> {
+    if bytes.starts_with(b"\xef\xbb\xbf") {
+        return Some(Wrong::ByteOrderMark);
+    }
+    if bytes.starts_with(b"\xff\xfe") || bytes.starts_with(b"\xfe\xff") {
+        return Some(Wrong::WideCharacters);
+    }
+    Some(Wrong::Compressed(compressed_by(bytes)?))
+}
+
 /// What the whole line looks like, whatever its words.
 fn wrong_as_a_whole(line: LogLine<'_>, number: usize) -> Option<Wrong> {
     let bytes = line.bytes;
-    if number == 1 && bytes.starts_with(b"\xef\xbb\xbf") {
-        return Some(Wrong::ByteOrderMark);
-    }
-    if number == 1 && (bytes.starts_with(b"\xff\xfe") || bytes.starts_with(b"\xfe\xff")) {
-        return Some(Wrong::WideCharacters);
+    if number == 1
+        && let Some(wrong) = wrong_as_a_file(bytes)
+    {
+        return Some(wrong);
     }
     if bytes.ends_with(b"\r") {
         return Some(Wrong::CarriageReturn);

@@ -36,6 +36,11 @@ fn form_words(alloc: Global, wrong: Wrong, line: LogLine<'_>) -> Result<String, 
     let words = match wrong {
         Wrong::ByteOrderMark => "the log begins with a byte order mark, which it may not have",
         Wrong::WideCharacters => "the log is in UTF-16: it has to be in ASCII",
+        Wrong::Compressed(program) => {
+            return format!(in alloc;
+                "the log is compressed by {program}: {program} -dc FILE | cobra_poly audit -"
+            );
+        }
         Wrong::CarriageReturn => "the line ends in CR LF: lines end in LF alone",
         Wrong::Empty => "an empty line: a log has none",
         Wrong::NoLineFeed => "the last line has no line feed: the log may have been cut off",

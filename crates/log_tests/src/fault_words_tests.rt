@@ -30,6 +30,26 @@ fn what_is_wrong_with_a_whole_line(rt: HostRuntime) {
             "a.log:1: the log is in UTF-16: it has to be in ASCII (L1)",
         ),
         (
+            b"\xfd7zXZ\0\0\x04",
+            "a.log:1: the log is compressed by xz: xz -dc FILE | cobra_poly audit - (L1)",
+        ),
+        (
+            b"\x1f\x8b\x08\0\n",
+            "a.log:1: the log is compressed by gzip: gzip -dc FILE | cobra_poly audit - (L1)",
+        ),
+        (
+            b"\x28\xb5\x2f\xfd\x04",
+            "a.log:1: the log is compressed by zstd: zstd -dc FILE | cobra_poly audit - (L1)",
+        ),
+        (
+            b"BZh91AY",
+            "a.log:1: the log is compressed by bzip2: bzip2 -dc FILE | cobra_poly audit - (L1)",
+        ),
+        (
+            b"session 1\nBZh\n",
+            "a.log:2: words are written in small letters (L1)",
+        ),
+        (
             b"session 1\r\n",
             "a.log:1: the line ends in CR LF: lines end in LF alone (L1)",
         ),
