@@ -11,9 +11,9 @@ HERE = os.path.dirname(os.path.abspath(__file__))
 
 
 def made(folder, name, count, *words):
-    """A log of so many transactions without a moment at which nothing is under way."""
+    """A made log of so many transactions."""
     path = os.path.join(folder, name + '.log')
-    subprocess.run([sys.executable, os.path.join(HERE, 'long_log.py'), path, '--transactions', str(count), '--barrier', str(count), *words], check=True)
+    subprocess.run([sys.executable, os.path.join(HERE, 'long_log.py'), path, '--transactions', str(count), *words], check=True)
     return path
 
 

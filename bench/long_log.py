@@ -1,18 +1,17 @@
 #!/usr/bin/env python3
 """long_log.py FILE [--transactions N]: writes a log of any length that has a serial order.
 
-So many transactions of four operations by so many sessions, with moments, and a barrier, at which nothing is under way, every so many
-transactions. Between barriers the transactions of different sessions overlap. With --fault a read of the middle piece names an old version."""
+So many transactions of four operations by so many sessions, with moments. The transactions of different sessions overlap. With --fault a
+read in the middle names an old version."""
 import argparse, random
 
 
 def transactions(words):
     """Yields (session, begun, ended, operations), in an order that explains all of it."""
-    r, held, wid, clock = random.Random(words.seed), {}, 0, 0
+    r, held, wid, clock = random.Random(words.seed), {}, 0, 1000
     fault = words.transactions // 2 if words.fault else None
+    free = [clock] * words.sessions
     for t in range(words.transactions):
-        if t % words.barrier == 0:
-            free, clock = [clock + 1000] * words.sessions, clock + 1000
         ops, session = [], r.randrange(words.sessions)
         for _ in range(words.operations):
             key = 'key%d' % r.randrange(words.keys)
@@ -35,8 +34,7 @@ def transactions(words):
 def main():
     words = argparse.ArgumentParser(description=__doc__, formatter_class=argparse.RawDescriptionHelpFormatter)
     words.add_argument('file')
-    for name, default, what in (('transactions', 1000000, 'how many in all'), ('sessions', 16, 'clients'), ('barrier', 800, 'transactions between barriers'),
-                                ('operations', 4, 'of each transaction'), ('keys', 2000, 'different keys'), ('seed', 1, 'of the random numbers')):
+    for name, default, what in (('transactions', 1000000, 'how many in all'), ('sessions', 16, 'clients'), ('operations', 4, 'of each transaction'), ('keys', 2000, 'different keys'), ('seed', 1, 'of the random numbers')):
         words.add_argument('--' + name, type=int, default=default, help='%s (%d)' % (what, default))
     words.add_argument('--fault', action='store_true', help='a log without a serial order')
     words = words.parse_args()

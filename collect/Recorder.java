@@ -28,8 +28,8 @@ import java.util.stream.Stream;
  * }                                                                    // writes run.log
  * }</pre>
  *
- * A harness that does something of which no true log can be written hears it by a Misuse. There are no barriers. Nothing of this is proved; it
- * needs Java's own classes alone, 8 or later.
+ * A harness that does something of which no true log can be written hears it by a Misuse. Nothing of this is proved; it needs Java's own
+ * classes alone, 8 or later.
  */
 public final class Recorder implements AutoCloseable {
     /** An identity is a count times CLIENTS plus its client's number: its last three digits are the client. Of N processes that write one log
@@ -49,15 +49,14 @@ public final class Recorder implements AutoCloseable {
 
     /** What a recorder may be told, of which all may be absent. */
     public static final class Options {
-        private boolean moments = true, overwrite;
+        private boolean moments, overwrite;
         private int first = 1, all = 1;
         private boolean isShared;
         private LongSupplier clock;
 
-        /** Without moments the log does not say when each transaction began and was committed: for a store that does not promise strict
-         * serializability. */
-        public Options noMoments() {
-            moments = false;
+        /** The log says when each transaction began and was committed, for a store that promises strict serializability. */
+        public Options moments() {
+            moments = true;
             return this;
         }
 

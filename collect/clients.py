@@ -64,7 +64,7 @@ class Client:
         self.store_class, self.arguments = store_class, arguments
         self.dice = random.Random('%d %d' % (arguments.seed, number))
         self.store = store_class(arguments)
-        self.session = run.session(look=self.look)
+        self.session = run.session()
 
     def transaction(self, operations, is_kept=True, cut_at=None):
         """Makes these operations in a transaction; at operation `cut_at`, or as it commits, the connection is cut."""
@@ -109,7 +109,7 @@ class Client:
                 time.sleep(0.1)
 
     def look(self, keys):
-        """Reads these keys in one transaction: before a barrier those of which nobody knows what became of their writes."""
+        """Reads these keys in one transaction."""
         self.transaction([('read', key) for key in keys])
 
     def random_transaction(self):
@@ -145,7 +145,6 @@ def parse(document, levels, address, options):
                         help='of R + W + U operations so many are reads, writes, and writes behind a read of the key: %(default)s')
     parser.add_argument('--pause', type=float, default=1, metavar='MS', help='at most so many milliseconds between operations: %(default)s')
     parser.add_argument('--seed', type=int, default=random.randrange(10 ** 9), metavar='N', help='of what the clients try: a random one')
-    parser.add_argument('--barrier', type=int, default=0, metavar='N', help='for pieces: a barrier behind so many transactions; 0: none')
     parser.add_argument('--moments', choices=('all', 'none'), default='none',
                         help="'all' for a store that promises strict serializability: %(default)s")
     parser.add_argument('--overwrite', action='store_true', help='replace OUT where it is there already')
@@ -155,7 +154,7 @@ def parse(document, levels, address, options):
     if all(hasattr(store, 'cut') for store in levels.values()):
         parser.add_argument('--kill', type=int, default=0, metavar='N', help='cut the connection in one of N transactions')
     arguments = parser.parse_args()
-    if min(arguments.sessions, arguments.keys) < 1 or min(arguments.transactions, arguments.pause, arguments.barrier, arguments.kill) < 0:
+    if min(arguments.sessions, arguments.keys) < 1 or min(arguments.transactions, arguments.pause, arguments.kill) < 0:
         parser.error('a number is too small')
     if holds_something(arguments.out) and not arguments.overwrite:
         parser.error('%s is there already, and may be a log that is still needed: take another name, or --overwrite' % arguments.out)
@@ -184,8 +183,8 @@ def main(document, levels, address=None, options={}):
     except store_class.lost as fault:
         stop('the store cannot be used: %s' % str(fault).strip())
     try:
-        run = Recorder(arguments.out, barrier_every=arguments.barrier or None, moments=moments, aborted=store_class.aborted,
-                       unknown=store_class.lost, overwrite=arguments.overwrite)
+        run = Recorder(arguments.out, moments=moments, aborted=store_class.aborted, unknown=store_class.lost,
+                       overwrite=arguments.overwrite)
         with run, concurrent.futures.ThreadPoolExecutor(arguments.sessions) as pool:
             clients = [Client(run, store_class, arguments, number) for number in range(arguments.sessions)]
             # a counter that threads share: each next() of it is one step

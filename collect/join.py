@@ -2,7 +2,9 @@
 """join.py: one log of the logs that several processes wrote, each by a recorder of its own with share=(K, N), or by hand.
 
 It refuses what does not fit together: logs of different versions, a session that stands twice, an identity that was written twice, a log
-that ends within a transaction. With --slack D each transaction begins D microseconds earlier and ends D later than its log says: where no
+that is not complete. With --died such logs are taken, as killed runs leave them, and the folders of recorders that were not closed: what
+cannot be read is left out, a transaction without an end is unknown, and an identity that was read and that no log has is written by a new
+transaction of unknown outcome. With --slack D each transaction begins D microseconds earlier and ends D later than its log says: where no
 clock was wrong by more than D, the log then claims no order that did not hold. docs/COLLECTING.md says what a clock's error does.
 
 Statuses: 0, the log was written; 65, the logs do not fit together; 70, a file cannot be read or written, or may not be replaced."""
@@ -14,6 +16,10 @@ ENDS = re.compile(rb'(commit|abort|unknown)\b')
 TWICE = {b'w': ('the identity', 'have all processes the same N, and each a K of its own?'),
          b's': ('the session', 'is a log named twice, or had two processes one share?')}
 MOMENT = re.compile(rb'(begin|commit) ([0-9]+)\n')
+LINE = re.compile(rb'(?:log [23]|session [0-9]+|begin(?: [0-9]+)?|commit(?: [0-9]+)?|abort|unknown|[rw] [A-Za-z0-9_.:/-]+ [0-9]+)\n')
+# Where files were put together of which one ends within a line.
+GLUED = re.compile(rb'.*?(session [0-9]+\n)')
+MOST_SESSIONS = 65535
 
 
 class Stop(Exception):
@@ -24,8 +30,20 @@ class Stop(Exception):
         self.status = status
 
 
+def parts_of(path):
+    """The files of a log: those of its clients, where it is the folder of a recorder."""
+    if not os.path.isdir(path):
+        return [path]
+    names = sorted(name for name in os.listdir(path) if re.fullmatch('[0-9]+|unknown', name))
+    if not names:
+        raise Stop('%s: it has no files of a recorder' % path)
+    return [os.path.join(path, name) for name in names]
+
+
 def version_of(path):
     """The first line of a log where it says the version, else nothing."""
+    if os.path.isdir(path):
+        return b'log 3\n'
     with open(path, 'rb') as log:
         line = log.readline()
     if not line:
@@ -47,19 +65,24 @@ def first_place(paths, kind, last):
 class Joined:
     """What was joined so far: which sessions and identities stand there, and what was read of which no write has come."""
 
-    def __init__(self, paths, slack):
+    def __init__(self, paths, slack, died):
         self.paths, self.slack, self.sessions, self.written, self.wanted, self.times = paths, slack, set(), set(), set(), []
+        # of runs that died: keys of what was read, transactions without an end, and how many lines are left out
+        self.died, self.keys, self.ended, self.left_out, self.given = died, {}, [], 0, []
 
     def take(self, path, out):
         """Writes the lines of a log behind its version to a file."""
-        is_open, number, times = False, 0, []
+        is_open, number, times, line = False, 0, [], b'\n'
         with open(path, 'rb') as log:
-            for number, line in enumerate(log, 1):
+            for number, line in enumerate(self.mended(log) if self.died else log, 1):
                 word = line[:2]
                 if word == b'w ':
                     self.stands_once(self.written, line, path, number)
                 elif word == b'r ':
-                    self.wanted.add(line.rpartition(b' ')[2])
+                    key, _, wid = line[2:].rpartition(b' ')
+                    self.wanted.add(wid)
+                    if self.died:
+                        self.keys.setdefault(wid, key)
                 elif word == b'se':
                     self.stands_once(self.sessions, line, path, number)
                 elif number == 1 and word == b'lo':
@@ -69,11 +92,65 @@ class Joined:
                     line = self.widened(line, times)
                 out.write(line)
         if not line.endswith(b'\n'):
-            raise Stop('%s:%d: this line has no end: its run died, or goes on' % (path, number))
+            raise Stop('%s:%d: the log is not complete, this line has no end: its run goes on, or died: then take --died' % (path, number))
         if is_open:
-            raise Stop('%s: its last transaction has no end: its run died, or goes on' % path)
+            raise Stop('%s: the log is not complete, its last transaction has no end: its run goes on, or died: then take --died' % path)
         if times:
             self.times.append((min(times), max(times), path))
+
+    def mended(self, log):
+        """The lines of a log that was cut off, each session up to what cannot be read, and an end for each transaction without one."""
+        session, place, is_open, is_whole = b'', 0, False, True
+        for line in log:
+            fits = LINE.fullmatch(line)
+            if not fits:
+                glued = GLUED.fullmatch(line)
+                self.left_out, line = self.left_out + 1, glued[1] if glued else b''
+            word = line[:2]
+            if word == b'se':
+                if is_open:
+                    yield self.end(session, place)
+                session, place, is_open, is_whole = line.split()[1], 0, False, True
+                yield line
+            elif not is_whole:
+                self.left_out += bool(fits)
+            elif word == b'lo':
+                yield line
+            elif not line or not session or is_open == (word == b'be'):
+                self.left_out += bool(fits)
+                is_whole = False
+            else:
+                place += word == b'be'
+                is_open = word in (b'be', b'r ', b'w ')
+                yield line
+        if is_open:
+            yield self.end(session, place)
+
+    def end(self, session, place):
+        self.ended.append('%s.%d' % (session.decode(), place))
+        return b'unknown\n'
+
+    def give(self, out):
+        """Writes a transaction of unknown outcome for each identity that was read and that nobody wrote, in a session of its own."""
+        numbers = (number for number in range(1, MOST_SESSIONS + 1) if b'%d\n' % number not in self.sessions)
+        for wid in sorted(self.wanted - self.written - {b'0\n'}, key=int):
+            number = next(numbers, None)
+            if number is None:
+                raise Stop('more identities were read that nobody wrote than there are sessions: is a log missing?')
+            out.write(b'session %d\nbegin\nw %s %sunknown\n' % (number, self.keys[wid], wid))
+            self.given.append((b'%s %s' % (self.keys[wid], wid)).decode().strip())
+
+    def done(self):
+        """What was done to logs of runs that died."""
+        some = lambda its: ', '.join(its[:10]) + (', ..' if len(its) > 10 else '')
+        if self.left_out:
+            yield 'lines that were cut off or cannot be read, left out: %d' % self.left_out
+        if self.ended:
+            yield 'transactions without an end, unknown now: %d: %s' % (len(self.ended), some(self.ended))
+        if self.given:
+            yield 'identities that were read and that nobody wrote, given to unknown transactions: %d: %s' % (len(self.given), some(self.given))
+        if not (self.left_out or self.ended or self.given):
+            yield 'nothing was missing'
 
     def stands_once(self, seen, line, path, number):
         word = line.rpartition(b' ')[2]
@@ -92,9 +169,11 @@ class Joined:
         return b'%s %d\n' % (found[1], moved)
 
     def doubts(self):
-        """What fits, and may still be wrong."""
+        """What fits, and may still be wrong; or what was done."""
+        if self.died:
+            yield from self.done()
         strange = self.wanted - self.written - {b'0\n'}
-        if strange:
+        if strange and not self.died:
             wid = min(strange)
             place = first_place(self.paths, b'r', wid)
             yield '%s reads identity %s, which none of these logs wrote: is a log missing?' % (place, wid.decode().strip())
@@ -114,12 +193,18 @@ def joined(arguments):
         if version != first:
             named = [it.decode().strip() or 'version 1, without a first line that says so' for it in (first, version)]
             raise Stop('%s is of %s, and %s of %s' % (arguments.logs[0], named[0], path, named[1]))
-    whole = Joined(arguments.logs, arguments.slack)
+    if any(map(os.path.isdir, arguments.logs)) and not arguments.died:
+        raise Stop('a folder is what a recorder left that was not closed: take --died')
+    paths = [part for path in arguments.logs for part in parts_of(path)]
+    whole = Joined(paths, arguments.slack, arguments.died)
     with tempfile.NamedTemporaryFile(dir=os.path.dirname(os.path.abspath(arguments.out)), delete=False) as out:
         try:
-            out.write(first)
-            for path in arguments.logs:
+            # an unknown outcome is of no log of version 1
+            out.write(first or b'log 2\n' * arguments.died)
+            for path in paths:
                 whole.take(path, out)
+            if arguments.died:
+                whole.give(out)
             out.flush()
             os.chmod(out.name, 0o644)
             os.replace(out.name, arguments.out)
@@ -142,6 +227,7 @@ def main():
     parser.add_argument('logs', metavar='LOG', nargs='+', help='the log of a process')
     parser.add_argument('-o', dest='out', metavar='OUT', required=True, help='the log of all of them')
     parser.add_argument('--slack', metavar='MICROSECONDS', type=microseconds, default=0, help='how wrong a clock may be: %(default)s')
+    parser.add_argument('--died', action='store_true', help='take logs that are not complete')
     parser.add_argument('--overwrite', action='store_true', help='replace OUT where it is there already')
     try:
         for doubt in joined(parser.parse_args()):

@@ -10,8 +10,8 @@
 //	txn.Commit()                                         // behind the store's answer; or txn.Abort(), or txn.Unknown()
 //	warnings, err := run.Close()                         // writes run.log
 //
-// A harness that does something of which no true log can be written hears it by a panic with a Misuse. There are no barriers. Nothing of this is
-// proved; it needs Go's standard library alone, 1.18 or later.
+// A harness that does something of which no true log can be written hears it by a panic with a Misuse. Nothing of this is proved; it needs Go's
+// standard library alone, 1.18 or later.
 package recorder
 
 import (
@@ -80,8 +80,8 @@ func ClockOfDay() int64 { return time.Now().UnixMicro() }
 
 // Options of a recorder, of which all may be absent.
 type Options struct {
-	// Without NoMoments the log says when each transaction began and was committed, for a store that promises strict serializability.
-	NoMoments bool
+	// With Moments the log says when each transaction began and was committed, for a store that promises strict serializability.
+	Moments bool
 	// Whether a file that stands at the path may be replaced.
 	Overwrite bool
 	// Share is {K, N} for the K-th of N processes that write one log, each to a path of its own; join.py joins them.
@@ -338,7 +338,7 @@ func (run *Recorder) end(txn *Transaction, outcome string) {
 	session := txn.session
 	txn.Outcome, session.txn = outcome, nil
 	delete(run.open, txn)
-	if outcome == "commit" && !run.options.NoMoments {
+	if outcome == "commit" && run.options.Moments {
 		txn.lines = append(txn.lines, fmt.Sprintf("commit %d\n", run.moment(true)))
 	} else {
 		txn.lines = append(txn.lines, outcome+"\n")
@@ -397,7 +397,7 @@ func (session *Session) Begin() *Transaction {
 	}
 	session.place++
 	txn.Name = fmt.Sprintf("%d.%d", session.Number, session.place)
-	if run.options.NoMoments {
+	if !run.options.Moments {
 		txn.lines = append(txn.lines, "begin\n")
 	} else {
 		txn.lines = append(txn.lines, fmt.Sprintf("begin %d\n", run.moment(false)))

@@ -9,8 +9,8 @@
             store.put('stock/7', '%d red' % wid)
     run.close()                                                   # writes run.log, and warns of what makes it worth little
 
-It gives out sessions, identities and, where that is asked for, moments. It sets barriers only where it is told to: these are for a log that
-is to be cut into pieces. Nothing of it is proved; it needs Python's standard library alone, 3.8 or later."""
+It gives out sessions, identities and, where that is asked for, moments. A run that does not end is written in rounds, each a log by itself.
+Nothing of it is proved; it needs Python's standard library alone, 3.8 or later."""
 import atexit, collections, hashlib, itertools, operator, os, re, shutil, sys, tempfile, threading, time
 
 # An identity is a count times CLIENTS plus its client's number: its last three digits are the client. Of N processes that write one log the
@@ -18,15 +18,25 @@ import atexit, collections, hashlib, itertools, operator, os, re, shutil, sys, t
 CLIENTS, MAX_SESSION, MAX_IDENTITY = 1000, 65535, 2 ** 64 - 1
 # So many lines of a client may stand in memory before they go to its file.
 BUFFER = 4096
-# The most that a piece of the log holds, which lies between two barriers.
-PIECE = {'transactions': 1000, 'sessions': 64}
+# The keeper opens and closes rounds, under this number of a session, by fences: keys that begin so.
+KEEPER, FENCE = MAX_SESSION, 'fence/'
+# So many rounds a transaction of unknown outcome is carried into, as long as nobody reads what it wrote.
+CARRIED = 10
+# What the store did not do at once is asked for again after so many seconds, and for so many times a client's patience.
+AGAIN, PATIENCE = 0.02, 30
 PLAIN_KEY = re.compile(rb'(?!hex:|sha:)[A-Za-z0-9_.:/-]{1,64}\Z')
-# So often the keys of unknown transactions are read before a barrier.
-LOOKS = 3
 
 
 class Misuse(RuntimeError):
     """The harness does something of which no true log can be written."""
+
+
+class CutOff(Misuse):
+    """The transaction took longer than a round waits, or its recorder was closed meanwhile: its outcome is unknown."""
+
+
+class Unseen(RuntimeError):
+    """The store does not show what it said to be committed, so no round can begin or end."""
 
 
 def name_of(key):
@@ -80,8 +90,13 @@ class _Part:
     """One client's part of the log: a file, the lines that are not in it yet, and how many identities this client has given out."""
 
     def __init__(self, number, folder, share):
-        self.number, self.path, self.size, self.lines, self.writes = number, os.path.join(folder, str(number)), 0, [], 0
+        self.number, self.writes, self.lines = number, 0, []
         self._first, self._step = share
+        self.move(folder)
+
+    def move(self, folder):
+        """What comes goes to a file of this folder."""
+        self.path, self.size = os.path.join(folder, str(self.number)), 0
 
     def identity(self):
         self.writes += 1
@@ -93,66 +108,106 @@ class _Part:
         place, other = divmod(count - self._first, self._step)
         return 0 if client != self.number or other or place < 0 else place + 1
 
-    def flush(self):
-        data = ''.join(self.lines).encode('ascii')
-        with open(self.path, 'ab') as file:
-            # where an earlier write failed midway, it is made again
-            file.truncate(self.size)
-            file.write(data)
+    def flush(self, open_lines=()):
+        """Puts lines into the file, and behind them those of a transaction that is still open, which the next call writes anew."""
+        data, more = ''.join(self.lines).encode('ascii'), ''.join(open_lines).encode('ascii')
+        file = os.open(self.path, os.O_WRONLY | os.O_CREAT, 0o666)
+        try:
+            # where an earlier write failed midway, it is made again; what stands there is never gone in between
+            whole, at = memoryview(data + more), self.size
+            while whole:
+                done = os.pwrite(file, whole, at)
+                whole, at = whole[done:], at + done
+            os.ftruncate(file, at)
+        finally:
+            os.close(file)
         self.size += len(data)
         self.lines.clear()
+
+
+class _Unknown:
+    """A transaction of unknown outcome, in rounds: its name, the round in which it began, its lines but for the last, and its keys."""
+
+    def __init__(self, txn, round):
+        self.name, self.round, self.begin, self.lines = '%06d: %s' % (round, txn.name), round, txn._lines[0], txn._lines[1:]
+        self.keys = {name: key for name, key in txn._written.values()}
+
+    def text(self, session, fence, is_carried):
+        """Its lines in a session of its own, where it has read the fence first; behind the round in which it began its writes alone."""
+        begin = 'begin\n' if is_carried else self.begin
+        return ''.join(['session %d\n' % session, begin, fence, *(line for line in self.lines if line[0] == 'w' or not is_carried), 'unknown\n'])
+
+
+class _Round:
+    """What is known of a round: whether clients may begin and whether they have to end it, the keeper's fence, the keys that were written
+    in it and the names that were read, who has come into it, the fences that its clients left, and what ended unknown."""
+
+    def __init__(self, number):
+        self.number, self.is_open, self.is_due, self.ended, self.committed = number, False, False, 0, 0
+        self.fence, self.keeper, self.keys, self.seen, self.come, self.fences, self.unknown = None, [], {}, set(), {}, {}, []
+
+    def line(self):
+        return 'r %s %d\n' % self.fence
 
 
 class Recorder:
     """The log of one run, which `close` writes to `path`. It may be used by any number of threads.
 
     overwrite      whether a file that stands there may be replaced: else a recorder for it is refused
-    share          (K, N) for the K-th of N processes that write one log, each to a path of its own; join.py joins them. It goes with
-                   no barriers, which are those of one process
-    moments        'all': when each transaction began and was committed, for a store that promises strict serializability; None: no moments;
-                   'barriers': no more than that what ended before a barrier came before what began behind it
-    barrier_every  for a log that is to be cut into pieces: after so many transactions of all clients together no client begins one before
-                   none is open. A barrier is told by moments, so 'barriers' stands for moments=None then. None: no barriers, but those that
-                   `barrier` asks for
+    share          (K, N) for the K-th of N processes that write one log, each to a path of its own; join.py joins them
+    moments        'all': when each transaction began and was committed, for a store that promises strict serializability; None: no moments
     aborted        exceptions that say that a transaction was rolled back; where one leaves a transaction's block, it goes no further
     unknown        the same of those behind which nobody knows whether it was committed
-    patience       seconds that clients wait at a barrier for the others, before they go on without it
     clock          whole numbers that never fall, one clock for all clients; microseconds since now where it is not given, and of a share
-                   `clock_of_day`. Where this may be set during a run, processes of one machine take `clock_of_machine`"""
+                   `clock_of_day`. Where this may be set during a run, processes of one machine take `clock_of_machine`
+    durable        what a client writes is in its file before the store hears of it: a harness that is killed loses nothing that another
+                   client could have read
+    rounds         for a run of any length: behind so many transactions of all clients together they pause, and go on in a new round, which
+                   is a log by itself; `path` is the folder of these logs
+    transact       of rounds: transact(reads, writes) runs one transaction, which reads these keys, writes these pairs of a key and an
+                   identity, and is committed. It gives back what it read, in this order, as `read` takes it. It is called in the thread of
+                   a client, and in one of the recorder's own; where a connection is another one's no more, it connects anew
+    patience       of rounds: seconds that they wait for a client, whose transaction is unknown then
+    bound          of rounds: how many keys the recorder reads in one transaction"""
 
-    def __init__(self, path, barrier_every=None, moments=None, aborted=(), unknown=(), patience=10, clock=None, overwrite=False,
-                 share=None):
-        if moments not in ('all', 'barriers', None):
-            raise Misuse("moments are 'all', 'barriers' or None, and not %r" % (moments,))
-        if barrier_every is not None and not (isinstance(barrier_every, int) and barrier_every >= 1):
-            raise Misuse('barrier_every is a whole number from 1, or None, and not %r' % (barrier_every,))
-        if moments is None and barrier_every is not None and share is None:
-            moments = 'barriers'
-        if share is not None and (barrier_every is not None or moments == 'barriers'):
-            raise Misuse("barriers are those of one process: with share=(K, N) go barrier_every=None, and moments='all' or None")
+    def __init__(self, path, moments=None, aborted=(), unknown=(), clock=None, overwrite=False, share=None, durable=False, rounds=None,
+                 transact=None, patience=10, bound=1000):
+        if moments not in ('all', None):
+            raise Misuse("moments are 'all' or None, and not %r" % (moments,))
         if share is not None and not (isinstance(share, tuple) and len(share) == 2 and all(isinstance(it, int) for it in share)
                                       and 1 <= share[0] <= share[1] <= MAX_SESSION):
             raise Misuse('a share is a pair of whole numbers, (K, N) for the K-th of N processes, and not %r' % (share,))
+        if (rounds is None) != (transact is None):
+            raise Misuse('rounds are made by transactions of the recorder: rounds=N goes with transact=F')
+        for name, value in dict(rounds=rounds, bound=bound).items():
+            if value is not None and not (isinstance(value, int) and value >= 1):
+                raise Misuse('%s is a whole number from 1, and not %r' % (name, value))
+        if rounds and share is not None:
+            raise Misuse('rounds are those of one process: rounds=N goes without share=(K, N)')
         began = time.monotonic_ns()
         self.path, self._may_replace = os.path.abspath(os.fspath(path)), overwrite
-        self._check_free_path()
-        self.barriers = []
+        self._check_free_path(rounds=rounds)
         alone = lambda: (time.monotonic_ns() - began) // 1000
         self._clock, self._last = clock or (clock_of_day if share else alone), 0
         self._is_shared, self._share = share is not None, share or (1, 1)
         if not isinstance(self._clock(), int) or self._clock() < 0:
             raise Misuse('a clock gives whole numbers from 0, as time.monotonic_ns does, and not %r' % (self._clock(),))
-        self._barrier_every, self._moments, self._patience = barrier_every, moments, patience
+        self._moments = moments
         self._named = self._outcomes(abort=aborted, unknown=unknown)
+        if rounds:
+            self._named[CutOff] = 'unknown'
         # All that follows is read and changed with this lock held.
         self._turn = threading.Condition()
         self._numbers, self._parts, self._idle = itertools.count(*self._share), [], []
-        self._open, self._due, self._setter, self._ended, self._unseen = {}, False, None, 0, {}
-        self._counts, self._strange, self._left_open, self._warnings = collections.Counter(), None, [], None
-        # what a piece of the log has so far, and the most that one had
-        self._piece, self._most = {'transactions': 0, 'sessions': set()}, dict.fromkeys(PIECE, 0)
+        self._open, self._taken = {}, set()
+        self._counts, self._strange, self._left_open, self._told, self._warnings = collections.Counter(), None, [], [], None
+        self._sessions, self._late, self._last_round = [], [], 0
         self._closed, self._process = False, os.getpid()
-        self._folder = tempfile.mkdtemp(prefix=os.path.basename(self.path) + '.', dir=os.path.dirname(self.path))
+        self._durable, self._rounds, self._transact, self._patience, self._bound = durable, rounds, transact, patience, bound
+        if rounds:
+            self._begin_rounds()
+        else:
+            self._folder = tempfile.mkdtemp(prefix=os.path.basename(self.path) + '.', dir=os.path.dirname(self.path))
         atexit.register(self._at_exit)
 
     @staticmethod
@@ -170,9 +225,8 @@ class Recorder:
         """What an exception of this class says of its transaction; of several classes that are named, the closest decides."""
         return next((self._named[it] for it in kind.__mro__ if it in self._named), None)
 
-    def session(self, look=None):
-        """One client. `look(keys)` reads these keys in a transaction of this session that commits; it is called before a barrier, in the
-        client's thread, with what transactions wrote of which nobody knows whether they were committed."""
+    def session(self, transact=None):
+        """One client. Of rounds, its own `transact` is called in place of the recorder's for it, in its thread: on its connection."""
         with self._turn:
             self._check_open()
             if not self._idle:
@@ -180,15 +234,7 @@ class Recorder:
                     raise Misuse('more than %d sessions at once: leave a session when its client ends' % len(self._parts))
                 self._parts.append(_Part(len(self._parts) + 1, self._folder, self._share))
                 self._idle.append(self._parts[-1])
-            return Session(self, self._idle.pop(), look)
-
-    def barrier(self):
-        """Asks for a barrier: no client begins a transaction before none is open."""
-        if self._moments is None or self._is_shared:
-            raise Misuse('a barrier is told by moments, and this recorder states none, or is one of several')
-        with self._turn:
-            self._check_open()
-            self._due = True
+            return Session(self, self._idle.pop(), transact or self._transact)
 
     def close(self):
         """Writes the log, and gives a list of what makes it worth little, which is also told on standard error. A transaction that is
@@ -198,9 +244,11 @@ class Recorder:
                 self._closed = True
                 self._left_open += [it.name for it in self._open]
                 for txn in list(self._open):
-                    self._end(txn, 'unknown')
-                self._turn.notify_all()
-                self._join()
+                    self._cut_off(txn)
+                if self._rounds:
+                    self._end_rounds()
+                else:
+                    self._join()
                 self._warnings = list(self._worth_little())
                 for text in self._warnings:
                     print('recorder: %s: %s' % (self.path, text), file=sys.stderr)
@@ -217,8 +265,8 @@ class Recorder:
             print('recorder: %s: close() was not called, and is called now' % self.path, file=sys.stderr)
             self.close()
 
-    def _check_free_path(self, told=''):
-        if not self._may_replace and holds_something(self.path):
+    def _check_free_path(self, told='', rounds=None):
+        if not self._may_replace and (os.listdir(self.path) if os.path.isdir(self.path) and rounds else holds_something(self.path)):
             raise Misuse('%s is there already, and may be a log that is still needed: take another name, or overwrite=True%s' % (
                 self.path, told))
 
@@ -265,18 +313,14 @@ class Recorder:
         if self._strange:
             yield ('%s read %s as %d, which nobody wrote in this run: the keys must be empty before it, and each value keep its identity'
                    % self._strange)
+        if counts['late']:
+            yield '%d times a fence of a round was not seen at once: the store shows late what it committed, and keeps no strict level' % counts['late']
+        if counts['waited for']:
+            yield '%d times a client did not come to the end of a round within %g seconds, and the recorder wrote its fence' % (
+                counts['waited for'], self._patience)
+        yield from self._told
         if self._left_open:
             yield 'transactions were open when their thread or the run ended, and are unknown: ' + ', '.join(self._left_open[:10])
-        if counts['called off']:
-            yield '%d barriers were called off after %g seconds: let no client wait for another one in a transaction' % (
-                counts['called off'], self._patience)
-        if counts['blind']:
-            yield '%d barriers stand behind unknown outcomes that were not looked for: give each session a look' % counts['blind']
-        self._end_piece()
-        for name, most in PIECE.items():
-            if self._most[name] > most and self._moments == 'barriers':
-                yield '%d %s %s, and a piece has no more than %d: let there be more barriers' % (
-                    self._most[name], name, 'between two barriers' if self.barriers else 'without a barrier', most)
 
     # What follows is called with the lock held.
 
@@ -290,29 +334,39 @@ class Recorder:
         self._last = max(self._clock(), self._last + 1)
         return self._last
 
+    def _line_of_begin(self):
+        return 'begin %d\n' % self._moment() if self._moments else 'begin\n'
+
+    def _line_of_end(self, outcome):
+        return 'commit %d\n' % self._moment(is_end=True) if outcome == 'commit' and self._moments else outcome + '\n'
+
+    def _free(self, session):
+        """Another client may have its part; in rounds not before its fence stands there."""
+        waits = self._rounds and session._come is self._round and session._left is not self._round
+        (self._late if waits else self._idle).append(session._part)
+
+    def _number(self):
+        """A session's number that nobody has; in rounds nobody of this one."""
+        number = next(it for it in self._numbers if it not in self._taken)
+        if number > MAX_SESSION - bool(self._rounds):
+            raise Misuse('a log has at most %d sessions, those of all processes together' % MAX_SESSION)
+        self._counts['sessions'] += 1
+        return number
+
+    def _cut_off(self, txn):
+        """Nobody waits for this one any longer."""
+        txn._is_cut_off = bool(self._rounds)
+        self._end(txn, 'unknown')
+
     def _begin(self, txn):
         session = txn.session
         session._check_free()
-        if (self._due or self._barrier_every is not None) and threading.current_thread() in self._open.values():
-            raise Misuse('one thread has transactions of two sessions open, and would wait for itself at a barrier: give each client a '
-                         'thread of its own, or take barrier_every=None')
-        self._pass_barrier(session)
         if session.number is None:
-            number = next(self._numbers)
-            if number > MAX_SESSION:
-                raise Misuse('a log has at most %d sessions, those of all processes together' % MAX_SESSION)
-            session.number, session._place, session._since = number, 0, 0
-            self._counts['sessions'] += 1
+            session.number, session._place = self._number(), 0
             txn._lines.append('session %d\n' % session.number)
         session._place += 1
         txn.name = '%d.%d' % (session.number, session._place)
-        if self._moments == 'all':
-            txn._lines.append('begin %d\n' % self._moment())
-        elif session._since < len(self.barriers):
-            # nothing is committed yet in this session behind the last barrier
-            txn._lines.append('begin %d\n' % self.barriers[-1])
-        else:
-            txn._lines.append('begin\n')
+        txn._lines.append(self._line_of_begin())
         session._txn = txn
         self._counts['overlaps'] += bool(self._open)
         self._open[txn] = threading.current_thread()
@@ -321,80 +375,349 @@ class Recorder:
         session, part = txn.session, txn.session._part
         txn.outcome, session._txn = outcome, None
         del self._open[txn]
-        part.lines += txn._lines
-        part.lines.append('commit %d\n' % self._moment(is_end=True) if outcome == 'commit' and self._moments else outcome + '\n')
+        if self._rounds:
+            self._end_in_round(txn)
+        else:
+            part.lines += txn._lines + [self._line_of_end(outcome)]
         self._counts[outcome] += 1
-        self._piece['transactions'] += outcome != 'abort'
-        self._piece['sessions'].add(session.number)
         if outcome == 'commit':
-            session._since = len(self.barriers)
             self._counts['reads'] += len(txn._reads)
             self._counts['reads of others'] += sum(not session._is_own(wid) for wid in txn._reads.values())
-            if self._setter is session:
-                self._unseen = {name: key for name, key in self._unseen.items() if name not in txn._looked}
         elif outcome == 'unknown':
-            session.number = None
-            self._unseen.update(txn._written.values())
-        self._ended += 1
-        if self._barrier_every is not None and self._ended >= self._barrier_every:
-            self._due = True
-        self._turn.notify_all()
+            session.number = session.number if self._rounds else None
         if len(part.lines) > BUFFER:
             part.flush()
 
-    def _end_piece(self):
-        for name, had in (('transactions', self._piece['transactions']), ('sessions', len(self._piece['sessions']))):
-            self._most[name] = max(self._most[name], had)
-        self._piece = {'transactions': 0, 'sessions': set()}
+    # What follows is of rounds. The keeper is a thread of its own, which opens and closes them; clients read and write fences in theirs.
 
-    def _pass_barrier(self, session):
-        """While a barrier is due, holds a client back until no transaction is open; the first that finds it so sets the barrier."""
-        late = time.monotonic() + self._patience
-        while self._due and self._setter is not session:
-            if not self._open and self._setter is None:
-                self._set_barrier(session)
-            elif time.monotonic() > late:
-                self._due, self._ended = False, 0
-                self._counts['called off'] += 1
-                self._turn.notify_all()
-            else:
-                for txn in [it for it, thread in self._open.items() if not thread.is_alive()]:
-                    self._left_open.append(txn.name)
-                    self._end(txn, 'unknown')
-                self._turn.wait(0.05)
-            session._check_free()
+    def _begin_rounds(self):
+        os.makedirs(self.path, exist_ok=True)
+        for name in os.listdir(self.path):
+            if re.fullmatch(r'[0-9]{6,}\.(log|part)|end', name):
+                its = os.path.join(self.path, name)
+                shutil.rmtree(its) if os.path.isdir(its) else os.remove(its)
+        # what keys hold behind the last closing; transactions of unknown outcome that nobody read yet; by how much fences have other keys
+        self._held, self._carried, self._worn, self._fault, self._fences = {}, [], {}, None, _Part(0, self.path, self._share)
+        self._begin_round(1)
+        self._keeper = threading.Thread(target=self._keep, name='keeper of rounds', daemon=True)
+        self._keeper.start()
 
-    def _set_barrier(self, session):
-        self._setter = session
+    def _begin_round(self, number):
+        self._round, self._folder = _Round(number), os.path.join(self.path, '%06d.part' % number)
+        os.mkdir(self._folder)
+        for part in [*self._parts, self._fences]:
+            part.move(self._folder)
+        self._numbers, self._taken = itertools.count(*self._share), {it.number for it in self._sessions}
+        self._idle, self._late = self._idle + self._late, []
+
+    def _keep(self):
         try:
-            for _ in range(LOOKS):
-                if self._unseen and session._look:
-                    self._without_lock(session._look, list(self._unseen.values()))
-        finally:
-            self._setter = None
-            # a client that lost its patience meanwhile may be in a transaction
-            if not self._open:
-                self.barriers.append(self._moment())
-                self._end_piece()
-                self._counts['blind'] += bool(self._unseen)
-                self._unseen.clear()
-            self._due, self._ended = False, 0
-            self._turn.notify_all()
+            while True:
+                self._open_round()
+                with self._turn:
+                    self._turn.wait_for(lambda: self._round.is_due or self._closed)
+                    round, folder = self._round, self._folder
+                    round.is_due = True
+                self._gather(round)
+                unknown = self._carried + round.unknown
+                closings = self._read_closing(round, unknown) if round.committed or not self._closed else []
+                with self._turn:
+                    for part in self._parts:
+                        part.flush()
+                    if not self._closed:
+                        self._begin_round(round.number + 1)
+                self._write_round(round, folder, closings, unknown)
+                if self._round is round:
+                    return
+        except BaseException as fault:
+            with self._turn:
+                self._fault = fault
+                self._turn.notify_all()
 
-    def _without_lock(self, call, *arguments):
+    def _end_rounds(self):
+        self._turn.notify_all()
         self._turn.release()
         try:
-            call(*arguments)
+            self._keeper.join()
         finally:
             self._turn.acquire()
+        atexit.unregister(self._at_exit)
+        if self._fault:
+            raise self._fault
+        with open(os.path.join(self.path, 'end'), 'w') as file:
+            file.write('%d\n' % self._last_round)
+        for it in self._carried:
+            self._told.append('nobody read what %s wrote, whose outcome is unknown' % it.name)
+
+    def _enter(self, txn):
+        """Begins a transaction; in rounds when its client has come into one that is open."""
+        while True:
+            with self._turn:
+                act = self._next_act(txn.session) if self._rounds else None
+                if act is None:
+                    return self._begin(txn)
+            act(txn.session)
+
+    def _next_act(self, session):
+        """What a client has to do before it may begin; waits for a round."""
+        if threading.current_thread() in self._open.values():
+            raise Misuse('one thread has transactions of two sessions open, and would wait for itself at the end of a round: give each client '
+                         'a thread of its own')
+        while True:
+            session._check_free()
+            if self._fault:
+                raise self._fault
+            if self._round.is_open and not self._round.is_due:
+                return None if session._come is self._round else self._come_in
+            if session._come is self._round and session._left is not self._round:
+                return self._leave_round
+            self._turn.wait(1)
+
+    def _ask(self, transact, reads, writes):
+        """What a transaction of the recorder's read; None where it was rolled back, and the exception where nobody knows."""
+        try:
+            found = transact(reads, writes)
+        except BaseException as fault:
+            outcome = self.outcome_of(type(fault))
+            if outcome is None:
+                raise
+            return None if outcome == 'abort' else fault
+        if found is False:
+            return None
+        seen = [identity_of(it) for it in found or ()]
+        if len(seen) != len(reads):
+            raise Misuse('transact(reads, writes) gives back what it read, one for each of %d keys, and not %r' % (len(reads), found))
+        return seen
+
+    def _tries(self, what):
+        """Goes on for as long as the store may need."""
+        began, pause, is_late = time.monotonic(), AGAIN, False
+        while not is_late:
+            yield
+            time.sleep(pause)
+            pause, is_late = min(2 * pause, 1), time.monotonic() - began > self._patience * (1 if self._closed else PATIENCE)
+        raise Unseen('%s, for %d seconds' % (what, time.monotonic() - began))
+
+    def _put_fence(self, number, part, transact, is_over=lambda: False):
+        """Writes the fence of a session, and gives its lines, its key and its identity. A fence of which nobody knows whether it was written
+        is written no more: it has another key from then on. Called without the lock."""
+        for _ in self._tries('the store commits no fence of session %s' % number):
+            with self._turn:
+                if is_over():
+                    return None
+                key = FENCE + '.'.join(str(it) for it in (number, self._worn.get(number)) if it)
+                wid, begin = part.identity(), self._line_of_begin()
+            answer = None
+            try:
+                answer = self._ask(transact, [], [(key, wid)])
+            finally:
+                with self._turn:
+                    if answer == []:
+                        return [begin, 'w %s %d\n' % (key, wid), self._line_of_end('commit')], key, wid
+                    if answer is not None or sys.exc_info()[0]:
+                        self._worn[number] = self._worn.get(number, 1) + 1
+
+    def _open_round(self):
+        lines, key, wid = self._put_fence(KEEPER, self._fences, self._transact)
+        with self._turn:
+            self._round.fence, self._round.keeper, self._round.is_open = (key, wid), lines, True
+            if self._durable:
+                self._fences.flush(['session %d\n' % KEEPER, *lines])
+            self._turn.notify_all()
+
+    def _come_in(self, session):
+        """A client reads the keeper's fence, until it sees it, and is in the round."""
+        round = self._round
+        if not round.is_open:
+            return
+        key, wid = round.fence
+        for _ in self._tries('session %s does not see the fence of round %d' % (session.number or '', round.number)):
+            with self._turn:
+                begin = self._line_of_begin()
+            answer = self._ask(session._transact, [key], [])
+            with self._turn:
+                if self._round is not round or round.is_due or self._fault:
+                    return
+                if answer == [wid]:
+                    end = self._line_of_end('commit')
+                    if session.number is None:
+                        session.number = self._number()
+                        self._sessions.append(session)
+                        self._taken.add(session.number)
+                    session._come, session._place = round, 1
+                    session._part.lines += ['session %d\n' % session.number, begin, round.line(), end]
+                    round.come[session] = session.number, session._part
+                    return
+                self._counts['late'] += isinstance(answer, list)
+
+    def _leave_round(self, session):
+        """A client writes its fence, as its last transaction of the round, if it came into it."""
+        round = session._come
+        is_over = lambda: round is None or session._left is round or self._round is not round or bool(self._closed or self._fault)
+        fence = self._put_fence(session.number, session._part, session._transact, is_over)
+        if fence:
+            with self._turn:
+                if not is_over():
+                    self._has_left(session, round, fence)
+
+    def _has_left(self, session, round, fence):
+        lines, key, wid = fence
+        round.come[session][1].lines += lines
+        round.fences[key], session._left = wid, round
+        self._turn.notify_all()
+
+    def _gather(self, round):
+        """Waits until each client has left the round; for one that does not come the keeper writes its fence."""
+        late = time.monotonic() + self._patience
+        with self._turn:
+            while True:
+                for txn, thread in list(self._open.items()):
+                    if not thread.is_alive():
+                        self._left_open.append(txn.name)
+                        self._cut_off(txn)
+                waiting = [it for it in round.come if it._left is not round]
+                if not waiting or self._closed or time.monotonic() > late:
+                    break
+                self._turn.wait(0.05)
+            for session in waiting:
+                self._counts['waited for'] += not self._closed
+                if session._txn is not None:
+                    self._left_open.append(session._txn.name)
+                    self._cut_off(session._txn)
+                # its own try may still be under way
+                session._left = round
+                number = round.come[session][0]
+                self._worn[number] = self._worn.get(number, 1) + 1
+        for session in waiting:
+            fence = self._put_fence(round.come[session][0], self._fences, self._transact)
+            with self._turn:
+                self._has_left(session, round, fence)
+
+    def _end_in_round(self, txn):
+        round, part = self._round, txn.session._part
+        if txn.outcome == 'unknown':
+            # it stands in a session of its own, and its client goes on in the old one
+            round.unknown.append(_Unknown(txn, round.number))
+            txn.session._place -= 1
+            if self._durable:
+                self._keep_unknown(round, round.unknown[-1], False)
+        else:
+            part.lines += txn._lines + [self._line_of_end(txn.outcome)]
+        if txn.outcome == 'commit':
+            round.seen |= txn._looked
+            round.committed += 1
+        round.keys.update(txn._written.values())
+        round.ended += 1
+        if round.ended >= self._rounds and not round.is_due:
+            round.is_due = True
+            self._turn.notify_all()
+
+    def _keep_unknown(self, round, it, is_carried):
+        with open(os.path.join(self._folder, 'unknown'), 'a') as file:
+            file.write(it.text(self._number(), round.line(), is_carried))
+
+    def _read_closing(self, round, unknown):
+        """Reads the fences that clients left, and what the keys of the round hold: the closing's transactions, each with its lines and its
+        reads. Where one shows a transaction of unknown outcome, what that wrote is read behind it."""
+        keys = dict(round.keys)
+        for it in unknown:
+            keys.update(it.keys)
+        asked, closings, behind = [*round.fences.items(), *sorted(keys.items())], [], {}
+        writes = {line[2:]: it for it in unknown for line in it.lines if line[0] == 'w'}
+        place = 0
+        while place < len(asked) or not closings:
+            some = asked[place:place + self._bound]
+            place += len(some)
+            lines, reads = self._read_once(round, some)
+            closings.append((lines, reads))
+            for name, wid in reads.items():
+                it = writes.get('%s %d\n' % (name, wid))
+                if it and it not in behind:
+                    behind[it] = place
+                    asked += [pair for pair in it.keys.items() if pair in asked[:place - len(some)]]
+        return closings
+
+    def _read_once(self, round, some):
+        for _ in self._tries('the fences of round %d are not seen' % round.number):
+            with self._turn:
+                begin = self._line_of_begin()
+            names = [pair[0] for pair in some]
+            answer = some and self._ask(self._transact, [name if name in round.fences else key for name, key in some], [])
+            with self._turn:
+                if isinstance(answer, list):
+                    if all(round.fences.get(name, wid) == wid for name, wid in zip(names, answer)):
+                        lines = ['r %s %d\n' % pair for pair in zip(names, answer)]
+                        return [begin, *lines, self._line_of_end('commit')], dict(zip(names, answer))
+                    self._counts['late'] += 1
+
+    def _write_round(self, round, folder, closings, unknown):
+        """Writes the log of a round that has ended, and finds which transactions of unknown outcome took part in it."""
+        paths = [os.path.join(folder, str(part.number)) for part in self._parts]
+        paths = [path for path in paths if os.path.exists(path)]
+        reads = {name: wid for _, its in closings for name, wid in its.items() if name not in round.fences}
+        taken = self._taken_in(paths, [line for lines, _ in closings for line in lines], round, unknown)
+        self._carried = [it for it in unknown if it not in taken]
+        for it in [it for it in self._carried if it.round <= round.number - CARRIED]:
+            self._told.append('nobody read what %s wrote, whose outcome is unknown, in %d rounds: it is carried no more' % (it.name, CARRIED))
+            self._carried.remove(it)
+        if closings:
+            seen = round.seen.union(reads, *({line.split(' ')[1] for line in it.lines if line[0] == 'r'} for it in taken if it.round == round.number))
+            held = ['w %s %d\n' % (name, self._held[name]) for name in sorted(seen) if self._held.get(name)]
+            new = os.path.join(folder, 'log')
+            with open(new, 'wb') as log:
+                begin, *rest = round.keeper
+                text = ['log 3\n', 'session %d\n' % KEEPER, begin, *held, *rest]
+                text += [line for lines, _ in closings for line in lines]
+                log.write(''.join(text).encode('ascii'))
+                for path in paths:
+                    with open(path, 'rb') as file:
+                        shutil.copyfileobj(file, log)
+                numbers = (number for number in itertools.count(1) if number not in {it for it, _ in round.come.values()})
+                for it in taken:
+                    log.write(it.text(next(numbers), round.line(), it.round < round.number).encode('ascii'))
+            os.replace(new, os.path.join(self.path, '%06d.log' % round.number))
+            self._last_round = round.number
+        self._held.update(reads)
+        shutil.rmtree(folder)
+        if self._durable and self._round is not round:
+            with self._turn:
+                for it in self._carried:
+                    self._keep_unknown(self._round, it, True)
+
+    def _taken_in(self, paths, closing, round, unknown):
+        """Those of these transactions of which a committed one of the round read a write, or one that is taken itself."""
+        wanted = {b'r' + line[1:].encode('ascii'): it for it in unknown for line in it.lines if line[0] == 'w'}
+        found, pending = [], []
+        if wanted:
+            pending = [line.encode('ascii') for line in closing]
+            found = [wanted[line] for line in pending if line in wanted]
+        for path in paths if wanted else ():
+            with open(path, 'rb') as file:
+                some = []
+                for line in file:
+                    if line in wanted:
+                        some.append(wanted[line])
+                    elif some and line[0] in b'ac':
+                        found += some if line[:1] == b'c' else []
+                        some = []
+        taken = []
+        while found:
+            it = found.pop()
+            if it not in taken:
+                taken.append(it)
+                if it.round == round.number:
+                    found += [wanted[line] for line in (line.encode('ascii') for line in it.lines if line[0] == 'r') if line in wanted]
+        return taken
 
 
 class Session:
     """One client, which does one thing after the other. Its number in the log is None until it begins a transaction, and behind one of an
     unknown outcome, where it goes on under a new one."""
 
-    def __init__(self, run, part, look):
-        self.number, self._run, self._part, self._look, self._txn, self._place, self._since = None, run, part, look, None, 0, 0
+    def __init__(self, run, part, transact):
+        self.number, self._run, self._part, self._transact, self._txn, self._place = None, run, part, transact, None, 0
+        # of rounds: the last one that it came into, and the last one that it left
+        self._come, self._left = None, None
         # another client may have had this part before
         self._first_write = part.writes + 1
 
@@ -408,9 +731,19 @@ class Session:
         with self._run._turn:
             if self._txn is not None:
                 self._run._left_open.append(self._txn.name)
-                self._run._end(self._txn, 'unknown')
+                self._run._cut_off(self._txn)
+        try:
+            if self._run._rounds:
+                self._run._leave_round(self)
+        finally:
+            self._is_left()
+
+    def _is_left(self):
+        with self._run._turn:
+            if self in self._run._sessions:
+                self._run._sessions.remove(self)
             if self._part is not None:
-                self._run._idle.append(self._part)
+                self._run._free(self)
                 self._part = None
 
     def __enter__(self):
@@ -439,10 +772,9 @@ class Transaction:
 
     def __init__(self, session, commit):
         self.session, self.name, self.outcome, self._commit = session, None, None, commit
-        self._lines, self._written, self._reads, self._looked = [], {}, {}, set()
+        self._lines, self._written, self._reads, self._looked, self._is_cut_off = [], {}, {}, set(), False
         self._run = session._run
-        with self._run._turn:
-            self._run._begin(self)
+        self._run._enter(self)
 
     def read(self, key, seen, before=None):
         """It read the key. `seen` is what the store gave back: the identity, or a text of which it is the first word; None where there was
@@ -461,11 +793,16 @@ class Transaction:
 
     def write(self, key):
         """An identity for a write of the key, to be kept with the value: it is asked for directly before the statement is sent."""
-        name = name_of(key)
-        self._check_open()
-        wid = self.session._part.identity()
-        self._written[wid] = name, key
-        self._lines.append('w %s %d\n' % (name, wid))
+        name, part = name_of(key), self.session._part
+        with self._run._turn:
+            self._check_open()
+            if self._run._rounds and name.startswith(FENCE):
+                raise Misuse("'%s' begins as the fences of rounds do" % name)
+            wid = part.identity()
+            self._written[wid] = name, key
+            self._lines.append('w %s %d\n' % (name, wid))
+            if self._run._durable:
+                part.flush(self._lines)
         return wid
 
     def refused(self, wid):
@@ -525,6 +862,8 @@ class Transaction:
         return 'w %s %d\n' % (self._written[wid][0], wid)
 
     def _check_open(self):
+        if self._is_cut_off:
+            raise CutOff('%s took too long, and its outcome is unknown' % self.name)
         if self.outcome is not None:
             raise Misuse('%s has ended (%s): begin another transaction' % (self.name, self.outcome))
 

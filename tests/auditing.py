@@ -13,7 +13,7 @@ import argparse, collections, concurrent.futures, json, os, random, re, subproce
 
 HERE = os.path.dirname(os.path.abspath(__file__))
 sys.path.insert(0, HERE)
-import certificates, generate, pieces_model, reference
+import certificates, generate, reference, small_logs
 from certificates import Answer, call, must
 
 CASES, SEED, SHOWN = 2000, 1, 20
@@ -29,7 +29,7 @@ WORKERS = ('1', '3', '4', '16')
 def right_answer(sessions, at_least=1):
     """The first line."""
     committed = certificates.counted(sessions)['committed']
-    if not pieces_model.has_order(sessions):
+    if not small_logs.has_order(sessions):
         return 'not serializable'
     return 'serializable' if committed >= at_least else 'unknown: %d committed, %d asked for' % (committed, at_least)
 
@@ -41,7 +41,7 @@ def made_text(seed):
     rnd = random.Random(seed)
     if seed % 4 == 3:
         return generate.small_log(seed, rnd.choice((1, 2, 3)))
-    sessions = pieces_model.made_log(rnd)
+    sessions = small_logs.made_log(rnd)
     return generate.text_of(sessions, rnd.choice((3, reference.least_version(sessions))))
 
 
@@ -383,7 +383,7 @@ def time_is_up(program, folder):
     log = os.path.join(folder, 'endless.log')
     for count in 400000, 4000000:
         maker = os.path.join(os.path.dirname(HERE), 'bench', 'long_log.py')
-        subprocess.run([sys.executable, maker, log, '--transactions', str(count), '--barrier', str(count)], check=True)
+        subprocess.run([sys.executable, maker, log, '--transactions', str(count)], check=True)
         words = ['audit', '--no-moments', '--workers', '1', '--seconds', '1']
         status, said, error = call(program, *words, log)
         if status != 0:

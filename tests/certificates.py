@@ -4,7 +4,7 @@ import json, os, re, subprocess, sys
 
 HERE = os.path.dirname(os.path.abspath(__file__))
 sys.path.insert(0, HERE)
-import explained, pieces_model, reference
+import explained, reference, small_logs
 
 COUNTS = ('sessions', 'committed', 'aborted', 'unknown', 'taken', 'keys', 'operations', 'part')
 TITLES = {'A1 unknown read', 'A2 aborted read', 'A3 intermediate read', 'A4 own write missed', 'A5 future read', 'A6 split read', 'A7 lost update',
@@ -227,12 +227,12 @@ def orders(part):
     """Whether a part has an order, by all of them; None where it is too large for that."""
     if sum(it.outcome == 'commit' for _, its in part for _, it in its) > TRIED:
         return None
-    return pieces_model.has_order([(number, [it for _, it in its]) for number, its in part])
+    return small_logs.has_order([(number, [it for _, it in its]) for number, its in part])
 
 
 def check_told(sessions, text, part):
     """That a part that is told is one, of these transactions in these lines, and has no order; gives the part."""
-    lines, resolved = lines_of(sessions, text), pieces_model.resolved(sessions)
+    lines, resolved = lines_of(sessions, text), small_logs.resolved(sessions)
     for name, both in part.lines.items():
         must(lines.get(name) == both, '%d.%d stands in lines %r, and not in %r' % (*name, lines.get(name), both))
     must(list(part.lines) == [name for name in lines if name in part.lines], 'transactions in another order')
@@ -251,7 +251,7 @@ def check_sessions(law, part):
 
 def leaner(sessions, part):
     """A transaction without which the part has no order either, or None."""
-    resolved = pieces_model.resolved(sessions)
+    resolved = small_logs.resolved(sessions)
     return next((name for name in part.lines if len(part.lines) > 1 and
                  orders(part_of(resolved, set(part.lines) - {name})) is False), None)
 

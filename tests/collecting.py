@@ -1,16 +1,16 @@
 #!/usr/bin/env python3
 """collecting.py PROGRAM: logs that collect/sqlite.py collects from real SQLite databases, as docs/COLLECTING.md says.
 
-Logs of the sound store, without moments, with all of them, and with barriers, must be serializable where `check` can tell, also where the
+Logs of the sound store, without moments and with all of them, must be serializable where `check` can tell, also where the
 outcome of each session's last committed transaction is said to be unknown, and `verify` must accept the order; of the logs of the store that
-is broken on purpose one at least must be refused. `audit` must say so too, also without moments. A log with barriers has pieces. A
+is broken on purpose one at least must be refused. `audit` must say so too, also without moments. A
 connection that was cut is used no more. Where this Python has no sqlite3 nothing is run, and a line says so. Last line: 'collecting: N passed, M failed'."""
 import argparse, os, re, subprocess, sys, tempfile
 
 TOP = os.path.dirname(os.path.dirname(os.path.abspath(__file__)))
 COLLECTOR, RUNS = os.path.join(TOP, 'collect', 'sqlite.py'), 3
 AUDITS = [], ['--no-moments']
-SIZE, WEAK, BARRIERS = ['--transactions', '320', '--keys', '10', '--pause', '2'], ['--level', 'weak'], ['--barrier', '50']
+SIZE, WEAK = ['--transactions', '320', '--keys', '10', '--pause', '2'], ['--level', 'weak']
 
 
 def unlearnt(log):
@@ -23,7 +23,7 @@ def unlearnt(log):
 class Checks:
     def __init__(self, program, folder):
         self.program, self.order = program, os.path.join(folder, 'order')
-        self.passed, self.failed, self.pieces = 0, 0, 0
+        self.passed, self.failed = 0, 0
 
     def call(self, log, *words):
         ran = subprocess.run([self.program, *words], input=log, stdout=subprocess.PIPE, stderr=subprocess.PIPE, timeout=600)
@@ -108,7 +108,7 @@ def main():
     with tempfile.TemporaryDirectory() as folder:
         checks, path, refused = Checks(os.path.abspath(sys.argv[1]), folder), os.path.join(folder, 'log'), 0
         for run in range(RUNS):
-            for words in ([], ['--moments', 'all'], BARRIERS, WEAK):
+            for words in ([], ['--moments', 'all'], WEAK):
                 subprocess.run([sys.executable, COLLECTOR, '--overwrite', *SIZE, *words, path], check=True, timeout=600)
                 with open(path, 'rb') as file:
                     log = file.read()
@@ -120,8 +120,6 @@ def main():
                 else:
                     name = ' '.join(['log %d' % run, *words])
                     checks.sound(name, log)
-                    if words == BARRIERS:
-                        checks.pieces = max(checks.pieces, checks.call(log, 'pieces', '--size', '1')[1].count(b'\n'))
                     checks.sound(name + ' with unknown outcomes', unlearnt(log))
         again = subprocess.run([sys.executable, COLLECTOR, *SIZE, path], stdout=subprocess.PIPE, stderr=subprocess.PIPE, timeout=600)
         with open(path, 'rb') as file:
@@ -129,8 +127,7 @@ def main():
         misfits(checks, folder)
         left_when_cut(checks, folder)
         checks.expect(refused > 0, 'no log of the weak store was refused')
-        checks.expect(checks.pieces > 1, 'no log was cut')
-        print('collecting: SQLite %s, %d of %d logs of the weak store were refused; at most %d pieces' % (sqlite3.sqlite_version, refused, RUNS, checks.pieces))
+        print('collecting: SQLite %s, %d of %d logs of the weak store were refused' % (sqlite3.sqlite_version, refused, RUNS))
     print('collecting: %d passed, %d failed' % (checks.passed, checks.failed))
     return 1 if checks.failed else 0
 

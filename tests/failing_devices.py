@@ -4,9 +4,8 @@
 The program runs with its Nth read failed, for N = 1, 2, .. until a run makes fewer: each such run must say `device failed: input`
 with status 5 and write nothing. Then its Nth write to standard output fails, or takes no byte, until a run makes fewer: what went out
 before must be the beginning of the whole text, and `device failed: output` is said with status 5. Reads and writes of one byte at
-a time must leave the whole text. Of `audit`, `pieces` and `split` the log and its directory are told by name, with the reason. Of `pieces --into`
-each call that makes or opens something fails too, and what was written before must stay, each file whole but for the one that failed.
-Where a text or a file is written byte by byte, some of these positions are tried, and always the first and the last ones.
+a time must leave the whole text. Of `audit` and `split` the log is told by name, with the reason, also where it cannot be opened.
+Where a text is written byte by byte, some of these positions are tried, and always the first and the last ones.
 
 Needs a C compiler, for a small library that stands before the C library's `read`, `write` and what opens files. With --version-1 all logs
 are of version 1. Last line: 'failing devices: N passed, M failed'."""
@@ -55,16 +54,6 @@ int openat(int at, const char *path, int flags, ...) {
     va_end(more);
     return open_fails() ? -1 : real(at, path, flags, mode);
 }
-int mkdir(const char *path, mode_t mode) {
-    static int (*real)(const char *, mode_t);
-    if (!real) real = dlsym(RTLD_NEXT, "mkdir");
-    return open_fails() ? -1 : real(path, mode);
-}
-ssize_t getdents64(int fd, void *p, size_t n) {
-    static ssize_t (*real)(int, void *, size_t);
-    if (!real) real = dlsym(RTLD_NEXT, "getdents64");
-    return open_fails() ? -1 : real(fd, p, n);
-}
 ssize_t read(int fd, void *p, size_t n) {
     static ssize_t (*real)(int, void *, size_t);
     if (!real) real = dlsym(RTLD_NEXT, "read");
@@ -74,7 +63,7 @@ ssize_t read(int fd, void *p, size_t n) {
 ssize_t write(int fd, const void *p, size_t n) {
     static ssize_t (*real)(int, const void *, size_t);
     if (!real) real = dlsym(RTLD_NEXT, "write");
-    if (fd != 1 && (fd < 3 || !getenv("FILES"))) return real(fd, p, n);
+    if (fd != 1) return real(fd, p, n);
     long count = ++writes;
     if (count == number("WRITE_FAILS")) { tell(); errno = ENOSPC; return -1; }
     if (count == number("WRITE_TAKES_NONE")) { tell(); return 0; }
@@ -90,7 +79,7 @@ CHECKED = ('forced_choices.log', 'forced_cycle.log', 'crossed_readers.log', 'los
 REFUTED, PROOF = 'forced_cycle.log', b'0\n'
 EXPLAINED = {'crossed_readers.log': 'text', 'forced_cycle.log': 'dot', 'unknown_read.log': 'text'}
 # Commands that tell by name what cannot be read or written, and of each fault the words behind that name.
-LONG = 'audit', 'pieces', 'split'
+LONG = 'audit', 'split'
 FAULTS = {'READ_FAILS': 'Input/output error (os error 5)', 'OPEN_FAILS': 'Input/output error (os error 5)',
           'WRITE_FAILS': 'No space left on device (os error 28)', 'WRITE_TAKES_NONE': 'failed to write whole buffer'}
 AUDITED = {
@@ -98,9 +87,7 @@ AUDITED = {
     'overlap_in_time.log': ([], ['--at-least', '9', '--format', 'json']), 'empty.log': ([], ['--quiet']),
     'crossed_readers.log': (['--explain'], ['--budget', '1']), 'unwritten_read.log': (['--explain', '--quiet'],),
     'own_write_missed.log': (['--format', 'json'],), 'ends_before_it_begins.log': (['--format', 'json'],)}
-CUT = {'shop.log': ([], ['--size', '1'], ['--size', '1', '--piece', '2']), 'unknown_chain.log': (['--piece', '1'],), 'empty.log': ([],)}
 SPLIT = {'shop.log': ([],), 'unknown_chain.log': ([],), 'empty.log': ([],)}
-WRITTEN = 'shop.log', 'unknown_chain.log'
 # What stands on standard input where that is named.
 GIVEN = 'lost_update.log'
 MOST = 5000
@@ -109,15 +96,6 @@ MOST = 5000
 def sampled(count):
     """Some of so many positions: the first and the last ones, and a few between."""
     return sorted({1, 2, count - 1, count, *range(1, count, max(1, count // 8))} & set(range(1, count + 1)))
-
-
-def files_in(folder):
-    """The files of a folder, in the order in which they are written."""
-    found = {}
-    for name in sorted(os.listdir(folder)) if os.path.isdir(folder) else ():
-        with open(os.path.join(folder, name), 'rb') as file:
-            found[os.path.join(folder, name)] = file.read()
-    return found
 
 
 class Sweeps:
@@ -148,10 +126,10 @@ class Sweeps:
         written = json.dumps(told, separators=(',', ':')) + '\n' if 'json' in words else ''
         return 5, written.encode(), (line + '\n').encode()
 
-    def failing_reads(self, words, whole, means='READ_FAILS', run=None):
+    def failing_reads(self, words, whole, means='READ_FAILS'):
         fault = self.unread(words, FAULTS[means]) if words[0] in LONG else INPUT
         for n in range(1, MOST):
-            got, met = (run or self.run)(words, **{means: n})
+            got, met = self.run(words, **{means: n})
             self.count(got == (fault if met else whole), words, '%s %d' % (means, n), got)
             if not met:
                 return n
@@ -176,48 +154,6 @@ class Sweeps:
             got, met = self.run(words, ONE_BYTE=1, **{means: n})
             self.count(met and got == (5, whole[1][:n - 1], OUTPUT[1]), words, 'one byte at a time, %s %d' % (means, n), got)
         return len(whole[1]) + 1
-
-    def run_into(self, words, is_there, **means):
-        """A run that writes into a directory, and what it leaves there."""
-        into = words[words.index('--into') + 1]
-        shutil.rmtree(into, ignore_errors=True)
-        if is_there:
-            os.mkdir(into)
-        return (*self.run(words, FILES=1, **means), files_in(into))
-
-    def failing_files(self, words, is_there, whole, means, turns, **more):
-        """Calls on files fail. The name of what failed is told; what was written before stays, and nothing is behind it."""
-        names, into, before = list(whole), words[words.index('--into') + 1], -1
-        for n in turns:
-            got, met, left = self.run_into(words, is_there, **{means: n}, **more)
-            if not met:
-                self.count(got == (0, b'', b'') and left == whole, words, 'no call on files fails', got)
-                return n
-            last, size = names[len(left) - 1] if left else None, sum(map(len, left.values()))
-            if means == 'OPEN_FAILS':
-                failed, stays = [names[len(left)]] if left else [words[-1], into, names[0]], all(whole[it] == left[it] for it in left)
-            else:
-                failed, stays = [last], before < size and bool(left) and len(left[last]) < len(whole[last])
-                stays = stays and all(whole[it] == left[it] or it == last and whole[it].startswith(left[it]) for it in left)
-                stays = stays and (size == n - 1 or 'ONE_BYTE' not in more)
-            told = got[2].decode() in ['%s: %s\n' % (name, FAULTS[means]) for name in failed]
-            right = got[:2] == (5, b'') and told and list(left) == names[:len(left)] and stays
-            self.count(right, words, '%s %d, %d files left' % (means, n, len(left)), got)
-            before = size
-        return n
-
-    def sweep_into(self, words, is_there):
-        got, met, whole = self.run_into(words, is_there)
-        self.count(got == (0, b'', b'') and not met and len(whole) > 1, words, 'nothing fails', got)
-        run = lambda words, **means: self.run_into(words, is_there, **means)[:2]
-        reads = self.failing_reads(words, got, run=run)
-        calls = [self.failing_files(words, is_there, whole, means, range(1, MOST)) for means in ('OPEN_FAILS', 'WRITE_FAILS', 'WRITE_TAKES_NONE')]
-        got, _, left = self.run_into(words, is_there, ONE_BYTE=1)
-        self.count(got == (0, b'', b'') and left == whole, words, 'one byte at a time', got)
-        size = sum(map(len, whole.values()))
-        for means in ('WRITE_FAILS', 'WRITE_TAKES_NONE'):
-            self.failing_files(words, is_there, whole, means, [*sampled(size), size + 1], ONE_BYTE=1)
-        print('failing devices: pieces --into %s: the runs that met no fault were number %d of reads, %d of opened and %d, %d of writes' % (os.path.basename(words[-1]), reads, *calls), flush=True)
 
     def sweep(self, words):
         whole, met = self.run(words)
@@ -269,8 +205,8 @@ def calls(folder, names):
 
 
 def long_calls(names):
-    """Each call of `audit`, of `pieces` and of `split` that writes on standard output."""
-    for command, logs in (('audit', AUDITED), ('pieces', CUT), ('split', SPLIT)):
+    """Each call of `audit` and of `split` that writes on standard output."""
+    for command, logs in (('audit', AUDITED), ('split', SPLIT)):
         for name in logs:
             for words in logs[name] if name in names else ():
                 for workers in ('1', '4'):
@@ -298,10 +234,6 @@ def main():
             sweeps.sweep(words)
         for words in long_calls(names):
             sweeps.sweep(words)
-        for name in (name for name in WRITTEN if name in names):
-            log = os.path.join(generate.EXAMPLES, name)
-            for workers, is_there in (('1', False), ('4', True)):
-                sweeps.sweep_into(['pieces', '--size', '1', '--workers', workers, '--into', os.path.join(folder, 'pieces'), log], is_there)
         print('failing devices: %d passed, %d failed' % (sweeps.passed, sweeps.failed))
         sys.exit(1 if sweeps.failed or not sweeps.passed else 0)
 

@@ -301,6 +301,19 @@ EXAMPLE_TOLD = ['4 transactions in 3 sessions: 3 committed, 0 aborted, 1 unknown
 with open(os.path.join(os.path.dirname(HERE), 'examples', 'list_append.edn')) as example:
     EXAMPLE = example.read()
 
+def invented(count, line):
+    """What is told of appends before which the log has a read that was not made."""
+    return ('appends to lists that their transactions did not read: %d, the first in line %d; the log has a read before each, which is right at '
+            'snapshot and above, and the levels below need --blind' % (count, line))
+
+
+def blind(log, *left_out):
+    """A log without the first of each of these lines."""
+    for line in left_out:
+        log = log.replace('\n%s\n' % line, '\n', 1)
+    return log
+
+
 JEPSEN = ['--from', 'jepsen']
 BY_HAND = [
     ('registers', JEPSEN, REGISTERS, REGISTERS_LOG, 'serializable', REGISTERS_TOLD, REGISTERS_MAP),
@@ -310,11 +323,18 @@ BY_HAND = [
      'log 2\nsession 1\nbegin\nw 1 1\nr 2 0\ncommit\nsession 2\nbegin\nr 1 1\nw 2 2\ncommit\nsession 3\nbegin\nw 1 3\nabort\n'
      'session 4\nbegin\nw 2 4\nunknown\nsession 5\nbegin\nr 2 4\ncommit\n', 'serializable',
      [REGISTERS_TOLD[0].replace('3 sessions', '5 sessions'), *REGISTERS_TOLD[1:]], None),
-    ('lists', JEPSEN, LISTS, LISTS_LOG, 'serializable', ['4 transactions in 2 sessions: 4 committed, 0 aborted, 0 unknown'], None),
+    ('lists', JEPSEN, LISTS, LISTS_LOG, 'serializable', ['4 transactions in 2 sessions: 4 committed, 0 aborted, 0 unknown', invented(2, 2)], None),
+    ('blind appends', JEPSEN + ['--blind'], LISTS, blind(LISTS_LOG, 'r :x 0', 'r :y 0'), 'serializable',
+     ['4 transactions in 2 sessions: 4 committed, 0 aborted, 0 unknown'], None),
+    ('blind appends of lists that contradict each other', JEPSEN + ['--blind'], CONTRADICTION, blind(CONTRADICTION_LOG, 'r 1 0', 'r 1 2', 'r 1 1', 'r 1 0'),
+     'not serializable: A9 pruning ends in a cycle', ['4 transactions in 2 sessions: 4 committed, 0 aborted, 0 unknown'], None),
+    ('the example, blind', JEPSEN + ['--blind'], EXAMPLE, blind(EXAMPLE_LOG, 'r :y 0', 'r :x 0\nw :x 2', 'r :y 1').replace('commit 2100', 'w :x 2\ncommit 2100'),
+     'not serializable: A8 cycle of known edges', EXAMPLE_TOLD, None),
+    ('registers, blind', JEPSEN + ['--blind'], REGISTERS, REGISTERS_LOG, 'serializable', REGISTERS_TOLD, None),
     ('lists that contradict each other', JEPSEN, CONTRADICTION, CONTRADICTION_LOG, 'not serializable: A6 split read at 1.1 op 2',
-     ['4 transactions in 2 sessions: 4 committed, 0 aborted, 0 unknown'], CONTRADICTION_MAP),
-    ('lists and unknown outcomes', JEPSEN, UNLEARNT, UNLEARNT_LOG, 'not serializable: A1 unknown read at 2.2 op 1', UNLEARNT_TOLD, None),
-    ('the example', JEPSEN, EXAMPLE, EXAMPLE_LOG, 'not serializable: A8 cycle of known edges', EXAMPLE_TOLD, None),
+     ['4 transactions in 2 sessions: 4 committed, 0 aborted, 0 unknown', invented(2, 2)], CONTRADICTION_MAP),
+    ('lists and unknown outcomes', JEPSEN, UNLEARNT, UNLEARNT_LOG, 'not serializable: A1 unknown read at 2.2 op 1', UNLEARNT_TOLD + [invented(2, 2)], None),
+    ('the example', JEPSEN, EXAMPLE, EXAMPLE_LOG, 'not serializable: A8 cycle of known edges', EXAMPLE_TOLD + [invented(3, 3)], None),
     ('odd EDN', JEPSEN, ODD, ODD_LOG, 'serializable', ODD_TOLD, None),
     ('an initial value', JEPSEN + ['--initial', '0'], '''{:type :invoke, :process 4, :value [[:r 1 nil] [:r 2 nil] [:append 3 0]]}
 {:type :ok, :process 4, :value [[:r 1 0] [:r 2 nil] [:append 3 0]]}''', 'session 1\nbegin\nr 1 0\nr 2 0\nw 3 1\ncommit\n', 'serializable',
@@ -465,6 +485,7 @@ AROUND_IT = [
     ('a file that is missing', ['--from', 'plume', '/nowhere/history'], AROUND, '/nowhere/history: No such file or directory'),
     ('a folder', ['--from', 'plume', '/'], AROUND, "Is a directory"),
     ('lists of plume', ['--from', 'plume', '--lists', '-'], USAGE, '--lists and --operations are for jepsen'),
+    ('blind appends of plume', ['--from', 'plume', '--blind', '-'], USAGE, '--lists, --operations and --blind are for jepsen'),
     ('operations of plume', ['--from', 'plume', '--operations', 'x', '-'], USAGE, '--lists and --operations are for jepsen'),
     ('a history to go back to', ['--back', 'x', '--from', 'plume'], USAGE, '--back takes no history'),
     ('a map that cannot be written', ['--from', 'plume', '--map', '/nowhere/map', '-'], AROUND, '/nowhere/map: No such file or directory'),
@@ -744,6 +765,10 @@ class Checks:
         self.kinds[' '.join(said.split('\n')[0].split(' ')[:3])] += 1
         yield said.startswith('not serializable' if not explained else 'serializable'), True, 'made history %d: %s\n%s%s' % (seed, said, text, log)
         self.told_of_lists.update(name for name, *_ in told)
+        named = [(text, about[2:3]) for text, (_, _, *about) in zip(lines, places)]
+        without = self.importer.log_of(self.read('jepsen', text), self.importer.Lists())[0]
+        yield without, [text for text, reader in named if reader in ([], [None])], 'made history %d, blind' % seed
+        yield explained and self.verdict(''.join(line + '\n' for line in without).encode()) != 'serializable', False, 'made history %d, blind: %s' % (seed, text)
         yield bool(told and explained), False, 'what lists say of made history %d: %s\n%s' % (seed, told, text)
         if not explained:
             words = back.retold(said, self.importer.operation_lines(lines, places))

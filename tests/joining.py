@@ -45,7 +45,7 @@ def process(store, path, share, seed, together, words):
             for _ in range(TRANSACTIONS):
                 transaction(store, session, dice)
 
-    with Recorder(path, barrier_every=None, share=share, overwrite=True, **words) as run:
+    with Recorder(path, share=share, overwrite=True, **words) as run:
         together.wait()
         threads = [threading.Thread(target=client, args=(number,)) for number in range(THREADS)]
         for thread in threads:
@@ -133,7 +133,7 @@ def runs(checks):
 def shares(checks):
     """Processes have no session and no identity in common, and one alone has those that it always had."""
     def numbers(name, share):
-        run = Recorder(checks.path(name), barrier_every=None, moments=None, share=share)
+        run = Recorder(checks.path(name), share=share)
         sessions = [run.session() for _ in range(3)]
         found = set()
         for _ in range(3):
@@ -173,8 +173,8 @@ def misfits(checks):
         ('same identity', 'log 3\nsession 2\nbegin\nw x 2\nw y 1\ncommit\n', r'second.log:5: the identity 1 stands in .*first.log:4 already'),
         ('other version', 'log 2\nsession 2\nbegin\ncommit\n', r'first.log is of log 3, and .*second.log of log 2'),
         ('version 1', 'session 2\nbegin\ncommit\n', r'first.log is of log 3, and .*second.log of version 1'),
-        ('no end', 'log 3\nsession 2\nbegin\nw x 2\n', r'second.log: its last transaction has no end'),
-        ('no end of a line', 'log 3\nsession 2\nbegin\ncommi', r'second.log:4: this line has no end'),
+        ('no end', 'log 3\nsession 2\nbegin\nw x 2\n', r'second.log: the log is not complete, its last transaction has no end'),
+        ('no end of a line', 'log 3\nsession 2\nbegin\ncommi', r'second.log:4: the log is not complete, this line has no end'),
         ('no log', '{:index 1}\n', r'second.log:1: a log begins with'), ('empty', '', r'second.log: it is empty'),
     ):
         checks.refused(name, [first, checks.file('second.log', text)], said)

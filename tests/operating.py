@@ -61,8 +61,8 @@ def many_keys(form, tails, count, outcome='commit', number=1):
 
 def behind_header(*parts, header=b'log 2\n'):
     yield header
-    for pieces in parts:
-        yield from pieces
+    for part in parts:
+        yield from part
 
 
 def shapes_of_version_2():
@@ -95,7 +95,7 @@ def shapes_of_version_3():
 
 
 def shapes():
-    """The name of each log of 16 MiB, its pieces, and what is said of it: the refusal, or the lines that `stats` begins with."""
+    """The name of each log of 16 MiB, its parts, and what is said of it: the refusal, or the lines that `stats` begins with."""
     yield 'one line', repeated(b'', b'a'), 'L1 line 1'
     yield 'one line of NUL bytes', repeated(b'', b'\0'), 'L1 line 1'
     yield 'one line behind session', repeated(b'session 1\nbegin\nr x 0\n', b'session'), 'L4 line 2'
@@ -131,10 +131,10 @@ class Runs:
         for name, data in [*texts.items(), *LOGS.items()]:
             self.paths[name] = self.file('text %s' % name, [data])
 
-    def file(self, name, pieces):
+    def file(self, name, parts):
         path = os.path.join(self.folder, name.replace(' ', '_').replace('/', '_'))
         with open(path, 'wb') as out:
-            out.writelines(pieces)
+            out.writelines(parts)
         os.chmod(path, 0o644)
         return path
 
@@ -189,8 +189,8 @@ class Runs:
     # ---- logs of 16 MiB
 
     def large(self):
-        for name, pieces, said in itertools.chain(*(SHAPES[version]() for version in self.versions)):
-            path = self.file('shape', pieces)
+        for name, parts, said in itertools.chain(*(SHAPES[version]() for version in self.versions)):
+            path = self.file('shape', parts)
             for words, _ in self.calls(path):
                 name_of = '16 MiB, %s, %s' % (name, ' '.join(words[:-1]))
                 got, used = self.measured(words)

@@ -3,9 +3,12 @@
 
 Made twice, in other places, of files of other times, the packages must have the same bytes, and SHA256SUMS those sums. The Debian package is
 unpacked by dpkg-deb, and installed and removed by dpkg in a folder; the tarball is unpacked by Python; all must have the same files. There the
-program judges, and the scripts import, join, draw and collect logs, with nothing on the path but the system's commands. PROVED names the kit
+program judges, and the scripts import, join, draw and collect logs, with nothing on the path but the system's commands. The commands of the
+package's README.md do what it says, and it speaks of nothing that only the repository has. PROVED names the kit
 where the program was proved, and no kit otherwise. Where there is no dpkg, a line says so. Last line: 'package: N passed, M failed'."""
 import gzip, hashlib, os, re, shutil, subprocess, sys, tarfile, tempfile
+
+import readme
 
 TOP = os.path.dirname(os.path.dirname(os.path.abspath(__file__)))
 AROUND, LATE = 70, 300
@@ -137,6 +140,23 @@ class Checks:
         for script in ('cobra_poly-import', 'cobra_poly-picture', 'cobra_poly-join'):
             call(script, '--help')
 
+    def page(self, at):
+        """README.md speaks of what a package has, and its commands do what it says."""
+        work, tools = self.path('page'), self.path('solvers')
+        shutil.copytree(os.path.join(at, 'share', 'cobra-poly'), work)
+        os.mkdir(tools)
+        readme.stand_ins(tools)
+        text = content(os.path.join(work, 'README.md')).decode()
+        strange = [word for word in ('./run', './check', './prove', './install', './solve', './package', 'toolchain', 'clone', '<!--', 'tools/') if word in text]
+        self.expect(not strange, 'README.md speaks of %s' % strange)
+        links = re.findall(r'\]\(([^)#:]+)', text)
+        self.expect('PROVED' in links and all(os.path.exists(os.path.join(work, it)) for it in links), 'README.md links to %s' % links)
+        page, commands = readme.Page(work, os.path.join(at, 'bin') + os.pathsep + tools), readme.transcripts(text)
+        for command, status, said in commands + [(block, 0, said) for block, said in readme.scripts(text)]:
+            page.told(page.start(command), command, status, said)
+        self.passed, self.failed = self.passed + page.passed, self.failed + page.failed
+        self.expect(len(commands) > 20, 'README.md has %d commands' % len(commands))
+
     def told(self):
         """PROVED of a program that was proved, and of one of which nothing says so."""
         for program, kit, names_kit in ((self.proved, KIT, True), (self.proved, '', False), (self.program, KIT, False)):
@@ -175,6 +195,8 @@ def main():
             trees[what] = tree(at)
             checks.expect(trees[what] == trees['the tarball'], '%s has other files than the tarball' % what)
             checks.used(what, at)
+            if what == 'the tarball':
+                checks.page(at)
         checks.told()
     print('package: %d passed, %d failed' % (checks.passed, checks.failed))
     return 1 if checks.failed else 0

@@ -6,27 +6,33 @@ The pages of each refuted example, and of made logs that are refuted, up to 1,00
 is told must be an arrow between its two boxes, bold, with the told line as its name, and there are no others but the thin ones; each
 transaction that is told must be a box with those of its operations that are told. Nothing may stand in the browser's console. In the
 browser itself are measured: that words stay in their boxes, that boxes do not meet, and that words on arrows cover no box; and tried: what is marked
-where the mouse is, what is folded, and the switch for what arrows rest on. Then come logs and names that are hostile, units of moments,
+where the mouse is, what is folded, and the switch for what arrows rest on. So are the pages of `--level`: at levels of snapshots each arrow
+begins and ends at the snapshot or the commit that is told. Then come labels, logs and names that are hostile, units of moments,
 and what must end with a status. Chromium is Debian's, and is installed where it is not there; where it cannot be had, a line says so and pages are read without it.
 Last line: 'picture: N passed, M failed'."""
-import html, html.parser, json, os, re, shutil, subprocess, sys, tempfile
+import collections, html, html.parser, json, os, re, shutil, subprocess, sys, tempfile
 
 HERE = os.path.dirname(os.path.abspath(__file__))
 TOP = os.path.dirname(HERE)
 sys.path.insert(0, HERE)
-import explained, generate
+import explained, generate, levels
 from certificates import HEADING, WHY_NOT, Part
 
 sys.path.insert(0, os.path.join(TOP, 'tools'))
 import picture
 
-PICTURE = os.path.join(TOP, 'tools', 'picture.py')
+PICTURE, TOLD = (os.path.join(TOP, 'tools', name) for name in ('picture.py', 'told.py'))
+# A lost update of a key that looks like the name of a transaction.
+LABELLED = 'session 1\nbegin\nr 1.1 0\nw 1.1 5\ncommit\nsession 2\nbegin\nr 1.1 0\nw 1.1 6\ncommit\n'
 LONG = 3000
 BROWSERS, AROUND = ('chromium-headless-shell', 'chromium'), 70
 # Another test installs what it needs meanwhile, and of two that read the lists of packages at once one would fail.
 ALONE = 'flock', '--no-fork', '/var/lib/apt'
 # What `check` and the headline of `audit` say of a log of which every cube is refuted.
 TREES = explained.EVERY_CUBE, 'not serializable: every order of its versions closes a cycle'
+# At levels of snapshots: an edge, also as a step; and what closes a circle of which a first committer is supposed.
+POINTS = re.compile(r"^ *(?:\[[0-9]+\] )?(([0-9.]+)'s (snapshot|commit) before ([0-9.]+)'s (snapshot|commit): (?!.*cannot commit first:$).+)$", re.M)
+NOT_FIRST, WOULD = re.compile('([0-9.]+) cannot commit first:$', re.M), "would have overwritten"
 BEFORE, LINE = re.compile(r'^ *([0-9.]+) before ([0-9.]+): (.*)$', re.M), re.compile(r'\(line ([0-9]+)\)')
 # Measures and tries what only a browser knows, in each page, which is a frame of this one, and leaves what is wrong, and the pages as they stand.
 TRIED = r'''
@@ -102,7 +108,8 @@ class Tags(html.parser.HTMLParser):
 
     def __init__(self, text):
         super().__init__()
-        self.names, self.pictures, self.box = set(), [], None
+        # of each arrow, by the number of its picture and its name, how far down it begins and ends
+        self.names, self.pictures, self.box, self.heights = set(), [], None, {}
         self.feed(text)
 
     def handle_starttag(self, tag, pairs):
@@ -114,6 +121,11 @@ class Tags(html.parser.HTMLParser):
         if 'box' in looks:
             self.box = {'looks': looks, 'name': about['aria-label'], 'lines': set(), 'all': set()}
             self.pictures[-1][0][about['data-box']] = self.box
+        if 'frame' in looks:
+            self.box['top'], self.box['bottom'] = float(about['y']), float(about['y']) + float(about['height'])
+        if 'stroke' in looks:
+            numbers = [float(number) for number in re.findall('-?[0-9.]+', about['d'])]
+            self.heights[len(self.pictures), self.pictures[-1][1][-1][1]] = numbers[1], numbers[-1]
         if 'row' in looks and 'data-line' in about:
             self.box['all'].add(int(about['data-line']))
             if 'told' in looks:
@@ -194,7 +206,7 @@ def fault_of_picture(boxes, arrows, text):
             return 'an arrow to itself: %s' % name
         ends = re.sub(explained.BEHIND, '', name)
         for line in map(int, LINE.findall(name if 'bold' in looks else ends)) if 'otherwise' not in looks else ():
-            if not any(line in boxes[it]['lines'] for it in ((first, second) if '(line %d)' % line in ends else boxes)):
+            if not any(line in boxes[it]['lines'] for it in ((first, second) if '(line %d)' % line in ends and 'no transaction' not in name else boxes)):
                 return 'line %d is not marked: %s' % (line, name)
     for name, box in boxes.items():
         if not box['name']:
@@ -235,6 +247,34 @@ def fault(page, text, said):
     return None
 
 
+def fault_of_points(page, text, said):
+    """What is wrong with a page at a level of snapshots, by what `audit --explain --level` says."""
+    edges, supposed = POINTS.findall(said), len(NOT_FIRST.findall(said))
+    lines, bold, dashed = text.split('\n'), [], 0
+    for number, (boxes, arrows) in enumerate(page.pictures, 1):
+        for looks, name, first, second, _ in arrows:
+            if not {first, second} <= set(boxes):
+                return 'an arrow without its box: %s' % name
+            dashed += 'otherwise' in looks
+            if 'bold' in looks:
+                bold.append(name)
+                marked = set().union(*(box['lines'] for box in boxes.values()))
+                if not set(map(int, LINE.findall(name))) <= marked:
+                    return 'its lines are not marked: %s' % name
+            found = re.match(r"(?:supposed: )?[0-9.]+'s (snapshot|commit) before [0-9.]+'s (snapshot|commit): ", name)
+            heights = page.heights[number, name]
+            for box, end, height in zip((boxes[first], boxes[second]), found.groups() if found else (), heights):
+                top, bottom = box['top'], box['bottom']
+                if not (top - 1 <= height <= top + 70 if end == 'snapshot' else bottom - 45 <= height <= bottom + 1):
+                    return 'the %s of %s is elsewhere: %r of %r, %s' % (end, first, height, (top, bottom), name)
+        for name, box in boxes.items():
+            if 'near' not in box['looks'] and not {'begin', 'commit', 'unknown'} >= {lines[min(box['all']) - 1].split(' ')[0], lines[max(box['all']) - 1].split(' ')[0]}:
+                return '%s is no bar: %r' % (name, sorted(box['all']))
+    if sorted(bold) != sorted(edge[0] for edge in edges):
+        return 'the bold arrows are %r, wanted %r' % (bold, edges)
+    return None if dashed == supposed + said.count(WOULD) else '%d dashed arrows, wanted %d' % (dashed, supposed + said.count(WOULD))
+
+
 def explained_by_audit(program, path):
     """What `audit --explain` tells of the part of a log, behind its headline as a verdict; None where the log is not refuted."""
     ran = subprocess.run([program, 'audit', '--explain', '--workers', '1', path], stdout=subprocess.PIPE, stderr=subprocess.PIPE, timeout=120)
@@ -249,7 +289,7 @@ def explained_by_audit(program, path):
 
 class Checks:
     def __init__(self, program, folder):
-        self.program, self.folder, self.passed, self.failed = program, folder, 0, 0
+        self.program, self.folder, self.passed, self.failed, self.met = program, folder, 0, 0, collections.Counter()
 
     def expect(self, holds, what):
         self.passed, self.failed = self.passed + bool(holds), self.failed + (not holds)
@@ -290,13 +330,32 @@ class Checks:
             if ran.returncode == 1:
                 yield name + ', by explain', text.decode(), ran.stdout.decode(), picture.page_of(lines, ran.stdout.decode(), name, unit).html()
 
+    def pages_of_levels(self, logs):
+        """The pages of each of these logs at each level that it does not keep."""
+        for name, text in logs:
+            path = self.put('page.log', text)
+            for level in levels.LEVELS:
+                try:
+                    report = picture.scripts.audited(self.program, path, level)
+                except picture.scripts.Stop:
+                    continue
+                about, told = '%s at %s' % (name, level), picture.told.of_part(report)
+                self.expect(told.code != picture.told.PART, '%s: %r' % (about, report['explanation']))
+                page = picture.page_of_part(text.decode().splitlines(), report, about).html()
+                self.expect('<h1>%s: not kept' % levels.LEVELS[level] in page, '%s: no heading' % about)
+                self.met[told.code] += 1
+                is_of_points = told.code in (picture.told.CIRCLE, picture.told.TWO_WRITERS)
+                title = 'not serializable: ' + picture.told.FAULTS[None if told.code == picture.told.TREE else told.code] if not is_of_points else levels.LEVELS[level]
+                yield about, text.decode(), '\n'.join([title, *told.lines[1:], '']), page
+
     def look(self, command, pages):
         """Holds these pages against what `explain` says, as they stand in the browser where there is one."""
         broken = '<script>throw new Error("broken on purpose")</script>'
         seen, console = loaded(command, self.folder, [page for *_, page in pages] + [HOSTILE[2], broken]) if command else ([([], page) for *_, page in pages], [])
         for (name, text, said, page), (faults, stands) in zip(pages, seen):
             outside = re.findall(r'(?:src|href)="(?!#)[^"]*"|https?:|@import|url\(', page)
-            faults = ['it names something outside: %r' % outside] * bool(outside) + faults + list(filter(None, [fault(Tags(stands), text, said)]))
+            judge = fault if said.startswith('not serializable') else fault_of_points
+            faults = ['it names something outside: %r' % outside] * bool(outside) + faults + list(filter(None, [judge(Tags(stands), text, said)]))
             known = re.search('^known as: .*', said, re.M)
             faults += ['it does not say %r' % known[0]] if known and html.escape(known[0][1:]) not in page else []
             self.expect(not faults, '%s: %s' % (name, '; '.join(faults)))
@@ -306,9 +365,9 @@ class Checks:
             self.expect(len(console) == 1 and 'broken on purpose' in console[0], 'the console has, beside the error that is made: %r' % console)
 
     def lanes(self):
-        """A session whose first transaction behind a barrier was aborted has one lane: the next one states the same barrier."""
+        """A session whose first transaction was aborted has one lane, also if the next one states the same moment."""
         text = 'log 3\nsession 1\nbegin 5\nw x 1\nabort\nbegin 5\nr x 0\nw x 2\ncommit 8\nsession 2\nbegin 5\nr x 0\nw x 3\ncommit 9\n'
-        for _, _, _, page in self.pages([('a barrier', text.encode())]):
+        for _, _, _, page in self.pages([('one moment', text.encode())]):
             self.expect(page.count('>session 1</text>') == 1 and 'data-box="1.1"' in page, 'session 1 has %d lanes' % page.count('>session 1</text>'))
 
     def units(self):
@@ -324,6 +383,33 @@ class Checks:
         for moments, words in ((0, '0 µs'), (999, '999 µs'), (1500, '1.5 ms'), (1234567, '1.23457 s')):
             self.expect(history.time(moments) == words, '%d: %s' % (moments, history.time(moments)))
 
+    def labels(self):
+        """Labels stand behind the names that they are of, and behind nothing that looks like one."""
+        path, page, words = self.put('labelled.log', LABELLED), os.path.join(self.folder, 'labelled.html'), ['--program', self.program]
+        plain = self.call(path, '-o', page, *words)
+        self.expect(plain[0] == 0 and 'transfer' not in content(page), 'without labels: %r' % (plain,))
+        self.put('labelled.log.labels', '1 1 transfer, <b>thread</b> 4\n2 1 audit of 1.1\n9 9 nothing\n')
+        for more, told in (([], '2.1 (audit of 1.1) reads 1.1 0 (line'), (['--level', 'snapshot'], "2.1 (audit of 1.1)'s snapshot before 1.1 (transfer")):
+            self.expect(self.call(path, '-o', page, *words, *more)[0] == 0, 'labelled %r' % more)
+            text = content(page)
+            self.expect('1.1 (transfer, &lt;b&gt;thread&lt;/b&gt; 4)</text>' in text and '2.1 (audit of 1.1)</text>' in text and '<b>thread' not in text, 'labels in boxes')
+            said = html.unescape(re.sub('<[^>]*>', '', text))
+            self.expect(told in said and 'reads 1.1 (' not in said, 'labels in lines: %r' % said[-2000:])
+        for at in (['audit', '--explain'], ['audit', '--explain', '--level', 'snapshot'], ['explain']):
+            said = subprocess.run([self.program, *at, path], stdout=subprocess.PIPE).stdout.decode()
+            ran = subprocess.run([sys.executable, TOLD, path], input=said.encode(), stdout=subprocess.PIPE, stderr=subprocess.PIPE)
+            got = ran.stdout.decode()
+            self.expect(ran.returncode == 0 and re.sub(r' \((transfer, <b>thread</b> 4|audit of 1\.1)\)', '', got) == said, 'told %r: %r' % (at, got))
+            named, keys = re.compile('1[.]1 .transfer'), re.compile(r"(?:reads|wrote|writes|write|version of|update of|see 2[.]1's|\]) 1[.]1 \(tr")
+            self.expect(all(named.search(line) for line in got.split('\n') if re.search('which 1[.]1|1[.]1 and|1[.]1 before|by 1[.]1', line)) and not keys.search(got), 'told %r: %r' % (at, got))
+        for text, said in (('1 1\n', 'labels:1: not a label'), ('1 1 x\n1 1 y\n', 'labels:2: a second label of 1.1'), ('1 1 x\x1b[1m\n', 'labels:1: '), ('0 1 x\n', 'labels:1: ')):
+            self.put('labelled.log.labels', text)
+            answer = self.call(path, '-o', os.path.join(self.folder, 'none.html'), *words)
+            self.expect(answer[0] == AROUND and said in answer[2], 'labels %r: %r' % (text, answer))
+        os.remove(path + '.labels')
+        ran = subprocess.run([sys.executable, TOLD, path], stdin=subprocess.DEVNULL, stdout=subprocess.PIPE, stderr=subprocess.PIPE)
+        self.expect(ran.returncode == AROUND and b'No such file' in ran.stderr, 'no labels: %r' % ran)
+
     def statuses(self):
         log = dict(generate.examples((1, 2, 3)))
         page, whole = os.path.join(self.folder, 'none.html'), lambda name: os.path.join(generate.EXAMPLES, name)
@@ -335,6 +421,8 @@ class Checks:
             ([skew, '--program', self.failing('unknown', '{"verdict":"unknown","reason":"1 closed"}', 3)], 3, '1 closed'),
             ([skew, '--program', self.failing('device', '', 5)], 5, 'ends with 5'),
             ([skew, '--program', self.failing('silent', '{"verdict":"not serializable","code":null,"part":[],"explanation":[]}', 1)], AROUND, 'nothing to draw'),
+            ([skew, '--level', 'snapshot'], AROUND, 'snapshot isolation is kept'), ([skew, '--level', 'none'], 2, 'possible values'),
+            ([skew, '--level', 'snapshot', '--explained', skew], 2, 'without a level'),
             ([skew, '--explained', self.put('audited', self.audit(skew))], AROUND, 'this is what audit says'),
             ([skew, '--explained', self.put('json', self.audit(skew, '--format', 'json'))], AROUND, 'this is what audit says'),
             ([skew, '--explained', self.put('cut', 'not serializable: A8 cycle of known edges\n')], AROUND, 'breaks off'),
@@ -358,6 +446,11 @@ class Checks:
         pages = [os.path.join(self.folder, name) for name in ('one.html', 'two.html')]
         self.expect(all(self.call(whole('long_fork.log'), '-o', page, '--program', self.program)[0] == 0 for page in pages), 'no page')
         self.expect(open(pages[0], 'rb').read() == open(pages[1], 'rb').read(), 'two pages of one log differ')
+
+
+def content(path):
+    with open(path, encoding='utf-8') as file:
+        return file.read()
 
 
 def hostile():
@@ -406,6 +499,15 @@ def logs():
     yield 'many operations', generate.text_of([(n + 1, [generate.Transaction(ops, 'commit')]) for n, ops in enumerate(many)])
 
 
+def logs_of_levels():
+    """Logs of which most break a level of snapshots, and a long one."""
+    yield from generate.examples((1, 2, 3))
+    yield from (('made log %d' % seed, levels.made_text(seed)) for seed in range(1, 41))
+    text = long_log()
+    last = text.decode().rstrip().split('\n')[-2].split(' ')[1]
+    yield 'a long log', text + ('session 9\nbegin\nr %s 0\nw %s 9999999\ncommit\n' % (last, last)).encode()
+
+
 def main():
     with tempfile.TemporaryDirectory() as folder:
         checks, command = Checks(os.path.abspath(sys.argv[1]), folder), browser()
@@ -414,8 +516,14 @@ def main():
         pages = list(checks.pages(logs()))
         print('picture: %d pages' % len(pages))
         checks.look(command, pages)
+        of_levels = list(checks.pages_of_levels(logs_of_levels()))
+        print('picture: %d pages of levels: %s' % (len(of_levels), ', '.join('%s %d' % it for it in checks.met.most_common())))
+        checks.expect({picture.told.CIRCLE, picture.told.TWO_WRITERS} <= set(checks.met), 'nothing met: %r' % checks.met)
+        for at in range(0, len(of_levels), 100):
+            checks.look(command, of_levels[at:at + 100])
         checks.lanes()
         checks.units()
+        checks.labels()
         checks.statuses()
     print('picture: %d passed, %d failed' % (checks.passed, checks.failed))
     sys.exit(1 if checks.failed else 0)

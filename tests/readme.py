@@ -84,12 +84,12 @@ class Page:
     def is_another_order(self, command, got, text):
         """Whether both are serial orders of the command's log, with the same lines, of which `verify` accepts the one that came."""
         words, told, wanted = command.split(), got.splitlines(), text.splitlines()
-        if words[:2] != ['./run', 'check'] or told[:1] != wanted[:1] or told[:1] != ['serializable'] or sorted(told) != sorted(wanted):
+        if words[1:2] != ['check'] or told[:1] != wanted[:1] or told[:1] != ['serializable'] or sorted(told) != sorted(wanted):
             return False
         with tempfile.NamedTemporaryFile('w') as order:
             order.write(''.join(line + '\n' for line in told[1:]))
             order.flush()
-            ran = self.start('./run verify --order %s %s' % (order.name, words[-1]))
+            ran = self.start('%s verify --order %s %s' % (words[0], order.name, words[-1]))
             return ran.communicate(timeout=LATE)[0] == b'accepted\n' and ran.returncode == 0
 
 

@@ -3,8 +3,8 @@
 misuses it.
 
 A few thousand short runs of a store that is serializable, with commits that are lost, take effect late, or not at all, writes that are
-refused, clients that come late, leave and die, odd keys, with barriers and moments of each kind: each log must be well-formed, hold what
-the store was asked to write, and be serializable; at each barrier the log can be cut. Then runs of stores that are broken, each in the way
+refused, clients that come late, leave and die, odd keys, with and without moments: each log must be well-formed, hold what the store was
+asked to write, and be serializable. Then runs of stores that are broken, each in the way
 that one of the anomalies A1 to A9 names: some log of each must be refused for it; and of one that answers from the past, which is
 refused where the log says all of real time. Last line: 'recorder: N passed, M failed'."""
 import concurrent.futures, contextlib, io, itertools, os, random, re, subprocess, sys, tempfile, threading, time
@@ -248,15 +248,9 @@ class Client:
         with contextlib.suppress(Died):
             for _ in range(self.dice.randint(1, 2)):
                 # it leaves, and comes back under another number
-                with self.run.session(look=self.look if self.way.looks else None) as self.session:
+                with self.run.session() as self.session:
                     for _ in range(self.dice.randint(0, self.way.transactions)):
                         self.transaction()
-
-    def look(self, keys):
-        with self.session.transaction(commit=self.connection.commit) as txn:
-            self.connection.begin()
-            for key in keys:
-                txn.read(key, self.connection.read(key))
 
     def transaction(self):
         dice, connection = self.dice, self.connection
@@ -305,11 +299,10 @@ class Way:
     """What a run is like."""
 
     def __init__(self, dice, **given):
-        self.moments = dice.choice(('all', 'barriers', 'barriers', None))
-        self.barrier = dice.randint(1, 8) if self.moments and dice.random() < 0.8 else None
+        self.moments = dice.choice(('all', None))
         self.clients, self.transactions = dice.randint(1, 4), dice.randint(1, 6)
         self.losses, self.deaths = dice.choice((0, 0.1, 0.4)), dice.choice((0, 0, 0.1))
-        self.looks, self.keys = dice.random() < 0.7, KEYS[:dice.randint(1, 4)]
+        self.keys = KEYS[:dice.randint(1, 4)]
         self.kinds = ('read', 'write', 'update', 'replace', 'refused')
         self.store, self.clock = Connection, dice.choice((None, None, time.monotonic_ns, lambda: 5))
         self.__dict__.update(given)
@@ -320,7 +313,7 @@ def run_once(path, seed, **given):
     dice = random.Random(seed)
     way = Way(dice, **given)
     store = Store(random.Random(seed))
-    run = Recorder(path, way.barrier, way.moments, aborted=Aborted, unknown=(Lost,), clock=way.clock)
+    run = Recorder(path, way.moments, aborted=Aborted, unknown=(Lost,), clock=way.clock)
     clients = [Client(run, way.store(store, number), dice.random(), way) for number in range(way.clients)]
     threads = [threading.Thread(target=client.work) for client in clients]
     for thread in threads:
@@ -333,26 +326,6 @@ def run_once(path, seed, **given):
         log = file.read()
     os.remove(path)
     return way, store, run, warnings, log
-
-
-def is_cut(sessions, moment):
-    """Whether at this moment each node that stands before it is over, and each one behind it is since."""
-    taken = reference.taken_of(sessions)
-    before, behind = [], []
-    for number, transactions in sessions:
-        nodes = [it for place, it in enumerate(transactions, 1) if it.outcome == 'commit' or (number, place) in taken]
-        first = next((place for place, it in enumerate(nodes) if it.begun is not None and it.begun >= moment), len(nodes))
-        before.append(nodes[:first])
-        behind.append(nodes[first:])
-    # the first of each session behind it begins there, and so all of them are since
-    over, grows = set(), True
-    while grows:
-        seen = {op[1:] for nodes in before for it in nodes if id(it) in over for op in it.ops if op[0] == 'r'}
-        more = {id(it) for nodes in before for place, it in enumerate(nodes)
-                if it.ended is not None and it.ended < moment or any(id(later) in over for later in nodes[place + 1:])
-                or any(op[0] == 'w' and op[1:] in seen for op in it.ops)}
-        grows, over = more != over, more
-    return over == {id(it) for nodes in before for it in nodes}
 
 
 class Checks:
@@ -389,8 +362,7 @@ def seeds(count, seconds):
 
 
 def sound_runs(checks):
-    """Runs of the sound store: all that is asked of their logs, and how many barriers were cuts."""
-    cuts = 0
+    """Runs of the sound store: all that is asked of their logs."""
     with concurrent.futures.ThreadPoolExecutor(4) as pool:
         answers = []
         for seed in seeds(SOUND, SECONDS):
@@ -401,34 +373,11 @@ def sound_runs(checks):
             asked = {(name_of(key), identity_of(text)) for key, text in store.asked}
             checks.expect(asked <= logged, 'sound run %d: %s were written, and are not in the log' % (seed, asked - logged))
             said = [it.begun for _, transactions in sessions for it in transactions]
-            checks.expect(way.moments != 'all' or None not in said, 'sound run %d: a begin states no moment' % seed)
-            first = [(number, it.begun) for number, transactions in sessions for it in transactions if it.outcome == 'commit' and it.begun]
-            checks.expect(way.moments != 'barriers' or len(first) == len(set(first)), 'sound run %d: a begin is stated twice' % seed)
-            at_barriers = way.moments != 'barriers' or set(said) <= {None, *run.barriers}
-            checks.expect(at_barriers, 'sound run %d: a begin states another moment' % seed)
-            held = [is_cut(sessions, moment) for moment in run.barriers]
-            # a commit that was lost and takes effect behind a barrier is of a session that ended before it
-            checks.expect(way.losses or all(held), 'sound run %d: the log cannot be cut at a barrier: %s' % (seed, held))
-            cuts += sum(held)
+            checks.expect(None not in said if way.moments else not any(said), 'sound run %d: what its begins state' % seed)
         for seed, log, answer in answers:
             status, said = answer.result()
             checks.expect(status == 0, 'sound run %d: %d %s\n%s' % (seed, status, said[:100], log.decode()))
-    print('recorder: %d runs, %d barriers that are cuts' % (len(answers), cuts))
-
-
-def certain_cuts(checks):
-    """Where nothing takes effect late, each barrier is a cut, for whatever ends unknown or aborts."""
-    for seed in seeds(SOUND // 3, SECONDS / 3):
-        store = type('Prompt', (Connection,), {'commit_and_lose': lose_promptly})
-        *_, run, _, log = run_once(checks.path('cut'), seed, store=store, looks=True, barrier=3, moments=('all', 'barriers')[seed % 2])
-        held = [is_cut(reference.read_log(log), moment) for moment in run.barriers]
-        checks.expect(all(held), 'prompt run %d: %s\n%s' % (seed, held, log.decode()))
-
-
-def lose_promptly(self):
-    if self.store.dice.random() < 0.5:
-        self.commit()
-    raise Lost
+    print('recorder: %d runs' % len(answers))
 
 
 BROKEN_WAYS = {
@@ -442,7 +391,7 @@ def broken_runs(checks):
     """For each anomaly some log of the store that has it is refused for it."""
     for store, given in BROKEN_WAYS.items():
         code, seed = None, 0
-        how = dict(dict(clients=3, transactions=12, keys=['x', 'y'], losses=0, deaths=0, moments='barriers', barrier=10), **given)
+        how = dict(dict(clients=3, transactions=12, keys=['x', 'y'], losses=0, deaths=0), **given)
         while code != store.code and seed < BROKEN:
             *_, log = run_once(checks.path('broken'), seed, store=store, **how)
             status, said = checks.check(log)
@@ -452,7 +401,7 @@ def broken_runs(checks):
 
 def real_time(checks):
     """A store that answers from the past is serializable where the log says nothing of real time, and refused where it says all."""
-    how = dict(store=FromThePast, clients=3, transactions=12, keys=['x', 'y'], losses=0, deaths=0, barrier=None)
+    how = dict(store=FromThePast, clients=3, transactions=12, keys=['x', 'y'], losses=0, deaths=0)
     how.update(kinds=('read', 'read', 'update'))
     refused = 0
     for seed in range(20):
@@ -467,21 +416,20 @@ def real_time(checks):
 def misuse(checks):
     """What a harness may do wrong, and what it hears."""
     given = [
-        (dict(moments='some'), "'all', 'barriers' or None"), (dict(barrier_every=0), 'from 1'),
+        (dict(moments='some'), "'all' or None"),
         (dict(aborted='Lost'), 'no class of exceptions'), (dict(aborted=Lost, unknown=(Lost,)), 'named for both'),
-        (dict(clock=time.time), 'whole numbers'), (dict(share=(1, 2), barrier_every=5), 'those of one process'),
-        (dict(share=(1, 2), moments='barriers'), 'those of one process'), (dict(share=(1, 2), barrier_every=5, moments='all'), 'those of one process'),
+        (dict(clock=time.time), 'whole numbers'),
     ] + [(dict(share=it, moments='all'), 'a pair of whole numbers') for it in (2, (0, 1), (3, 2), (1, 2, 3), ('1', '2'))]
     for words, said in given:
         checks.misused(lambda: Recorder(checks.path('misuse'), **words), said, 'Recorder(%s)' % words)
-    with quiet() as told, Recorder(checks.path('misuse'), barrier_every=200) as run:
-        session, other = run.session(), run.session()
+    with quiet() as told, Recorder(checks.path('misuse')) as run:
+        session = run.session()
         txn = session.transaction()
         wid = txn.write('x')
         calls = [
             (lambda: txn.read(('x', 1), 0), 'a key is'), (lambda: txn.write(None), 'a key is'), (lambda: txn.write(True), 'a key is'),
             (lambda: txn.read('x', 0, before=wid + 1), 'did not write'), (lambda: txn.refused(wid + 1), 'did not write'),
-            (session.transaction, 'still open'), (other.transaction, 'one thread'),
+            (session.transaction, 'still open'),
         ]
         for call, said in calls:
             checks.misused(call, said, 'a transaction')
@@ -492,12 +440,11 @@ def misuse(checks):
             checks.misused(call, 'has ended', 'behind its end')
         session.close()
         checks.misused(session.transaction, 'is closed', 'behind its leaving')
-        many = [run.session() for _ in range(recorder.CLIENTS - 2)]
+        many = [run.session() for _ in range(recorder.CLIENTS - 1)]
         checks.misused(run.session, 'at once', 'too many sessions')
         several_in_one_thread(checks)
-    checks.expect(len(many) == 998 and 'one session' in told.getvalue(), 'the log of a misused recorder: %s' % told.getvalue())
+    checks.expect(len(many) == 999 and 'one session' in told.getvalue(), 'the log of a misused recorder: %s' % told.getvalue())
     checks.misused(run.session, 'is closed', 'behind close')
-    checks.misused(lambda: run.barrier(), 'is closed', 'a barrier behind close')
     with open(checks.path('misuse'), 'rb') as log:
         checks.expect(log.read().split(b'\n')[:4] == [b'log 3', b'session 1', b'begin', b'w x 1001'], 'the log of a misused recorder')
     checks.expect(run.close() == run.close(), 'closed again')
@@ -529,16 +476,13 @@ def kept(checks):
 
 
 def several_in_one_thread(checks):
-    """Without barriers one thread may have several clients."""
-    with Recorder(checks.path('one'), moments='barriers') as run:
+    """One thread may have several clients."""
+    with Recorder(checks.path('one')) as run:
         transactions = [run.session().transaction() for _ in range(3)]
         wid = transactions[0].write(b'k\xff')
         for txn in transactions:
             txn.read(b'k\xff', wid)
             txn.commit()
-        run.barrier()
-        run.session().transaction().commit()
-        checks.expect(len(run.barriers) == 1, 'a barrier that was asked for')
     checks.expect(checks.check(open(checks.path('one'), 'rb').read())[0] == 0, 'one thread, three clients')
 
 
@@ -605,53 +549,34 @@ def outcomes(checks):
 
 
 def stuck(checks):
-    """Clients that die in a transaction, hang in one, or do nothing, and the others at a barrier."""
-    def other(run, count):
-        with run.session() as session:
-            for _ in range(count):
-                with session.transaction() as txn:
-                    txn.write('y')
-
-    for what, client, patience in (('dies', None, 60), ('hangs', threading.Event(), 0.3), ('idles', threading.Event(), 60)):
-        run, began = Recorder(checks.path('stuck'), barrier_every=4, patience=patience, overwrite=True), threading.Event()
+    """A client that dies in a transaction, and one that hangs in one until the end."""
+    for what in ('dies', 'hangs'):
+        run, began, ends = Recorder(checks.path('stuck'), overwrite=True), threading.Event(), threading.Event()
 
         def work():
-            session = run.session()
-            if what == 'idles':
-                session.transaction().commit()
-            else:
-                session.transaction().write('x')
+            run.session().transaction().write('x')
             began.set()
-            if client:
-                client.wait(60)
+            if what == 'hangs':
+                ends.wait(60)
 
         thread = threading.Thread(target=work)
         thread.start()
-        began.wait(60) if client else thread.join()
-        before = time.monotonic()
-        others = [threading.Thread(target=other, args=(run, 6)) for _ in range(2)]
-        for it in others:
-            it.start()
-        for it in others:
-            it.join()
-        took = time.monotonic() - before
-        if client:
-            client.set()
-        thread.join()
+        began.wait(60)
+        with run.session() as session, session.transaction() as txn:
+            txn.write('y')
         with quiet():
             warnings = ' '.join(run.close())
+        ends.set()
+        thread.join()
         sessions = reference.read_log(open(run.path, 'rb').read())
-        checks.expect(took < 20, 'a client that %s: the others took %.1f s' % (what, took))
-        checks.expect(bool(run.barriers) == (what != 'hangs'), 'a client that %s: %d barriers' % (what, len(run.barriers)))
-        checks.expect(('were open' in warnings) == (what != 'idles'), 'a client that %s: %s' % (what, warnings))
-        checks.expect(('called off' in warnings) == (what == 'hangs'), 'a client that %s: %s' % (what, warnings))
+        checks.expect('were open' in warnings, 'a client that %s: %s' % (what, warnings))
         lost = [it for _, transactions in sessions for it in transactions if it.outcome == 'unknown']
-        checks.expect([it.ops for it in lost] == ([] if what == 'idles' else [[('w', 'x', 1001)]]), 'a client that %s: %s' % (what, lost))
+        checks.expect([it.ops for it in lost] == [[('w', 'x', 1001)]], 'a client that %s: %s' % (what, lost))
 
 
 def memory(checks):
     """What stands in memory is a buffer a client; what is in files is there before the end, and identities and sessions stand once."""
-    run, most = Recorder(checks.path('long'), barrier_every=500), 0
+    run, most = Recorder(checks.path('long')), 0
     folder = run._folder
     with run.session() as session:
         for _ in range(5000):
@@ -665,14 +590,11 @@ def memory(checks):
         with run.session() as session, session.transaction() as txn:
             txn.write('y')
     with quiet():
-        warnings = run.close()
+        run.close()
     text = open(run.path).read()
     checks.expect(len(run._parts) == 1 and not os.path.exists(folder), 'one part, and none is left')
     writes = [line for line in text.split('\n') if line[:2] == 'w ']
     checks.expect(text.count('session ') == 2001 and len(writes) == len(set(writes)) == 17000, 'all lines')
-    checks.expect(len(run.barriers) == 13, '%d barriers' % len(run.barriers))
-    told = ' '.join(warnings)
-    checks.expect('500 sessions between two barriers' in told and ' transactions' not in told, 'limits: %s' % told)
 
 
 def worth(checks):
@@ -705,12 +627,7 @@ def worth(checks):
     ):
         found = log(*sessions)
         checks.expect(said in found, '%s: %s' % (said, found))
-    many = [write] * 1001
-    checks.expect('1002 transactions without a barrier' in log(many, [own], moments='barriers'), 'no barrier')
-    checks.expect('65 sessions' in log(*([write],) * 65, barrier_every=200), 'many sessions between two barriers')
-    checks.expect('1001 transactions between two barriers' in log(many, [own], barrier_every=1001), 'barriers far from each other')
-    checks.expect(not any('let there be more' in log(many, [own], **words) for words in ({}, {'moments': 'all'})), 'a long run')
-    run = Recorder(checks.path('worth'), barrier_every=None, overwrite=True)
+    run = Recorder(checks.path('worth'), overwrite=True)
     with run.session() as first, run.session() as second:
         with first.transaction() as txn, second.transaction() as other:
             wid = txn.write('x')
@@ -791,7 +708,7 @@ class Driver:
 
 
 def page(checks):
-    """The first lines of Python that docs/COLLECTING.md has, and its `look`, as they stand there."""
+    """The first lines of Python that docs/COLLECTING.md has, as they stand there."""
     with open(os.path.join(os.path.dirname(HERE), 'docs', 'COLLECTING.md'), encoding='utf-8') as file:
         blocks = re.findall(r'^```python\n(.*?)^```', file.read(), re.M | re.S)
     store = Store(random.Random(1))
@@ -805,9 +722,6 @@ def page(checks):
         thread.start()
     for thread in threads:
         thread.join()
-    names.update(store=Driver(Connection(store, 4)))
-    exec(next(it for it in blocks if it.startswith('def look')), names)
-    names['look'](['stock/7'])
     with quiet() as told:
         warnings = names['run'].close()
     with open(checks.path('run.log'), 'rb') as log:
@@ -822,7 +736,7 @@ def quiet():
         yield told
 
 
-PARTS = (page, names, misuse, kept, outcomes, stuck, memory, worth, processes, sound_runs, certain_cuts, broken_runs, real_time)
+PARTS = (page, names, misuse, kept, outcomes, stuck, memory, worth, processes, sound_runs, broken_runs, real_time)
 
 
 def main():

@@ -7,10 +7,10 @@ each cube is refuted, a refusal to one of them must at least once leave the answ
 explanation may then be another one, that tests/explained.py finds right. Needs a C compiler, for a small library that stands before the
 allocator of the C library.
 
-Of `pieces --into`, and of `audit --part` and `--order`, what a refused run leaves must be the first of the files that it writes with ample
+Of `audit --part` and `--order`, what a refused run leaves must be the first of the files that it writes with ample
 memory, each of them whole. The object of a log that is refused, and the report of `audit`, go out first.
 
-Once the first piece of a formula went out, a run in which every further request is refused must write the same text, and make none.
+Once the first part of a formula went out, a run in which every further request is refused must write the same text, and make none.
 
 GRAPHS is the program that times the crates of graphs. Of it each run must end by itself, and must not count other choices
 than it does with ample memory. With --version-1 all logs are of version 1. Last line: 'refused memory: N passed, M failed'."""
@@ -19,7 +19,6 @@ import os, shutil, subprocess, sys, tempfile
 HERE = os.path.dirname(os.path.abspath(__file__))
 sys.path.insert(0, HERE)
 import explained, generate, refuting
-from failing_devices import files_in
 
 # Whether a request for memory is the one that is to be refused.
 REFUSES = r'''
@@ -64,6 +63,15 @@ NO_MEMORY = (4, b'', b'out of memory\n')
 def c_compiler():
     """A C compiler, or nothing where there is none."""
     return shutil.which('cc') or shutil.which('clang') or shutil.which('gcc')
+
+
+def files_in(folder):
+    """The files of a folder, in the order in which they are written."""
+    found = {}
+    for name in sorted(os.listdir(folder)) if os.path.isdir(folder) else ():
+        with open(os.path.join(folder, name), 'rb') as file:
+            found[os.path.join(folder, name)] = file.read()
+    return found
 
 
 def is_right(words, wanted, got):
@@ -118,13 +126,12 @@ def main():
                 calls += [['refute', '--workers', count, '--proof', paths[form], log] for count in ('1', '4')]
         calls += [['solve', *words, log] for words in (['--workers', '1'], ['--workers', '4']) for log in [paths['log'], *examples('crossed_readers', 'lost_update')]]
         calls += [['solve', '--plain', '--budget', '1', log] for log in examples('crossed_readers')]
-        # `audit`, `pieces` and `split`
-        into = os.path.join(folder, 'pieces')
-        calls += [[command, '--workers', '4', paths['log']] for command in ('audit', 'pieces', 'split')]
+        # `audit` and `split`
+        into = os.path.join(folder, 'files')
+        calls += [[command, '--workers', '4', paths['log']] for command in ('audit', 'split')]
         for log in examples('shop'):
             calls += [['audit', *words, log] for words in (['--workers', '1'], ['--workers', '4', '--explain'], ['--workers', '4', '--format', 'json'])]
             calls += [['split', '--workers', count, log] for count in ('1', '4')]
-            calls += [['pieces', '--size', '1', *words, log] for words in (['--workers', '1'], ['--workers', '4', '--piece', '2'], ['--workers', '4', '--into', into])]
         calls += [['audit', '--workers', '1', *words, log] for words in (['--explain'], ['--budget', '1']) for log in examples('crossed_readers')]
         calls += [['audit', '--workers', '4', '--format', 'json', log] for log in examples('ends_before_it_begins')]
         part, order = os.path.join(into, 'part'), os.path.join(into, 'order')
@@ -165,7 +172,7 @@ def main():
             if words[:3] == ['check', '--workers', '2'] and words[-1].endswith('crossed_readers.log') and not left_to_another:
                 failed += 1
                 print('FAILED check: no refusal to one worker left the answer to the other')
-        # A formula of several pieces: 40 writers of a key each.
+        # A formula that goes out in several parts: 40 writers of a key each.
         with open(paths['log'], 'wb') as out:
             out.write(b''.join(b'session %d\nbegin\nw k%d %d\ncommit\n' % (k, k, k) for k in range(1, 41)))
         for words in (['encode', paths['log']], ['encode', '--plain', paths['log']]):

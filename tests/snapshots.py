@@ -1,8 +1,8 @@
-"""Snapshot orders of small logs by brute force, from the words of docs/DEFINITIONS.md and apart from the program. A session is a pair of
+"""Snapshot orders and prefix orders of small logs by brute force, from the words of docs/DEFINITIONS.md and apart from the program. A session is a pair of
 its number and its transactions, as in reference.py."""
 import itertools
 
-import pieces_model
+import small_logs
 
 
 def parted(ops):
@@ -22,7 +22,7 @@ def keys_written(ops):
 
 def nodes_of(sessions):
     """The nodes of a log: those that committed, and the taken ones."""
-    return pieces_model.nodes_of(pieces_model.resolved(sessions))
+    return small_logs.nodes_of(small_logs.resolved(sessions))
 
 
 def is_behind(later, node):
@@ -42,8 +42,9 @@ def replayed(store, ops):
     return store
 
 
-def is_order(nodes, points):
-    """Whether a list of points, each a pair of 'snapshot' or 'commit' and a node's index, is a snapshot order."""
+def is_order(nodes, points, locked=True):
+    """Whether a list of points, each a pair of 'snapshot' or 'commit' and a node's index, is a snapshot order; if not `locked`, a prefix
+    order, in which those that write one key may overlap."""
     numbers = range(len(nodes))
     if sorted(points) != sorted((kind, n) for n in numbers for kind in ('snapshot', 'commit')):
         return False
@@ -54,7 +55,7 @@ def is_order(nodes, points):
     for a, b in itertools.permutations(numbers, 2):
         if is_behind(nodes[b], nodes[a]) and not stands(a, b):
             return False
-        if keys_written(nodes[a].ops) & keys_written(nodes[b].ops) and not stands(a, b) and not stands(b, a):
+        if locked and keys_written(nodes[a].ops) & keys_written(nodes[b].ops) and not stands(a, b) and not stands(b, a):
             return False
     store = {}
     for kind, n in points:
@@ -64,15 +65,15 @@ def is_order(nodes, points):
     return True
 
 
-def has_order_of_all(sessions):
-    """Whether one of all lists of points is a snapshot order: for two or three nodes."""
+def has_order_of_all(sessions, locked=True):
+    """Whether one of all lists of points is such an order: for two or three nodes."""
     nodes = nodes_of(sessions)
     points = [(kind, n) for n in range(len(nodes)) for kind in ('snapshot', 'commit')]
-    return any(is_order(nodes, order) for order in itertools.permutations(points))
+    return any(is_order(nodes, order, locked) for order in itertools.permutations(points))
 
 
-def has_order(sessions):
-    """The same, point by point: what cannot be the beginning of a snapshot order is not gone on with."""
+def has_order(sessions, locked=True):
+    """The same, point by point: what cannot be the beginning of such an order is not gone on with."""
     nodes, tried = nodes_of(sessions), set()
     parts = [parted(node.ops) for node in nodes]
     wrote = [keys_written(node.ops) for node in nodes]
@@ -80,7 +81,7 @@ def has_order(sessions):
     def may_begin(n, begun, over):
         if any(is_behind(nodes[n], node) and m not in over for m, node in enumerate(nodes) if m != n):
             return False
-        return not any(wrote[m] & wrote[n] for m in begun - over)
+        return not locked or not any(wrote[m] & wrote[n] for m in begun - over)
 
     def goes_on(begun, over, store):
         state = begun, over, tuple(sorted(store.items()))

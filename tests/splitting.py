@@ -4,13 +4,13 @@ docs/DEFINITIONS.md, and what `check` says of it, against snapshot orders by bru
 
 Small logs of all versions are made, some with keys that begin with underscores, long keys and great identities. The text must be that of
 the plain splitter, and `check` must find an order of it exactly where the log has a snapshot order; the search for these is tried against
-all lists of points. A log without room is refused in words; one with a fault as `pieces` refuses it. Then calls by hand: a transaction of
+all lists of points. A log without room is refused in words; one with a fault as `audit` refuses it. Then calls by hand: a transaction of
 200,000 operations, and a long log, whose split log goes through `audit`. Last line: 'splitting: N passed, M failed'."""
 import argparse, concurrent.futures, os, random, subprocess, sys, time
 
 HERE = os.path.dirname(os.path.abspath(__file__))
 sys.path.insert(0, HERE)
-import generate, pieces_model, reference, snapshots
+import generate, reference, small_logs, snapshots
 from reference import Transaction
 
 CASES, SEED, CALLS, SHOWN, LATE, SECONDS = 1500, 1, 4, 20, 120, 20
@@ -67,7 +67,7 @@ def halves(locks, it):
 def split_log(sessions):
     """The split log, once outcomes are known."""
     locks, out = Locks(sessions), []
-    for number, transactions in pieces_model.resolved(sessions):
+    for number, transactions in small_logs.resolved(sessions):
         out.append((number, []))
         for it in transactions:
             is_split = it.outcome == 'commit' and snapshots.keys_written(it.ops)
@@ -144,15 +144,15 @@ def wrong_with(program, seed):
     if len(snapshots.nodes_of(sessions)) <= 3 and snapshots.has_order_of_all(sessions) != holds:
         return 'split', 'the search for snapshot orders is wrong'
     status, _, said = call(program, 'check', text=out)
-    kind = 'not snapshot isolated' if not holds else 'serializable' if pieces_model.has_order(sessions) else 'snapshot isolated alone'
+    kind = 'not snapshot isolated' if not holds else 'serializable' if small_logs.has_order(sessions) else 'snapshot isolated alone'
     return kind, None if (status, said) == (0 if holds else 1, '') else 'check: %d %r' % (status, said)
 
 
 def wrong_fault(program, seed):
     """What is wrong with how a damaged log is refused."""
     text = generate.damaged(seed, 1 + seed % 3)
-    asked, given = [call(program, command, text=text) for command in ('pieces', 'split')]
-    if asked[0] == 0:
+    asked, given = [call(program, command, text=text) for command in ('audit', 'split')]
+    if asked[0] != 2:
         return 'whole', None if given[0] in (0, 2) else '%d %r' % (given[0], given[2])
     return 'refused', None if given == asked else '%r in place of %r' % (given, asked)
 

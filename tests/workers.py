@@ -53,11 +53,11 @@ REFUSED = {
 }
 
 # Of logs of a hundred examples: which are others than FINE, counted from 1, the first line and the status.
-FINE, PIECES, LATE = 'forced_choices', 100, 600
+FINE, COUNT, LATE = 'forced_choices', 100, 600
 MANY = {n: name for n, name in zip((19, 36, 37, 66, 100), ('write_skew', 'forced_cycle', 'lost_update') * 2)}
 AUDITED = {
     'none refuted': ({}, [], 'serializable', 0), 'one refuted': ({71: 'lost_update'}, [], 'not serializable', 1),
-    'one refuted, the last': ({PIECES: 'crossed_readers'}, [], 'not serializable', 1), 'several refuted': (MANY, [], 'not serializable', 1),
+    'one refuted, the last': ({COUNT: 'crossed_readers'}, [], 'not serializable', 1), 'several refuted': (MANY, [], 'not serializable', 1),
     'several refuted, the least budget': (MANY, ['--budget', '1'], 'not serializable', 1)}
 EACH_FORM = ['1', '4', '16']
 # Counts the rounds in which threads were started, in a file, and in another one those in which so many were at work at once, from a round on.
@@ -128,21 +128,21 @@ def answers(program, words, text, workers=WORKERS):
         yield ran.returncode, ran.stdout, ran.stderr
 
 
-def cut_log(names):
-    """A log of which each piece is one of these examples, with keys, identities and moments of its own."""
+def log_of_examples(names):
+    """A log of these examples, one behind the other, each with keys, identities and moments of its own."""
     logs, sessions = dict(generate.examples((1, 2, 3))), {}
-    for piece, name in enumerate(names):
+    for place, name in enumerate(names):
         for number, transactions in reference.read_log(logs[name + '.log']):
             for it in transactions:
-                ops = [(kind, '%s.%d' % (key, piece), wid and wid + 1000 * piece) for kind, key, wid in it.ops]
-                ended = 10 * piece + 9 if it.outcome == 'commit' else None
-                sessions.setdefault(number, []).append(it._replace(ops=ops, begun=10 * piece, ended=ended))
+                ops = [(kind, '%s.%d' % (key, place), wid and wid + 1000 * place) for kind, key, wid in it.ops]
+                ended = 10 * place + 9 if it.outcome == 'commit' else None
+                sessions.setdefault(number, []).append(it._replace(ops=ops, begun=10 * place, ended=ended))
     return generate.text_of(sorted(sessions.items()), 3)
 
 
 def audit_fault(program, others, words, first, status):
     """What is wrong with what is said of a log of these examples, or nothing."""
-    text = cut_log([others.get(n, FINE) for n in range(1, PIECES + 1)])
+    text = log_of_examples([others.get(n, FINE) for n in range(1, COUNT + 1)])
     for form, workers in (('text', map(str, range(1, 17))), ('json', EACH_FORM)):
         got, *rest = answers(program, ['audit', '--format', form, *words], text, workers)
         if any(other != got for other in rest):

@@ -44,7 +44,7 @@ class InPython:
         key = lambda place: bytes.fromhex(words[place].strip('-'))
         if kind == 'open':
             moments, share = (None if words[1] == 'none' else 'all'), (int(words[2]), int(words[3]))
-            self.run = Recorder(words[0], None, moments, clock=lambda: self.now, overwrite=words[4] == 'yes', share=share if share[1] else None)
+            self.run = Recorder(words[0], moments, clock=lambda: self.now, overwrite=words[4] == 'yes', share=share if share[1] else None)
         elif kind == 'clock':
             self.now = int(words[0])
         elif kind == 'name':
@@ -107,7 +107,7 @@ JAVA_PAGE = '''public final class Page {
     }
 }
 '''
-# What the lines of the page write, but for moments.
+# What the lines of the page write: no moments, unless they are asked for.
 PAGE_LOG = b'log 3\nsession 1\nbegin\nr stock/7 0\nw stock/7 1001\ncommit\n'
 
 
@@ -239,7 +239,7 @@ class Checks:
         at = self.path(language + ' page')
         os.mkdir(at)
         ran = subprocess.run(words, cwd=at, stdin=subprocess.DEVNULL, stdout=subprocess.PIPE, stderr=subprocess.PIPE, timeout=120)
-        log = re.sub(rb'(begin|commit) [0-9]+', rb'\1', self.text(os.path.join(at, 'run.log')) or b'')
+        log = self.text(os.path.join(at, 'run.log'))
         self.expect(ran.returncode == 0 and log == PAGE_LOG, '%s: the page: %s %s' % (language, ran, log))
 
     def told(self, words, lines):

@@ -621,14 +621,16 @@ def arguments():
     parser.add_argument('--aborted', type=int, metavar='TXN', help='plume: the number in place of a transaction, where that was aborted')
     parser.add_argument('--map', metavar='FILE', help='a line for each line of the log: its number, its line in HISTORY, and what stands there')
     parser.add_argument('--lists', action='store_true', help='jepsen: tell what the lists contradict by themselves; status 1 where they do')
+    parser.add_argument('--blind', action='store_true', help='jepsen: an append is a write alone, also where lists show what stood before it: for '
+                        'the levels below snapshot')
     parser.add_argument('--operations', metavar='FILE', help='jepsen: what each line of the log is in the history, for --back')
     parser.add_argument('--back', metavar='FILE', help='no log is written: what explain says on standard input is said in the words of the history')
     parser.add_argument('history', metavar='HISTORY', help='a file, or - for standard input', nargs='?' if back else None)
     given = parser.parse_args()
     if given.aborted is not None and given.form != 'plume':
         parser.error('--aborted is for plume')
-    if (given.lists or given.operations) and given.form != 'jepsen':
-        parser.error('--lists and --operations are for jepsen')
+    if (given.lists or given.operations or given.blind) and given.form != 'jepsen':
+        parser.error('--lists, --operations and --blind are for jepsen' if given.blind else '--lists and --operations are for jepsen')
     if back and (given.form or given.history):
         parser.error('--back takes no history: an explanation stands on standard input')
     return given
@@ -657,6 +659,9 @@ def tell(history):
     say('%d transactions in %d sessions: %s' % (len(outcomes), len(history.sessions), counts))
     for note in notes(history):
         say(note)
+    if history.invented:
+        say('appends to lists that their transactions did not read: %d, the first in line %d; the log has a read before each, which is right at '
+            'snapshot and above, and the levels below need --blind' % (len(history.invented), min(line for *_, line in history.invented)))
     renamed = [(name, edn(key)) for key, name in history.names.items() if name.startswith('key:')]
     for name, key in renamed[:10]:
         say('%s is the key %s' % (name, key))
@@ -677,7 +682,8 @@ def advise_initial(history):
 
 
 def write(history, lists, given):
-    log, places = log_of(history, lists)
+    log, places = log_of(history, Lists() if given.blind else lists)
+    history.invented = {about[1]: None for _, _, *about in places if about[2:] and about[2] and about[0].outcome != ABORTED}
     for path, lines in ((given.map, map_lines(places)), (given.operations, operation_lines(log, places))):
         if path:
             with open(path, 'w', encoding='utf-8', errors='backslashreplace', newline='\n') as out:

@@ -20,13 +20,14 @@ WIDTH, LEAST = 1240, 0.75
 
 @dataclass
 class Row:
-    """A line of a box: an operation with its line in the log, or words alone."""
+    """A line of a box: an operation with its line in the log, or words alone. `is_end` is for the ends of a bar."""
     words: str
     line: Optional[int] = None
     key: Optional[str] = None
     wid: Optional[str] = None
     told: bool = False
     note: str = ''
+    is_end: bool = False
 
 
 @dataclass
@@ -202,7 +203,7 @@ class Layout:
         for box in sorted(boxes, key=lambda box: box.place):
             first.setdefault((box.lane, box.begun), box.name)
         for box in boxes:
-            # of several of one session that state one barrier only the first began there
+            # of several of one session that state one moment only the first began there
             is_first = box.begun is not None and first[box.lane, box.begun] == box.name
             begin[box.name] = ('begun', box.begun) if is_first else ('begin', box.name)
             end[box.name] = ('end', box.name) if box.ended is None else ('ended', box.ended)
@@ -492,7 +493,7 @@ def drawn_box(layout, name):
         inner += text(left + PAD, y + 4.5, row.words, class_='operation')
         inner += text(right - PAD, y + 4.5, 'line %d' % row.line, class_='line', text_anchor='end') if row.line else ''
         inner += element('title', escape(row.note)) if row.note else ''
-        parts.append(element('g', inner, class_='row told' if row.told else 'row', data_key=row.key, data_wid=row.wid, data_line=row.line))
+        parts.append(element('g', inner, class_='row' + ' end' * row.is_end + ' told' * row.told, data_key=row.key, data_wid=row.wid, data_line=row.line))
     looks = ' '.join(['box', box.look] + ['support'] * box.support)
     return element('g', ''.join(parts), class_=looks, role='group', tabindex=0, aria_label=box.label, data_box=name)
 

@@ -2,7 +2,7 @@
 """package.py PROGRAM KIT FOLDER: makes a Debian package and a tarball of a built program, with sums, in a folder.
 
 Both have the program, its manual page, the scripts that need the program alone, what collects logs, the examples and the pages, as files of the
-last commit, and PROVED, which says what was proved by which kit; KIT is that kit's version, or empty where nothing was proved or it is not
+last commit, a README.md that speaks of them alone, and PROVED, which says what was proved by which kit; KIT is that kit's version, or empty where nothing was proved or it is not
 known. All moments in them are those of the commit, or of SOURCE_DATE_EPOCH, so that the same program and commit have the same bytes. ./package
 calls it."""
 import gzip, hashlib, io, os, re, subprocess, sys, tarfile
@@ -15,6 +15,9 @@ NAME, ARCHITECTURE = 'cobra-poly', 'amd64'
 FILES = ('README.md', 'CHANGELOG.md', 'docs', 'examples', 'collect', *('tools/' + name for name in (
     'import.py', 'lists.py', 'back.py', 'picture.py', 'picture.css', 'picture.js', 'lanes.py', 'scripts.py', 'told.py')))
 HOME = 'share/cobra-poly'
+# Of a page, what the repository alone has, and what a package has in its place; and calls and links that a package has under other names.
+OF_REPOSITORY, OF_PACKAGE = re.compile(r'(?s)(?m:^)<!-- repository -->.*?<!-- end -->\n|<!-- repository -->.*?<!-- end -->'), re.compile(r'<!-- package: (.*?) -->', re.S)
+CALLED, LINKED = re.compile(r'\./run (?=[a-z-])'), re.compile(r'\[([^]]*)\]\(([^)#:]+)(#[^)]*)?\)')
 COMMANDS = {'cobra_poly-import': 'tools/import.py', 'cobra_poly-picture': 'tools/picture.py',
             'cobra_poly-join': 'collect/join.py'}
 CONTROL = '''Package: %(name)s
@@ -111,6 +114,14 @@ def names():
     return walked + [it for it in FILES if os.path.isfile(os.path.join(TOP, it))]
 
 
+def of_package(page, known):
+    """README.md for who has a package alone: no call of what the repository has, and links to files that are known."""
+    page = CALLED.sub('cobra_poly ', OF_PACKAGE.sub(r'\1', OF_REPOSITORY.sub('', page)))
+    for name, leads in COMMANDS.items():
+        page = page.replace(leads, name)
+    return LINKED.sub(lambda link: link[0] if link[2] in known else link[1], re.sub('\n{3,}', '\n\n', page))
+
+
 def content(path):
     with open(path, 'rb') as file:
         return file.read()
@@ -124,9 +135,11 @@ class Tree:
         self.files = {'bin/cobra_poly': (binary, 0o755)}
         page = content(os.path.join(TOP, 'docs', 'cobra_poly.1'))
         self.files['share/man/man1/cobra_poly.1.gz'] = (gzip.compress(page, mtime=0), 0o644)
+        known = {*names(), 'PROVED'}
         for name in names():
             path = os.path.join(TOP, name)
-            self.files[HOME + '/' + name] = (content(path), 0o755 if os.access(path, os.X_OK) else 0o644)
+            data = of_package(content(path).decode(), known).encode() if name == 'README.md' else content(path)
+            self.files[HOME + '/' + name] = (data, 0o755 if os.access(path, os.X_OK) else 0o644)
         is_proved = version.endswith(', proved)') and kit
         changed = '\nThese were not the sources of that commit alone: the + says that some were changed since.' if '+, ' in version else ''
         what = BY_KIT % {'kit': kit, 'crates': lines_of(crates_of_program()), 'changed': changed} if is_proved else BY_NONE

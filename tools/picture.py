@@ -1,9 +1,10 @@
 #!/usr/bin/env python3
-"""picture.py LOG [-o FILE.html] [--unit UNIT] [--program PATH | --explained FILE]: a page with a picture of why a log is not serializable.
+"""picture.py LOG [-o FILE.html] [--level LEVEL] [--unit UNIT] [--program PATH | --explained FILE]: a page with a picture of why a log is not
+serializable, or does not keep a level.
 
 LOG may have any length. The program's `audit --explain` tells a part of few transactions that has no order, in the names and lines of the
-log, and this script writes one page of it that needs nothing else; with --explained it is what FILE has of `explain`. The sessions are
-lanes, time runs downwards, each transaction that takes part is a box with its operations, and each edge of the cycle is an arrow with its
+log, and this script writes one page of it that needs nothing else; with --explained it is what FILE has of `explain`. With --level it is
+what `audit --level` tells; at levels of snapshots a box is a bar from its snapshot to its commit. The sessions are lanes, time runs downwards, each transaction that takes part is a box with its operations, and each edge of the cycle is an arrow with its
 reason. What a step of pruning or a branch of the search rests on is folded. Where the mouse is, the key and the identity are marked.
 
 Nothing of this is proved: the page shows what the program says, and the log's lines."""
@@ -35,6 +36,11 @@ MEANINGS = {
     'A9': 'An arrow leads from a transaction to one that has to stand behind it in each serial order. These arrows run in a circle, so there '
           'is no such order. Why the forced ones have to hold, the steps below say.',
     told.TREE: 'The log does not say which of some versions came first. Whichever order of them is supposed, a circle closes.',
+    told.CIRCLE: 'Each box is a bar from the snapshot of a transaction down to its commit. An arrow leads from a point to one that has to come later. '
+                 'These arrows, and the bars from their snapshots to their commits, run in a circle, so there is no order of snapshots and commits.',
+    told.TWO_WRITERS: 'Each box is a bar from the snapshot of a transaction down to its commit. Of two transactions that write one key, one commits '
+                      'before the other takes its snapshot. Here neither can commit first: a circle closes either way.',
+    told.PART: 'No order of this level explains these transactions.',
 }
 KINDS = {
     'session': 'both are of one session, in this order',
@@ -43,15 +49,20 @@ KINDS = {
     'version order': "the first one saw the key's initial value, or an update of it; the second one wrote the key and had not read it",
     'moments': 'the first one was committed before the second one began',
     'forced': 'a step of pruning keeps it: the other way is impossible',
+    'first committer': 'both write one key, and a step says which of them commits before the other takes its snapshot',
     'decided': 'it holds in this branch: an order of two versions is supposed',
     'otherwise': 'what would hold the other way, and cannot',
 }
 STEP = ('Suppose that of %s the version of %s came before that of %s. Then %s would have to stand before %s '
         '(dashed). But %s stands before %s, by the bold arrows. So it is the other way round, and this step keeps that.')
+FIRST_COMMITTER = ('Both %s and %s write %s. Suppose that %s committed before %s took its snapshot (dashed). A circle closes then, by the bold arrows. '
+                   'So it is the other way round, and this step keeps that.')
 READING = ('Each column is a session, and time runs downwards, %s. <code>r KEY ID</code> read the write with this identity, <code>w KEY ID</code> '
            'wrote it, as in the log. What is told is bold; pale boxes are neighbours in the session. Point at an operation to see its key '
            '(underlined) and its identity (filled) wherever they stand; click to keep that.')
 BY_MOMENTS = 'by the moments that the log states, and else by the place in the session'
+# So many letters of a label stand in a box.
+MOST_LABEL = 40
 # How many nanoseconds a unit of moments has.
 UNITS = {'ns': 1, 'us': 10 ** 3, 'ms': 10 ** 6, 's': 10 ** 9}
 BY_PLACE = 'by the place in the session; a reader stands below what it read'
@@ -63,10 +74,11 @@ def short(key, most=22):
 
 
 class History:
-    """Transactions of a log, with what pictures ask of them. `unit` is that of the moments, where it is known."""
+    """Transactions of a log, with what pictures ask of them. `unit` is that of the moments, where it is known. `has_points` says that boxes are
+    bars from snapshots to commits; `labels` are those of the transactions that have one."""
 
-    def __init__(self, transactions, unit=None):
-        self.all, self.unit = transactions, unit
+    def __init__(self, transactions, unit=None, has_points=False, labels=()):
+        self.all, self.unit, self.has_points, self.labels = transactions, unit, has_points, dict(labels)
         self.named = {it.name: it for it in self.all}
         self.first_moment = min((moment for it in self.all for moment in it.moments() if moment is not None), default=None)
         self.at, self.wrote, self.owner = {}, {}, {}
@@ -81,6 +93,10 @@ class History:
     def first(self, name, kind, key):
         """The number and the identity of the first such operation of a transaction."""
         return next(((number, wid) for number, _, its, wid in self.named[name].operations(kind) if its == key), (None, None))
+
+    def point(self, name, end):
+        """The line of a transaction's snapshot or commit."""
+        return self.named[name].lines[0 if end == 'snapshot' else -1][0]
 
     def lines_of(self, name, lines):
         """Those of these lines that are this transaction's."""
@@ -120,7 +136,7 @@ class Scene:
             self.add(arrow)
             for name in (edge.first, edge.second):
                 self.tell(name, *self.history.lines_of(name, edge.lines), support=support)
-        for edge in edges:
+        for edge in edges if not self.history.has_points else ():
             key = edge.parts[0] if edge.kind == 'version order' else edge.key
             if key and look == 'bold':
                 self.add_ground(edge.first, key)
@@ -131,6 +147,9 @@ class Scene:
         ends = [(history.lines_of(name, edge.lines) or [None])[-1] for name in (edge.first, edge.second)]
         seen, new = (history.at.get(line, (None, '', '')) for line in ends)
         words = words_of(edge, seen[1:], new[1:], history)
+        if edge.ends:
+            said = "%s's %s before %s's %s: %s" % (edge.first, edge.ends[0], edge.second, edge.ends[1], edge.said)
+            ends = [history.point(*it) for it in zip((edge.first, edge.second), edge.ends)]
         link = '#step-%d' % edge.step if edge.step else ''
         return Arrow(edge.first, edge.second, edge.kind, words, said, *ends, number=edge.line, link=link)
 
@@ -157,11 +176,15 @@ class Scene:
         if not kind and self.history.unit and ' ' in words:
             word, moment = words.split(' ')
             words = '%s at %s' % (word, self.history.time(int(moment) - self.history.first_moment))
-        return Row('%s %s %s' % (kind, short(key), wid) if kind else words, number, key, wid, number in self.lines, note)
+        if not kind and self.history.has_points:
+            words = re.sub('^begin', 'snapshot, began', words).replace('snapshot, began', 'snapshot', words == 'begin')
+            words = 'commit, outcome unknown' if words == 'unknown' else words
+        return Row('%s %s %s' % (kind, short(key), wid) if kind else words, number, key, wid, number in self.lines, note,
+                   self.history.has_points and not kind and words.startswith(('snapshot', 'commit')))
 
     def rows(self, it, near):
         """The lines of a transaction that its box shows, with how many are left out between them."""
-        shown = [(number, words) for number, words in it.lines if words not in ('begin', 'commit')]
+        shown = [(number, words) for number, words in it.lines if words not in ('begin', 'commit') or self.history.has_points]
         most = MOST_NEAR if near else MOST_ROWS
         kept = {number for number, words in shown if len(shown) <= most or number in self.lines or not near and number not in self.history.at}
         of_keys = [number for number, _ in shown if number not in kept and self.history.at.get(number, (0, None))[1] in self.keys]
@@ -186,7 +209,9 @@ class Scene:
         outcome = {'commit': 'committed', 'abort': 'aborted', 'unknown': 'outcome unknown'}[last[0]]
         label = 'transaction %s, %s: %s' % (name, outcome, ', '.join(row.note.split('\n')[0] for row in rows) or 'no operations')
         badge = '' if last[0] == 'commit' else outcome
-        return Box(name, it.session, it.place, name, label, rows, badge, look, self.supports.get(name, False), *it.moments())
+        known = self.history.labels.get(name)
+        heading, label = ('%s (%s)' % (name, short(known, MOST_LABEL)), '%s; %s' % (label, known)) if known else (name, label)
+        return Box(name, it.session, it.place, heading, label, rows, badge, look, self.supports.get(name, False), *it.moments())
 
     def neighbours(self):
         """The transactions just before and behind those that bold arrows are about, in their sessions."""
@@ -212,6 +237,8 @@ def words_of(edge, seen, new, history):
         return edge.said
     if edge.kind == 'read':
         return 'read: %s %s' % (short(new[0]), new[1])
+    if edge.kind == 'first committer':
+        return 'step [%d]: commits first' % edge.step
     if edge.kind == 'anti-dependency':
         return words_of_overwriting(*seen, new[1])
     if edge.kind == 'version order':
@@ -319,6 +346,41 @@ def scenes_of_step(history, step):
     return found
 
 
+def scene_of_side(history, side, title, is_supposed=True):
+    """Why of two writers one cannot commit first: that it does, dashed, and what closes the circle. Of a step that rests on no supposition the
+    walk alone."""
+    scene, node, other = Scene(history, title), side.node, side.other
+    scene.add_edges(side.walk)
+    if is_supposed:
+        said = "supposed: %s's commit before %s's snapshot: both write %s" % (node, other, side.key)
+        ends = [history.point(node, 'commit'), history.point(other, 'snapshot')]
+        scene.add(Arrow(node, other, 'decided', 'supposed: commits first', said, *ends, look='otherwise', number=side.line))
+        for name in (node, other):
+            scene.tell(name, history.first(name, 'w', side.key)[0])
+    if side.reader:
+        seen, new = (history.at[line] for line in side.lines)
+        said = "%s's snapshot before %s's commit: %s would have overwritten what %s reads" % (side.reader, other, other, side.reader)
+        ends = [history.point(side.reader, 'snapshot'), history.point(other, 'commit')]
+        scene.add(Arrow(side.reader, other, 'anti-dependency', words_of_overwriting(*seen[1:], new[2]), said, *ends, look='otherwise', number=side.line + 1))
+        scene.tell(side.reader, side.lines[0])
+        scene.tell(other, side.lines[1])
+    return scene
+
+
+def scene_of_part(history, names):
+    """Transactions of which nothing is told that has a form: what each read of another one."""
+    scene = Scene(history, 'These transactions')
+    for name in names:
+        scene.tell(name)
+    for it in [history.named[name] for name in names]:
+        for number, _, key, wid in it.operations('r'):
+            writer, written = history.wrote.get((key, wid), (None, None))
+            if writer and writer is not it and writer.name in names:
+                said = '%s reads %s %s (line %d), which %s wrote (line %d)' % (it.name, key, wid, number, writer.name, written)
+                scene.add(Arrow(writer.name, it.name, 'read', 'read: %s %s' % (short(key), wid), said, written, number, look='thin'))
+    return scene
+
+
 # ---- the page
 
 class Page:
@@ -369,7 +431,7 @@ class Page:
         def of_log(found):
             kind, key, wid = self.history.at.get(int(found[1]), (None, None, None))
             return element('span', found[0], class_='at', data_line=found[1], data_key=key, data_wid=wid)
-        inner = told.LINE.sub(of_log, escape(said))
+        inner = told.LINE.sub(of_log, escape(told.labelled(said, self.history.labels)))
         inner = re.sub(r'(, which by )\[([0-9]+)\]', r'\1<a href="#step-\2">[\2]</a>', inner)
         number_of = '<b class="ordinal">%d</b> ' % ordinal if ordinal else ''
         return element(tag, number_of + inner, class_='told-line', data_edge=number)
@@ -379,8 +441,14 @@ class Page:
         return '<ul class="lines">%s</ul>' % ''.join(its)
 
     def step(self, step, draw):
-        words = STEP % tuple(element('b', escape(it)) for it in (step.key, step.second, step.first, step.late, step.first, step.first, step.late))
-        drawing = self.pictures_of(scenes_of_step(self.history, step)) if draw else ''
+        drawing, bold = '', lambda *its: tuple(element('b', escape(it)) for it in its)
+        if isinstance(step, told.PointStep):
+            one, other = step.second, step.first
+            words = FIRST_COMMITTER % bold(one, other, step.side.key, one, other) if step.is_supposed else escape(step.said)
+            drawing = self.picture(scene_of_side(self.history, step.side, 'Step %d' % step.number, step.is_supposed)) if draw else drawing
+        else:
+            words = STEP % bold(step.key, step.second, step.first, step.late, step.first, step.first, step.late)
+            drawing = self.pictures_of(scenes_of_step(self.history, step)) if draw else drawing
         inner = element('div', element('p', words) + self.with_lines(drawing, self.edges(step.walk)), id='step-%d' % step.number)
         return element('details', element('summary', escape(step.said.rstrip(':')), data_edge=step.line) + inner, class_='step')
 
@@ -395,8 +463,9 @@ class Page:
 
     def nearest_steps(self):
         """The numbers of the steps, those first that the cycle names, then those that these name, and so on."""
-        cycles = [self.explanation.cycle] if self.explanation.cycle else [cycle for _, cycle in self.explanation.leaves]
-        found = dict.fromkeys(edge.step for cycle in cycles for edge in cycle.edges if edge.step)
+        cycles = [self.explanation.cycle.edges] if self.explanation.cycle else [cycle.edges for _, cycle in self.explanation.leaves]
+        cycles += [side.walk for side in self.explanation.sides]
+        found = dict.fromkeys(edge.step for edges in cycles for edge in edges if edge.step)
         queue = list(found)
         for number in queue:
             for edge in self.steps[number].walk:
@@ -437,11 +506,25 @@ class Page:
         tree = element('summary', 'The whole search, with %s' % branches) + element('pre', escape('\n'.join(lines[start - 1:])))
         return element('section', ''.join(parts)) + element('section', element('details', tree))
 
+    def sides_section(self):
+        """For each of two writers of a key why it cannot commit first."""
+        found = []
+        for side in self.explanation.sides:
+            title = 'If %s committed first' % side.node
+            lines = (self.line(side.line + 1, tag='p') if side.reader else '') + self.edges(side.walk)
+            found.append(element('section', element('h2', title) + self.with_lines(self.picture(scene_of_side(self.history, side, title)), lines)))
+        return ''.join(found)
+
     def main_section(self):
         it, history = self.explanation, self.history
         if it.code == told.TREE:
             return self.tree_section()
-        if it.code in ('A8', 'A9'):
+        if it.code == told.TWO_WRITERS:
+            return self.sides_section()
+        if it.code == told.PART:
+            lines = '<ul class="lines">%s</ul>' % ''.join(map(self.line, range(2, len(it.lines) + 1)))
+            return element('section', self.with_lines(self.picture(scene_of_part(history, [it.name for it in history.all][:MOST_EDGES])), lines))
+        if it.code in ('A8', 'A9', told.CIRCLE):
             scenes = scenes_of_cycle(history, it.cycle.edges, 'The circle', it.steps)
             lines = self.edges(it.cycle.edges)
         else:
@@ -468,7 +551,7 @@ class Page:
         facts = '%s: %d transaction%s, of which the explanation names %d' % (self.name, self.count, '' if self.count == 1 else 's', named)
         head = element('p', escape(facts), class_='facts') + element('h1', escape(it.verdict)) + element('p', MEANINGS[it.code], class_='meaning')
         if it.short:
-            head += element('p', escape('In short: ' + it.short), class_='meaning')
+            head += element('p', escape(told.labelled('In short: ' + it.short, self.history.labels)), class_='meaning')
         if it.known_as:
             head += element('p', escape('Known as: ' + it.known_as))
         if it.is_serial_apart:
@@ -511,7 +594,7 @@ PAGE = '''<!DOCTYPE html>
 '''
 
 
-def page_of(log, said, name, unit=None):
+def page_of(log, said, name, unit=None, labels=()):
     """The page of a log, by its lines and what `explain` says of it."""
     explanation = told.read(said)
     if explanation.verdict == 'not serializable' or explanation.verdict.startswith('{'):
@@ -519,34 +602,40 @@ def page_of(log, said, name, unit=None):
     if explanation.code is None:
         raise scripts.Stop("this explanation does not say 'not serializable': %s" % (explanation.verdict or 'it is empty'))
     transactions = scripts.transactions_of(log)
-    return Page(History(transactions, unit), explanation, name, len(transactions))
+    return Page(History(transactions, unit, labels=labels), explanation, name, len(transactions))
 
 
-def page_of_part(log, report, name, unit=None):
+def page_of_part(log, report, name, unit=None, labels=()):
     """The page of the part of a log, given by its lines, that `audit` tells first, with the neighbours in its sessions."""
     part = [it['transaction'].split('.') for it in report['part']]
     if not report['explanation']:
         raise scripts.Stop('audit tells no reason of a part of %d transactions, so there is nothing to draw: audit --part FILE writes it as a log' % len(part))
-    near = {'%s.%d' % (session, int(place) + by) for session, place in part for by in (-1, 0, 1)}
-    history = History(scripts.transactions_of(log, near), unit)
-    return Page(history, told.of_part(report), name, sum(report[outcome] for outcome in ('committed', 'aborted', 'unknown')))
+    explanation = told.of_part(report)
+    near = (-1, 0, 1) if explanation.code != told.PART else (0,)
+    shown = {'%s.%d' % (session, int(place) + by) for session, place in part for by in near}
+    history = History(scripts.transactions_of(log, shown), unit, explanation.code in (told.CIRCLE, told.TWO_WRITERS), labels)
+    return Page(history, explanation, name, sum(report[outcome] for outcome in ('committed', 'aborted', 'unknown')))
 
 
 def main():
-    words = argparse.ArgumentParser(description='Writes a page with a picture of why a log is not serializable. Unproved.')
+    words = argparse.ArgumentParser(description='Writes a page with a picture of why a log is not serializable, or does not keep a level. Unproved.')
     words.add_argument('log')
     words.add_argument('-o', dest='page', help='the page; LOG with .html in place of its end, where absent')
+    words.add_argument('--level', help='draws why the log does not keep this level, as audit --level has it: snapshot, serializable, ..')
     words.add_argument('--unit', choices=UNITS, help='what the moments of the log count: us of the recorder, ns of an imported history of Jepsen')
     words.add_argument('--explained', help='a file with what explain says of the log; the program is asked why, where absent')
     words.add_argument('--program', help="the program; this repository's ./run, where absent")
     given = words.parse_args()
+    if given.level and given.explained:
+        words.error('--explained is what explain says without a level')
+    name, labels = os.path.basename(given.log), scripts.labels_of(given.log)
     with open(given.log, encoding='ascii', newline='\n') as log:
         try:
             if given.explained:
                 with open(given.explained, encoding='ascii') as said:
-                    page = page_of(log, said.read(), os.path.basename(given.log), given.unit)
+                    page = page_of(log, said.read(), name, given.unit, labels)
             else:
-                page = page_of_part(log, scripts.audited(given.program, given.log), os.path.basename(given.log), given.unit)
+                page = page_of_part(log, scripts.audited(given.program, given.log, given.level), name, given.unit, labels)
         except told.Unread as fault:
             raise scripts.Stop(str(fault))
     path, html = given.page or os.path.splitext(given.log)[0] + '.html', page.html()

@@ -1,5 +1,5 @@
 """What scripts around the program share: a log by its lines, a call of the program, and how a script ends."""
-import json, os, subprocess, sys, traceback
+import json, os, re, subprocess, sys, traceback
 
 TOP = os.path.dirname(os.path.dirname(os.path.realpath(__file__)))
 RUN = os.path.join(TOP, 'run')
@@ -10,6 +10,7 @@ if not os.path.exists(RUN):
 AROUND = 70
 SERIALIZABLE, NOT_SERIALIZABLE, REFUSED, UNKNOWN, OUT_OF_MEMORY, DEVICE_FAILED = range(6)
 HEADERS = ('log 2', 'log 3')
+LABEL = re.compile('([1-9][0-9]*) ([1-9][0-9]*) (.*[^ ].*)')
 
 
 class Stop(Exception):
@@ -83,16 +84,34 @@ def transactions_of(lines, wanted=None):
     return found
 
 
-def audited(program, path):
-    """What `audit --explain` of a refuted log says as JSON. Stop where it is none, with the program's status where it refuses or does not
-    know."""
-    words = [program or RUN, 'audit', '--explain', '--format', 'json', '--workers', '1', os.path.join('.', path)]
-    ran = subprocess.run(words, stdin=subprocess.DEVNULL, stdout=subprocess.PIPE, stderr=subprocess.PIPE)
+def labels_of(path, is_needed=False):
+    """The labels that stand beside a log, by the names of its transactions; none where there is no such file, unless it is needed."""
+    path, found = path + '.labels', {}
+    if not is_needed and not os.path.exists(path):
+        return found
+    with open(path, encoding='utf-8', newline='\n') as lines:
+        for number, line in enumerate(lines, 1):
+            line = line.rstrip('\n')
+            form = LABEL.fullmatch(line)
+            if not form or not form[3].isprintable():
+                raise Stop('%s:%d: not a label, SESSION PLACE TEXT: %s' % (path, number, ascii(line[:80])))
+            if found.setdefault('%s.%s' % form.group(1, 2), form[3]) != form[3]:
+                raise Stop('%s:%d: a second label of %s.%s' % (path, number, *form.group(1, 2)))
+    return found
+
+
+def audited(program, path, level=None):
+    """What `audit --explain` of a refuted log says as JSON, with a level where one is asked for. Stop where it is none, with the program's status
+    where it refuses or does not know."""
+    refuted, held = ('not kept', 'kept') if level else ('not serializable', 'serializable')
+    words = [program or RUN, 'audit', '--explain', '--format', 'json', '--workers', '1', *(['--only', '--level', level] if level else [])]
+    ran = subprocess.run([*words, os.path.join('.', path)], stdin=subprocess.DEVNULL, stdout=subprocess.PIPE, stderr=subprocess.PIPE)
     report = json.loads(ran.stdout) if ran.stdout.startswith(b'{') else {}
-    if (ran.returncode, report.get('verdict')) == (NOT_SERIALIZABLE, 'not serializable'):
+    if (ran.returncode, report.get('verdict')) == (NOT_SERIALIZABLE, refuted):
         return report
-    if (ran.returncode, report.get('verdict')) == (SERIALIZABLE, 'serializable'):
-        raise Stop('this log is serializable: it has an order, which audit --order writes, and so there is no fault to tell')
+    if (ran.returncode, report.get('verdict')) == (SERIALIZABLE, held):
+        what = '%s is kept' % report['level'] if level else 'this log is serializable'
+        raise Stop('%s: it has an order, which audit --order writes, and so there is no fault to tell' % what)
     said = report.get('reason') or ran.stderr.decode(errors='replace').strip()
-    raise Stop("audit does not say 'not serializable', but ends with %d: %s" % (ran.returncode, said),
+    raise Stop("audit does not say '%s', but ends with %d: %s" % (refuted, ran.returncode, said),
                ran.returncode if ran.returncode in (REFUSED, UNKNOWN, OUT_OF_MEMORY, DEVICE_FAILED) else AROUND)

@@ -1,6 +1,10 @@
-"""What `explain` says as text, and what `audit --explain` says of a part, read by their grammar (docs/FORMATS.md, 'What `explain` says').
-Nothing is judged here: a reader of a text gets its parts, each with the number of its line in that text, counted from 1."""
-import re
+#!/usr/bin/env python3
+"""told.py LOG < SAID: what `explain` or `audit --explain` said of a log, from standard input, with the labels of LOG.labels behind the names of
+transactions, as `3.1268 (transfer, thread 4)`; each once in a line.
+
+As a module it reads what they say by its grammar (docs/FORMATS.md, 'What `explain` says' and 'Snapshots and commits'). Nothing is judged here: a
+reader of a text gets its parts, each with the number of its line in that text, counted from 1."""
+import argparse, re, sys
 from dataclasses import dataclass, field
 from typing import List, Optional, Tuple
 
@@ -36,15 +40,31 @@ KEPT = r'%s (?:reads|wrote) %s ([0-9]+) \(line %s\)(?:%s|%s|%s)?, which %%s befo
 WALK = 2
 # Where a line of an anomaly names a transaction.
 TELLS = re.compile('(?:^|, which |; )%s (?=reads |then reads |wrote |writes |overwrites )' % NODE)
+# What is no name though it may look like one: a key behind what it stands behind; and a name.
+NO_NAME = r"(?:\b(?:reads|writes|wrote|wrote to|write|[rw]|version of|update of)|'s) {key}|\band {key}(?= [0-9]+ \(line)|(?:\[[0-9]+\]|\bsuppose) {key}(?=: [0-9]+, which)"
+NAMES = re.compile(r'%s|(?<![\w.:/-])%s(?![\w/-]|[.:]\w)' % (NO_NAME.format(key=KEY[1:-1]), NODE))
 # The kinds of what is said of an edge, by its form; the first that fits.
-KINDS = [('session', re.compile('session %s' % NUMBER)), ('forced', re.compile(KEPT % r'by \[([0-9]+)\] comes')),
+KINDS = [('session', re.compile('session %s' % NUMBER)), ('first committer', re.compile(r'by \[([0-9]+)\]')),
+         ('forced', re.compile(KEPT % r'by \[([0-9]+)\] comes')),
          ('decided', re.compile(KEPT % 'by supposition comes')),
          ('version order', re.compile('.+ reads %s [0-9]+ .+ the initial value, and .+ wrote .+' % KEY)),
-         ('read', re.compile('.+ reads .+, which [1-9][0-9.]+ wrote .+')),
+         ('read', re.compile('.+ reads .+, which [1-9][0-9.]+ (?:wrote|writes itself only later) .+')),
          ('anti-dependency', re.compile('.+ reads .+, and .+ overwrites it with .+')),
          ('moments', re.compile('.+ ended at ([0-9]+) .+, .+ began at ([0-9]+) .+'))]
-# The code of a log of which every cube is refuted: it has none of its own.
-TREE = 'tree'
+# At levels of snapshots: one point before another, two writers of a key, why one of them cannot commit first, and what is forced.
+POINT = NODE + "'s (snapshot|commit)"
+POINTS = re.compile('%s before %s: (.+)' % (POINT, POINT))
+BOTH = r'both write %s \(lines %s and %s\)' % (KEY, NUMBER, NUMBER)
+WRITERS = re.compile('%s and %s %s, so one of them commits before the other takes its snapshot' % (NODE, NODE, BOTH))
+NOT_FIRST = re.compile('%s cannot commit first:' % NODE)
+WOULD = re.compile(r"%s's snapshot comes after %s's commit, but %s reads %s [0-9]+ \(line %s\) of %s, which %s would have overwritten with "
+                   r'[0-9]+ \(line %s\):' % (NODE, NODE, NODE, KEY, NUMBER, NODE, NODE, NUMBER))
+FORCED_POINTS = re.compile('these orders of snapshots and commits are forced:')
+POINT_STEP = re.compile(r"\[%s\] %s's commit before %s's snapshot:(?: (.+))?" % (NUMBER, NODE, NODE))
+STEP_OF_BOTH = re.compile('%s, and %s cannot commit first:' % (BOTH, NODE))
+BY_SEARCH, NEITHER_SERIAL = 'no order of their snapshots and commits is left: a search shows it', 'why they have no serial order either:'
+# The code of a log of which every cube is refuted: it has none of its own. Those of points, and of a part of which nothing is told that has a form.
+TREE, CIRCLE, TWO_WRITERS, PART = 'tree', 'circle', 'two writers', 'part'
 # What the headline of `audit` says of each code that its JSON has.
 FAULTS = {'A1': 'A1 unknown read', 'A2': 'A2 aborted read', 'A3': 'A3 intermediate read', 'A4': 'A4 own write missed', 'A5': 'A5 future read',
           'A6': 'A6 split read', 'A7': 'A7 lost update', 'A8': 'A8 cycle of known edges', 'A9': 'A9 pruning ends in a cycle',
@@ -64,6 +84,7 @@ class Edge:
     said: str
     kind: str
     parts: tuple
+    ends: tuple = ()  # at levels of snapshots: which points these are, 'snapshot' or 'commit'
 
     @property
     def lines(self):
@@ -73,7 +94,7 @@ class Edge:
     @property
     def step(self):
         """The number of the step that keeps it."""
-        return int(self.parts[4]) if self.kind == 'forced' else None
+        return int(self.parts[4 if self.kind == 'forced' else 0]) if self.kind in ('forced', 'first committer') else None
 
     @property
     def key(self):
@@ -102,6 +123,37 @@ class Step:
 
 
 @dataclass
+class Side:
+    """Why `node` cannot commit before `other` takes its snapshot: the walk leads from that snapshot to the node's commit. Where `reader` is named,
+    it read a version of the node in one line, which the other would have overwritten in another; then the walk leads from the other's commit to
+    the reader's snapshot. A step that needs no supposition has its walk alone, from `other` to `node`."""
+    line: int
+    node: str
+    other: str
+    walk: List[Edge] = field(default_factory=list)
+    key: Optional[str] = None
+    reader: Optional[str] = None
+    lines: tuple = ()
+
+
+@dataclass
+class PointStep:
+    """The commit of `first` comes before the snapshot of `second`. Where `is_supposed`, since both write a key and `side` says why not the other
+    way; else by the walk of `side`."""
+    line: int
+    number: int
+    first: str
+    second: str
+    said: str
+    side: Side
+    is_supposed: bool
+
+    @property
+    def walk(self):
+        return self.side.walk
+
+
+@dataclass
 class Order:
     """A decided order of a tree: of this key the version of `first` comes before that of `second`."""
     line: int
@@ -120,10 +172,11 @@ class Pair:
 
 @dataclass
 class Explanation:
-    """The verdict, and what stands behind it. `code` is A1 to A9 or TREE, and None where the log is not refuted; `behind` is the number of the
+    """The verdict, and what stands behind it. `code` is A1 to A9, TREE, or one of those below, and None where the log is not refuted; `behind` is the number of the
     first line of an anomaly behind that. `short` is a cycle, or a lost update, in a sentence. A tree is told by its leaves: each cycle with the orders that are
     decided above it; `count` says how many there are where not all are told. `pairs` are four reads that rule out every order, where the text
-    has them before a cycle or a tree. `is_serial_apart` says that a part has an order without that of sessions."""
+    has them before a cycle or a tree. `is_serial_apart` says that a part has an order without that of sessions. At a level of snapshots the code
+    is CIRCLE or TWO_WRITERS, of which `sides` say why neither can commit first."""
     lines: List[str]
     code: Optional[str] = None
     behind: int = 2
@@ -135,6 +188,7 @@ class Explanation:
     leaves: List[Tuple[List[Order], Cycle]] = field(default_factory=list)
     count: Optional[int] = None
     is_serial_apart: bool = False
+    sides: List[Side] = field(default_factory=list)
 
     @property
     def verdict(self):
@@ -148,7 +202,9 @@ class Explanation:
             found += [name for line in self.lines[1:] for name in TELLS.findall(line)]
         found += [pair.name for pair in self.pairs]
         for step in self.steps:
-            found += [step.first, step.second, step.late] + [name for edge in step.walk for name in (edge.first, edge.second)]
+            found += [step.first, step.second, getattr(step, 'late', step.second)]
+        for its in self.steps + self.sides:
+            found += [name for edge in its.walk for name in (edge.first, edge.second)]
         for cycle in cycles:
             found += [name for edge in cycle.edges for name in (edge.first, edge.second)]
         found += [name for orders, _ in self.leaves for order in orders for name in (order.first, order.second)]
@@ -180,6 +236,34 @@ class Reader:
             if edge is None:
                 return found
             found.append(Edge(*edge, *kind_of(edge[3])))
+
+    def points(self, depth=0):
+        """Edges from points to points."""
+        found = []
+        while True:
+            edge = self.next(POINTS, depth)
+            if edge is None:
+                return found
+            line, first, end, second, other_end, said = edge
+            found.append(Edge(line, first, second, said, *kind_of(said), (end, other_end)))
+
+    def side(self, line, node, other):
+        would = self.next(WOULD, WALK)
+        reader = {'reader': would[1], 'key': would[4], 'lines': (int(would[5]), int(would[8]))} if would else {}
+        return Side(line, node, other, self.points(WALK), **reader)
+
+    def point_steps(self):
+        found = []
+        while True:
+            step = self.next(POINT_STEP)
+            if step is None:
+                return found
+            line, number, first, second, said = step
+            both = STEP_OF_BOTH.fullmatch(said or '')
+            shown = [Edge(line, first, second, said, *kind_of(said), ('commit', 'snapshot'))] if said and not both else []
+            side = Side(line, second, first, shown) if shown else self.side(line, second, first)
+            side.key = both[1] if both else side.key
+            found.append(PointStep(line, int(number), first, second, self.lines[line - 1], side, both is not None))
 
     def cycle(self, depth=0):
         start = self.next(CYCLE, depth)
@@ -273,7 +357,10 @@ def read(text):
         it.steps = reader.steps() if reader.next(FORCED) else []
     else:
         it.short = reader.short() if it.code == 'A7' else None
-        it.behind, reader.at = reader.at + 1, len(reader.lines)
+        it.behind = reader.at + 1
+        if KNOWN.fullmatch(it.lines[-1]):  # at levels of snapshots
+            it.known_as = KNOWN.fullmatch(it.lines.pop())[1]
+        reader.at = len(reader.lines)
     if reader.at < len(reader.lines):
         raise Unread('line %d of what explain says has none of the forms: %s' % (reader.at + 1, reader.lines[reader.at]))
     if it.code in ('A8', 'A9') and not (it.cycle and it.cycle.edges) or it.code == TREE and not it.leaves:
@@ -281,8 +368,79 @@ def read(text):
     return it
 
 
+def read_points(lines):
+    """The parts of what is said of a part at a level of snapshots, behind its verdict; None where these are no lines of points."""
+    reader = Reader('\n'.join(lines))
+    it = Explanation(reader.lines, behind=2)
+    reader.at = 1
+    it.short = reader.short()
+    both = reader.next(WRITERS)
+    for _ in range(2 * (both is not None)):
+        side = reader.next(NOT_FIRST)
+        if side is None:
+            return None
+        line, node = side
+        it.sides.append(reader.side(line, node, both[1] if node == both[2] else both[2]))
+        it.sides[-1].key = both[3]
+    if not both:
+        it.cycle = Cycle(reader.at + 1, reader.points())
+    it.code = TWO_WRITERS if both else CIRCLE
+    it.known_as = reader.known_as()
+    it.steps = reader.point_steps() if reader.next(FORCED_POINTS) else []
+    told = all(side.walk for side in it.sides + [step.side for step in it.steps]) and (it.sides or it.cycle.edges)
+    return it if told and reader.at == len(reader.lines) else None
+
+
 def of_part(report):
-    """What the JSON of `audit --explain` tells of the part that it tells first."""
-    it = read('\n'.join(['not serializable: ' + FAULTS[report['code']], *report['explanation']]))
+    """What the JSON of `audit --explain` tells of the part that it tells first. With a level, the verdict is that of the level, and lines
+    that have no form are told as they are: the code is PART then."""
+    lines, level = report['explanation'], report.get('level')
+    verdict = 'not serializable: ' + FAULTS[report['code']]
+    if level is None:
+        it = read('\n'.join([verdict, *lines]))
+    else:
+        found = read_level(verdict, lines)
+        it = found or Explanation([verdict, *lines], PART)
+        it.known_as = it.known_as or report['known_as']
+        it.lines[0] = '%s: %s' % (level, report['verdict']) + (': ' + it.known_as if it.known_as else '')
     it.is_serial_apart = report['without_sessions'] is not None
     return it
+
+
+def read_level(verdict, lines):
+    """What is told with a level: of points, or as `read` has it; None where it has another form."""
+    points = read_points([verdict, *lines])
+    if points:
+        return points
+    if lines[:2] == [BY_SEARCH, NEITHER_SERIAL]:
+        lines = lines[2:]
+    for title in (verdict, *('not serializable: ' + FAULTS[code] for code in ('A8', 'A9', None))):
+        try:
+            return read('\n'.join([title, *lines]))
+        except Unread:
+            pass
+    return None
+
+
+def labelled(line, labels):
+    """A told line, in which each transaction that has a label has it behind its name, once."""
+    left = dict(labels)
+
+    def of_name(found):
+        label = left.pop(found[1], None)
+        return found[0] if label is None else '%s (%s)' % (found[0], label)
+    return NAMES.sub(of_name, line) if labels else line
+
+
+def main():
+    import scripts
+    words = argparse.ArgumentParser(description='Puts the labels of a log behind the names of its transactions in what explain said. Unproved.')
+    words.add_argument('log', help='the log; its labels stand in LOG.labels')
+    labels = scripts.labels_of(words.parse_args().log, is_needed=True)
+    for line in sys.stdin:
+        sys.stdout.write(labelled(line, labels))
+
+
+if __name__ == '__main__':
+    import scripts
+    scripts.run(main)

@@ -48,8 +48,8 @@ public final class Main {
         switch (words[0]) {
             case "open":
                 Recorder.Options options = new Recorder.Options().clock(() -> now);
-                if (words[2].equals("none"))
-                    options.noMoments();
+                if (words[2].equals("all"))
+                    options.moments();
                 if (words[5].equals("yes"))
                     options.overwrite();
                 if (!words[4].equals("0"))
@@ -113,7 +113,7 @@ public final class Main {
     /** Threads use a small store at once, in which a transaction holds all others back, but not while it begins and ends. */
     private static void load(String path, int threads, int count) throws IOException, InterruptedException {
         Map<String, String> values = new HashMap<>();
-        try (Recorder its = new Recorder(path, new Recorder.Options())) {
+        try (Recorder its = new Recorder(path, new Recorder.Options().moments())) {
             List<Thread> all = new ArrayList<>();
             for (int number = 0; number < threads; number++) {
                 Random dice = new Random(number);

@@ -50,7 +50,7 @@ func do(words []string) string {
 	case "open":
 		var k, n int
 		fmt.Sscan(words[3]+" "+words[4], &k, &n)
-		options := recorder.Options{NoMoments: words[2] == "none", Overwrite: words[5] == "yes", Clock: func() int64 { return now }}
+		options := recorder.Options{Moments: words[2] == "all", Overwrite: words[5] == "yes", Clock: func() int64 { return now }}
 		if n > 0 {
 			options.Share = [2]int{k, n}
 		}
@@ -103,7 +103,7 @@ func do(words []string) string {
 
 // load has goroutines use a small store at once, in which a transaction holds all others back, but not while it begins and ends.
 func load(path string, threads, count int) {
-	its, err := recorder.New(path, recorder.Options{})
+	its, err := recorder.New(path, recorder.Options{Moments: true})
 	if err != nil {
 		panic(err)
 	}

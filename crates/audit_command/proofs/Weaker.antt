@@ -35,6 +35,8 @@ asked o ss a e = each_of (asks_levels o a) (is_serial o.means.level) (states_mom
 serial_level : (l : Level) → is_serial l ≡ true → l ≡ level.Serializable
 serial_level level.Serializable e = refl
 serial_level level.Snapshot e = cc
+serial_level level.Prefix e = cc
+serial_level (level.Below below) e = cc
 
 -- ---- what is kept
 snapshot_of_order : (ss : List ClientSession) → AllByRecursion IsLegal ss → IsSoundLog ss → HasOrder ss → HasSnapshotOrder ss

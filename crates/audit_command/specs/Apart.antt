@@ -51,7 +51,7 @@ IsSerialApart budget ss told = IsFound budget (apart ss) told ⊎ ((told ≡ fal
 -- that is asked of serial orders alone
 abbrev pub IsSerialApartAt : Level → ℕ → List ClientSession → Bool → Type 0
 IsSerialApartAt level.Serializable budget ss told = IsSerialApart budget ss told
-IsSerialApartAt level.Snapshot budget ss told = told ≡ false
+IsSerialApartAt _ budget ss told = told ≡ false
 
 -- where it is asked for
 abbrev pub IsSerialApartWhere : Bool → JudgeMeans → List ClientSession → Bool → Type 0

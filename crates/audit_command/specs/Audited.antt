@@ -17,7 +17,8 @@ use Rattle.call_options.specs.declared.report_form.ReportForm.TheVariants.{Text,
 use Rattle.judging.specs.Levels.{HasOrderAt, HasNoOrderAt}
 use Rattle.judging.specs.Judges.{IsVerdict}
 use Rattle.judging.specs.Made.{IsToldPart}
-use Rattle.level_laws.specs.Snapshot.{Point, IsSnapshotOrder}
+use Rattle.level_laws.specs.Snapshot.{Point, IsSnapshotOrder, IsPrefixOrder}
+use Rattle.seen_laws.specs.Seen.{IsLevelOrder}
 use Rattle.level_laws.specs.Without.{without_moments}
 use Rattle.point_orders.specs.Text.{points_text}
 use Rattle.judging.specs.declared.level.Level.{Level}
@@ -29,8 +30,14 @@ use Rattle.judging.specs.declared.judged.Verdict.TheVariants as verdict
 use Rattle.judging.specs.declared.means.JudgeMeans.{JudgeMeans}
 use Rattle.audit_command.specs.Apart.{IsSerialApartWhere}
 use Rattle.audit_command.specs.Counts.{AreCounts}
-use Rattle.audit_command.specs.Distinct.{AreDistinct, AreLeastFirst, is_told}
-use Rattle.audit_command.specs.Levels.{asks_moments}
+use Rattle.audit_command.specs.Distinct.{AreDistinct, AreLeastFirst, has_txns, is_told}
+use Rattle.isolation.specs.declared.level.Isolation.{Isolation}
+use Rattle.isolation.specs.declared.level.Isolation.TheVariants as isolation
+use Rattle.judging.specs.declared.judged.RefutedPart.{RefutedPart}
+use Rattle.audit_command.specs.Levels.{judged_of, is_above, asks_moments}
+use Rattle.audit_command.specs.Lower.{weakest_of}
+use Rattle.audit_command.specs.declared.told.ToldTxn.{ToldTxn}
+use Rattle.audit_command.specs.declared.told.Lower.{Lower}
 use Rattle.audit_command.specs.Words.{status_of}
 use Rattle.audit_command.specs.Places.{told_by}
 use Rattle.audit_command.specs.Report.{report_text}
@@ -80,7 +87,7 @@ pub record IsPartTold (o : AuditOptions) (n : ℕ) (ss : List ClientSession) (p 
   pub is_serial_apart : IsSerialApartWhere o.explain o.means (map view p.refuted.part.items)
       p.is_serial_apart
   pub named : (text : List ℕ) × IsWhy o.means n (resolved ss) p.refuted text
-      × IsNamed o.means.level p.refuted.finding p.known_as text
+      × IsNamed o.means.level p.refuted p.known_as text
 
 abbrev pub AreToldParts : AuditOptions → ℕ → List ClientSession → List ToldPart → Type 0
 AreToldParts o n ss parts = AllByRecursion (IsPartTold o n ss) parts
@@ -150,7 +157,7 @@ asks_levels o _ = false
 
 abbrev pub is_serial : Level → Bool
 is_serial level.Serializable = true
-is_serial level.Snapshot = false
+is_serial _ = false
 
 -- serial orders are asked for without moments, and snapshot isolation in the order of the stated ones;
 -- and it is asked for without moments
@@ -205,6 +212,100 @@ pub record IsWeaker (o : AuditOptions) (n : ℕ) (ss : List ClientSession) (a : 
       → w.snapshot ≡ Some word.Serializable
   pub shown : IsShownBy o n (without_moments ss) a w.snapshot w.shown
 
+-- ---- below snapshot isolation
+
+abbrev pub at_level : Isolation → JudgeMeans → JudgeMeans
+at_level l m = record m { level = judged_of l }
+
+abbrev pub asked_at : Isolation → AuditOptions → AuditOptions
+asked_at l o = record o { means = at_level l o.means }
+
+-- levels below snapshot isolation are asked for where it was not kept either
+abbrev pub asks_lower : AuditOptions → Answer → Option Word → Bool
+asks_lower o a snapshot = asks_levels o a && not (is_kept snapshot)
+
+-- and one of them where it stands below the one that is asked for, and none above it was kept
+abbrev pub asks_at : AuditOptions → Bool → Bool → Isolation → Bool
+asks_at o asked kept l = asked && (not kept && is_above o.means.level (judged_of l))
+
+-- one of these was kept
+abbrev pub down_to_causal : Lower → Bool
+down_to_causal w = is_kept w.prefix || is_kept w.causal
+
+abbrev pub down_to_atomic : Lower → Bool
+down_to_atomic w = down_to_causal w || is_kept w.read_atomic
+
+abbrev pub down_to_view : Lower → Bool
+down_to_view w = down_to_atomic w || is_kept w.monotonic_atomic_view
+
+-- the part, unless one of these has its transactions, or this one has
+abbrev pub is_shown : List ToldTxn → Option ToldPart → Bool
+is_shown txns None = false
+is_shown txns (Some p) = has_txns txns p
+
+abbrev pub unless_shown : ToldPart → List ToldPart → Option ToldPart → Option ToldPart
+unless_shown p parts shown = if is_told p.txns.items parts || is_shown p.txns.items shown then None
+    else Some p
+
+-- a part that has no order of this level; it is told, unless one that is told has its transactions
+pub record IsLowestAt
+    (o : AuditOptions)
+    (l : Isolation)
+    (n : ℕ)
+    (ss : List ClientSession)
+    (a : Answer)
+    (shown lowest : Option ToldPart) : Type 0 where
+  pub part : ToldPart
+  pub told : IsPartTold (asked_at l o) n ss part
+  pub where_other : lowest ≡ unless_shown part (parts_of a) shown
+
+-- where a level was not kept, such a part shows the weakest one
+abbrev pub IsLowest : AuditOptions → ℕ → List ClientSession → Answer → Option ToldPart
+    → Option Isolation → Option ToldPart → Type 0
+IsLowest o n ss a shown None lowest = lowest ≡ None
+IsLowest o n ss a shown (Some l) lowest = IsLowestAt o l n ss a shown lowest
+
+-- What holds of levels below snapshot isolation, down to the first that was kept, where this holds of
+-- it; and what shows that the weakest one was not. The first line of the log is number n.
+pub record IsLower
+    (o : AuditOptions)
+    (n : ℕ)
+    (ss : List ClientSession)
+    (a : Answer)
+    (snapshot : Option Word)
+    (shown : Option ToldPart)
+    (w : Lower)
+    (lowest : Option ToldPart) : Type 0 where
+  pub prefix : IsWordWhere (at_level isolation.Prefix o.means) ss
+      (asks_at o (asks_lower o a snapshot) false isolation.Prefix) w.prefix
+  pub causal : IsWordWhere (at_level isolation.Causal o.means) ss
+      (asks_at o (asks_lower o a snapshot) (is_kept w.prefix) isolation.Causal) w.causal
+  pub read_atomic : IsWordWhere (at_level isolation.ReadAtomic o.means) ss
+      (asks_at o (asks_lower o a snapshot) (down_to_causal w) isolation.ReadAtomic) w.read_atomic
+  pub monotonic_atomic_view : IsWordWhere (at_level isolation.MonotonicAtomicView o.means) ss
+      (asks_at o (asks_lower o a snapshot) (down_to_atomic w) isolation.MonotonicAtomicView)
+      w.monotonic_atomic_view
+  pub read_committed : IsWordWhere (at_level isolation.ReadCommitted o.means) ss
+      (asks_at o (asks_lower o a snapshot) (down_to_view w) isolation.ReadCommitted) w.read_committed
+  pub shows : IsLowest o n ss a shown (weakest_of w) lowest
+
+-- a part was refuted at this level exactly where it was not kept
+abbrev pub IsRefutedWhere : Level → List ClientSession → Option Word → Option RefutedPart → Type 0
+IsRefutedWhere l ss (Some word.NotSerializable) (Some told) = IsToldPart l ss told
+IsRefutedWhere l ss (Some word.NotSerializable) None = ⊥
+IsRefutedWhere l ss _ refuted = refuted ≡ None
+
+-- the part that is refuted at the weakest of some levels
+abbrev pub IsWeakest : List ClientSession → Option Isolation → Option (Isolation × RefutedPart)
+    → Type 0
+IsWeakest ss None found = found ≡ None
+IsWeakest ss (Some l) None = ⊥
+IsWeakest ss (Some l) (Some (k, told)) = (k ≡ l) × IsToldPart (judged_of l) ss told
+
+abbrev pub refuted_of : Verdict → Option RefutedPart
+refuted_of (verdict.NotSerializable told) = Some told
+refuted_of _ = None
+
 -- ---- files
 
 -- the part that is told first, where it is asked for
@@ -226,12 +327,16 @@ abbrev pub order_asked : Answer → Bool → Bool
 order_asked answer.Serializable asked = asked
 order_asked _ asked = false
 
--- the text of an order of this level: a serial one, or one of snapshots and commits
+-- the text of an order of this level: of transactions, or of snapshots and commits
 abbrev pub IsOrderText : Level → List ClientSession → List ℕ → Type 0
 IsOrderText level.Serializable ss text = (order : List ℕ) × IsSerialOrder ss order
     × (text ≡ order_text ss order)
 IsOrderText level.Snapshot ss text = (points : List Point) × IsSnapshotOrder ss points
     × (text ≡ points_text ss points)
+IsOrderText level.Prefix ss text = (points : List Point) × IsPrefixOrder ss points
+    × (text ≡ points_text ss points)
+IsOrderText (level.Below below) ss text = (order : List ℕ) × IsLevelOrder below ss order
+    × (text ≡ order_text ss order)
 
 -- it is written, where it is asked for
 abbrev pub IsOrderFile : Level → List ClientSession → Bool → Option (Vec ℕ Global) → Type 0
@@ -277,6 +382,8 @@ pub record IsAudited (o : AuditOptions) (log : List ℕ) (a : Audited) : Type 0 
   pub answer : IsAnswer o (first_line (version_of log)) (seen o.no_moments sessions) told.answer
   pub weaker : IsWeaker o (first_line (version_of log)) (seen o.no_moments sessions) told.answer
       (weaker_of told)
+  pub lower : IsLower o (first_line (version_of log)) (without_moments (seen o.no_moments sessions))
+      told.answer told.snapshot told.shown told.lower told.lowest
   pub totals : AreTotals (seen o.no_moments sessions) told.totals
   pub ends : a.reply.status ≡ status_of told.answer
   pub text : a.reply.text.items ≡ text_in o.form o told

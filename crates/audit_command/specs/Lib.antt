@@ -3,6 +3,7 @@ pub mod Audited
 pub mod Counts
 pub mod Distinct
 pub mod Levels
+pub mod Lower
 pub mod Objects
 pub mod Orders
 pub mod Places

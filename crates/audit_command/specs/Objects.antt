@@ -17,6 +17,7 @@ use Rattle.audit_command.specs.declared.told.Word.{Word}
 use Rattle.audit_command.specs.declared.told.Answer.{Answer}
 use Rattle.audit_command.specs.declared.told.Answer.TheVariants as answer
 use Rattle.audit_command.specs.declared.told.Totals.{Totals}
+use Rattle.audit_command.specs.declared.told.Lower.{Lower}
 use Rattle.audit_command.specs.declared.told.Told.{Told}
 
 -- ---- values
@@ -168,11 +169,23 @@ part_or_null explain (Some p) = part_object explain p
 unfoldable pub shown_value : Bool → Option ToldPart → List ℕ
 shown_value explain p = codes ",\"snapshot_fault\":" ++ part_or_null explain p
 
+-- the same of levels below it
+unfoldable pub lower_values : Lower → List ℕ
+lower_values w = codes ",\"prefix\":" ++ kept_or_null w.prefix
+    ++ codes ",\"causal\":" ++ kept_or_null w.causal
+    ++ codes ",\"read_atomic\":" ++ kept_or_null w.read_atomic
+    ++ codes ",\"monotonic_atomic_view\":" ++ kept_or_null w.monotonic_atomic_view
+    ++ codes ",\"read_committed\":" ++ kept_or_null w.read_committed
+
+unfoldable pub lowest_value : Bool → Option ToldPart → List ℕ
+lowest_value explain p = codes ",\"weakest_fault\":" ++ part_or_null explain p
+
 -- what holds without moments and at weaker levels
 unfoldable pub weaker_values : Bool → Told → List ℕ
 weaker_values explain told = without_value told.without_moments
     ++ strict_value told.strict_snapshot ++ snapshot_value told.snapshot
     ++ shown_value explain told.shown
+    ++ lower_values told.lower ++ lowest_value explain told.lowest
 
 -- what stands behind the verdict
 abbrev pub rest_of_object : Bool → List ℕ → Told → List ℕ

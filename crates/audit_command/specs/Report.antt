@@ -10,7 +10,11 @@ use Rattle.audit_command.specs.Words.{code_number, finding_title, hint_text, wor
 use Rattle.audit_command.specs.Words.{verdict_text, kept_text}
 use Rattle.judging.specs.declared.judged.Finding.{Finding}
 use Rattle.isolation.specs.declared.level.Isolation.{Isolation}
-use Rattle.isolation.specs.declared.level.Isolation.TheVariants.{StrictSnapshot, Snapshot}
+use Rattle.isolation.specs.declared.level.Isolation.TheVariants.{StrictSnapshot, Snapshot, Prefix}
+use Rattle.isolation.specs.declared.level.Isolation.TheVariants.{Causal, ReadAtomic}
+use Rattle.isolation.specs.declared.level.Isolation.TheVariants.{MonotonicAtomicView, ReadCommitted}
+use Rattle.audit_command.specs.Lower.{weakest_of}
+use Rattle.audit_command.specs.declared.told.Lower.{Lower}
 use Rattle.audit_command.specs.declared.told.ToldTxn.{ToldTxn}
 use Rattle.audit_command.specs.declared.told.ToldPart.{ToldPart}
 use Rattle.audit_command.specs.declared.told.Word.{Word}
@@ -185,10 +189,18 @@ unfoldable pub snapshot_row : Option Word → Option ToldPart → List ℕ
 snapshot_row None shown = []
 snapshot_row (Some word) shown = kept_line Snapshot word ++ shown_by word shown
 
+-- the lines of levels below it
+unfoldable pub lower_text : Lower → List ℕ
+lower_text w = level_row Prefix w.prefix ++ level_row Causal w.causal
+    ++ level_row ReadAtomic w.read_atomic
+    ++ level_row MonotonicAtomicView w.monotonic_atomic_view
+    ++ level_row ReadCommitted w.read_committed
+
 -- what holds without moments and at weaker levels
 unfoldable pub weaker_text : Told → List ℕ
 weaker_text told = without_row (word_of told.answer) told.without_moments
     ++ level_row StrictSnapshot told.strict_snapshot ++ snapshot_row told.snapshot told.shown
+    ++ lower_text told.lower
 
 -- a part that shows that snapshot isolation was not kept
 abbrev pub broken_text : ToldPart → List ℕ
@@ -198,6 +210,18 @@ broken_text p = codes "why snapshot isolation was not kept:\n" ++ part_text p
 abbrev pub last_part : Option ToldPart → List ℕ
 last_part None = []
 last_part (Some p) = broken_text p
+
+-- what shows that the weakest of the levels below it was not kept
+abbrev pub title_of : Option Isolation → List ℕ
+title_of None = []
+title_of (Some level) = level_title level
+
+abbrev pub why_lowest : Option Isolation → ToldPart → List ℕ
+why_lowest level p = codes "why " ++ title_of level ++ codes " was not kept:\n" ++ part_text p
+
+abbrev pub lowest_part : Option Isolation → Option ToldPart → List ℕ
+lowest_part level None = []
+lowest_part level (Some p) = why_lowest level p
 
 -- so many transactions has the first part that is told
 abbrev pub first_size : List ToldPart → ℕ
@@ -221,7 +245,8 @@ counts_text t part =
 
 abbrev pub behind_first : ℕ → Told → List ℕ
 behind_first faults told = weaker_text told ++ middle_text faults told.answer
-    ++ last_part told.shown ++ counts_text told.totals (part_size told.answer)
+    ++ last_part told.shown ++ lowest_part (weakest_of told.lower) told.lowest
+    ++ counts_text told.totals (part_size told.answer)
 
 -- the report where so many parts were asked for; the first line alone where it is to be quiet
 abbrev pub report_text : ℕ → Bool → Told → List ℕ

@@ -24,6 +24,11 @@ use Rattle.deciding.specs.Decides.{Decides}
 use Rattle.deciding.specs.declared.decision.Decision.{Decision}
 use Rattle.tell_decision.specs.Explained.{IsExplained}
 use Rattle.call_options.specs.declared.format.Format.TheVariants.{Text}
+use Rattle.seen_laws.specs.declared.level.Level.{Level as BelowLevel}
+use Rattle.level_refutations.specs.declared.evidence.Evidence.{Evidence}
+use Rattle.level_refutations.specs.Refuted.{is_refuted}
+use Rattle.tell_evidence.specs.Evidence.{evidence_text}
+use Rattle.tell_evidence.specs.Names.{evidence_name}
 use Rattle.judging.specs.declared.judged.Finding.{Finding}
 use Rattle.judging.specs.declared.judged.Finding.TheVariants as finding
 use Rattle.judging.specs.declared.judged.RefutedPart.{RefutedPart}
@@ -74,12 +79,31 @@ IsSerialWhy budget n known p text =
 -- the same by what was found; what a search shows that learns is not told
 abbrev pub IsWhyOf : Finding → ℕ → ℕ → List ClientSession → RefutedPart → List ℕ → Type 0
 IsWhyOf finding.Formula budget n known p text = text ≡ search_line
+IsWhyOf finding.Overlooked budget n known p text = text ≡ search_line
 IsWhyOf _ budget n known p text = IsSerialWhy budget n known p text
 
--- why it has no order of a level; at that of snapshots the words are free
+-- evidence against the part at a level below prefix, which is right, and the text that tells it by
+-- where its transactions stand
+pub record IsEvidenceTold
+    (below : BelowLevel)
+    (n : ℕ)
+    (known : List ClientSession)
+    (p : RefutedPart)
+    (text : List ℕ) : Type 0 where
+  pub evidence : Evidence
+  pub right : is_refuted below (map view p.part.items) evidence ≡ true
+  pub text_is : text ≡ evidence_text (table_of n known p.flags) (map view p.part.items) evidence
+
+-- such evidence is told; or that a search shows it, where no more is
+abbrev pub IsWhyBelow : BelowLevel → ℕ → List ClientSession → RefutedPart → List ℕ → Type 0
+IsWhyBelow below n known p text = (text ≡ search_line) ⊎ IsEvidenceTold below n known p text
+
+-- why it has no order of a level; at those of points the words are free
 abbrev pub IsWhyAt : Level → ℕ → ℕ → List ClientSession → RefutedPart → List ℕ → Type 0
 IsWhyAt level.Serializable budget n known p text = IsWhyOf p.finding budget n known p text
 IsWhyAt level.Snapshot budget n known p text = Unit {0}
+IsWhyAt level.Prefix budget n known p text = Unit {0}
+IsWhyAt (level.Below below) budget n known p text = IsWhyBelow below n known p text
 
 -- the same of the level that is judged
 abbrev pub IsWhy : JudgeMeans → ℕ → List ClientSession → RefutedPart → List ℕ → Type 0
@@ -108,12 +132,24 @@ pub record IsKnownAs (name text : List ℕ) : Type 0 where
 abbrev pub IsNamedBy : Finding → Option (String Global) → List ℕ → Type 0
 IsNamedBy (finding.Anomaly a) name text = option_map string_bytes name ≡ anomaly_name a
 IsNamedBy finding.Formula name text = name ≡ None
+IsNamedBy finding.Overlooked name text = name ≡ None
 IsNamedBy _ name text = IfSome name (λ called. IsKnownAs (string_bytes called) text)
 
--- at a level of snapshots the name is free
-abbrev pub IsNamed : Level → Finding → Option (String Global) → List ℕ → Type 0
-IsNamed level.Serializable f name text = IsNamedBy f name text
-IsNamed level.Snapshot f name text = Unit {0}
+-- that of some evidence against the part which is right, or none
+abbrev pub IsNameOf : BelowLevel → List ClientSession → Option (String Global) → Evidence → Type 0
+IsNameOf below part name evidence = (is_refuted below part evidence ≡ true)
+    × (option_map string_bytes name ≡ evidence_name below evidence)
+
+abbrev pub IsNamedBelow : BelowLevel → RefutedPart → Option (String Global) → Type 0
+IsNamedBelow below p name = (name ≡ None)
+    ⊎ ((evidence : Evidence) × IsNameOf below (map view p.part.items) name evidence)
+
+-- at a level of points the name is free
+abbrev pub IsNamed : Level → RefutedPart → Option (String Global) → List ℕ → Type 0
+IsNamed level.Serializable p name text = IsNamedBy p.finding name text
+IsNamed level.Snapshot p name text = Unit {0}
+IsNamed level.Prefix p name text = Unit {0}
+IsNamed (level.Below below) p name text = IsNamedBelow below p name
 
 -- where it is asked for
 abbrev pub IsWhyWhere : Bool → JudgeMeans → ℕ → List ClientSession → RefutedPart → List ℕ → Type 0

@@ -23,6 +23,7 @@ code_number finding.Cycle = 8
 code_number finding.Dead = 9
 code_number finding.Refuted = 0
 code_number finding.Formula = 0
+code_number finding.Overlooked = 0
 
 -- the code of a finding and its name, or its name alone
 abbrev pub anomaly_title : Anomaly → List ℕ
@@ -35,6 +36,7 @@ finding_title finding.Cycle = codes "A8 cycle of known edges"
 finding_title finding.Dead = codes "A9 pruning ends in a cycle"
 finding_title finding.Refuted = codes "every order of its versions closes a cycle"
 finding_title finding.Formula = codes "the formula is refuted"
+finding_title finding.Overlooked = codes "what they read rules it out"
 
 abbrev pub order_hint : List ℕ
 order_hint = codes "check first: did the client record its operations in their order?\n"

@@ -141,7 +141,7 @@ pub fn is_serial_apart<R: Threads + Wait + Clock + Sync>(
         (map view part.now)) }
 {
     match means.level {
-        Level::Snapshot => Ok(false),
+        Level::Snapshot | Level::Prefix | Level::Below(_) => Ok(false),
         Level::Serializable => match without_sessions(alloc, part)? {
             None => Ok(false),
             Some(apart) => is_found_apart(rt, alloc, part, apart, &means.deciding),

@@ -19,7 +19,7 @@ pub fn code_number(finding: Finding) -> usize
         Finding::Anomaly(anomaly) => usize::from(anomaly.number()),
         Finding::Cycle => 8,
         Finding::Dead => 9,
-        Finding::Refuted | Finding::Formula => 0,
+        Finding::Refuted | Finding::Formula | Finding::Overlooked => 0,
     }
 }
 
@@ -42,6 +42,7 @@ pub fn finding_title(finding: Finding) -> &'static str
         Finding::Dead => "A9 pruning ends in a cycle",
         Finding::Refuted => "every order of its versions closes a cycle",
         Finding::Formula => "the formula is refuted",
+        Finding::Overlooked => "what they read rules it out",
     }
 }
 
@@ -73,7 +74,8 @@ pub fn hint_text(finding: Finding) -> &'static str
         | Finding::Cycle
         | Finding::Dead
         | Finding::Refuted
-        | Finding::Formula => "",
+        | Finding::Formula
+        | Finding::Overlooked => "",
     }
 }
 

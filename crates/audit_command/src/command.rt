@@ -11,6 +11,7 @@ ghost use Rattle.audit_command.specs.Audited.{seen, text_in, IsAudited, IsRefuse
 
 use crate::known::{Known, know};
 use crate::levels::settled;
+use crate::lower::judge_lower;
 use crate::object::report_object;
 use crate::options::AuditOptions;
 use crate::outcome::{Audited, Refusal};
@@ -101,8 +102,19 @@ fn audit_sessions<R: Threads + Wait + Clock + Eprint + Sync, P: Progress>(
         part,
     } = know(rt, alloc, version, sessions, states, options, progress)?;
     let Answered { answer, order } = answered;
-    let weaker = judge_weaker(
+    let (weaker, bare) = judge_weaker(
         rt, alloc, version, &answer, states, sessions, options, progress,
+    )?;
+    let (lower, lowest) = judge_lower(
+        rt,
+        alloc,
+        version,
+        &bare,
+        &answer,
+        weaker.snapshot,
+        &weaker.shown,
+        options,
+        progress,
     )?;
     let told = Told {
         level: options.level,
@@ -111,6 +123,8 @@ fn audit_sessions<R: Threads + Wait + Clock + Eprint + Sync, P: Progress>(
         strict_snapshot: weaker.strict_snapshot,
         snapshot: weaker.snapshot,
         shown: weaker.shown,
+        lower,
+        lowest,
         totals,
     };
     let reply = reply_of(alloc, options, &told)?;

@@ -10,7 +10,7 @@ use crate::told::{ToldPart, ToldTxn};
 use std::alloc::{AllocError, Global};
 
 /// Whether these are the transactions of the part.
-fn has_txns(part: &ToldPart, txns: &[ToldTxn]) -> bool
+pub fn has_txns(part: &ToldPart, txns: &[ToldTxn]) -> bool
     ensures has { result ≡ has_txns txns.now part.now }
 {
     part.txns.as_slice() == txns

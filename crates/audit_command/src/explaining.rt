@@ -1,6 +1,6 @@
 //! Why a part has no order, in lines, in the names and the lines of the whole log.
 
-ghost use Rattle.std.specs.Prelude.{◌≡◌, ◌+◌, ◌<◌, ◌^◌, length, map, IfOk, IfSome, MatchOption};
+ghost use Rattle.std.specs.Prelude.{◌≡◌, ◌+◌, ◌<◌, ◌^◌, length, map, IfOk, IfSome, MatchOption, None};
 ghost use Rattle.std.specs.List.{AllByRecursion};
 ghost use Rattle.session_log.specs.Text.{IsLegal, view};
 ghost use Rattle.log_definitions.specs.WellFormed.{log_lines};
@@ -10,7 +10,8 @@ ghost use Rattle.polygraph.specs.declared.fault.PolyFault.TheVariants.{TooManyCh
 ghost use Rattle.reduction.specs.Outcome.{IsReduceFault};
 ghost use Rattle.deciding.specs.Decides.{Decides};
 ghost use Rattle.judging.specs.Made.{IsMadeOf};
-ghost use Rattle.audit_command.specs.Why.{table_of, Explains, IsTooLarge, IsSerialWhy, IsKnownAs};
+ghost use Rattle.audit_command.specs.Why.{table_of, search_line, Explains, IsTooLarge};
+ghost use Rattle.audit_command.specs.Why.{IsSerialWhy, IsKnownAs};
 ghost use Rattle.std.specs.String.{string_bytes};
 
 use call_options::Format;
@@ -33,7 +34,7 @@ use tell_decision::explain_placed;
 pub const MANY_LINES: usize = 1_000_000_000;
 
 /// What is said where a search shows that no order is left, and nothing else does.
-pub const SEARCH_SHOWS: &[u8] = b"no order of them is left: a search shows it\n";
+const SEARCH_SHOWS: &[u8] = b"no order of them is left: a search shows it\n";
 
 /// What stands before the name that the field has for a fault.
 const KNOWN_AS: &[u8] = b"known as: ";
@@ -45,6 +46,17 @@ pub struct Explained {
     pub text: Vec<u8>,
     /// What the field calls such a fault, where it has a name.
     pub known_as: Option<String>,
+}
+
+/// That a search shows it, which has no name.
+pub fn searched(alloc: Global) -> Result<Explained, AllocError>
+    ensures text { IfOk result (λ told. told.text.items ≡ search_line) }
+    ensures name { IfOk result (λ told. told.known_as ≡ None) }
+{
+    Ok(Explained {
+        text: Vec::from_slice(alloc, SEARCH_SHOWS)?,
+        known_as: None,
+    })
 }
 
 /// Where the transactions of a part stand in the log of these sessions, which is of this version.

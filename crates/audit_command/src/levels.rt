@@ -1,20 +1,67 @@
 //! What the level of isolation that is asked for means for judging.
 
 ghost use Rattle.std.specs.Prelude.{◌≡◌};
-ghost use Rattle.audit_command.specs.Levels.{judged_level, asks_moments, leaves_moments, settled};
+ghost use Rattle.audit_command.specs.Levels.{judged_of, judged_level, depth_below, depth, is_above};
+ghost use Rattle.audit_command.specs.Levels.{asks_moments, leaves_moments, settled};
 
 use crate::options::AuditOptions;
 use isolation::Isolation;
 use judging::{JudgeMeans, Level};
+
+/// At which level a log is judged for one that a store promises.
+pub fn judged_of(level: Isolation) -> Level
+    ensures level { result ≡ judged_of level }
+{
+    match level {
+        Isolation::StrictSerializable | Isolation::Serializable => Level::Serializable,
+        Isolation::StrictSnapshot | Isolation::Snapshot => Level::Snapshot,
+        Isolation::Prefix => Level::Prefix,
+        Isolation::Causal => Level::Below(seen_laws::Level::Causal),
+        Isolation::ReadAtomic => Level::Below(seen_laws::Level::ReadAtomic),
+        Isolation::MonotonicAtomicView => Level::Below(seen_laws::Level::MonotonicAtomicView),
+        Isolation::ReadCommitted => Level::Below(seen_laws::Level::ReadCommitted),
+    }
+}
 
 /// At which level a log is judged.
 fn judged_level(asked: Option<Isolation>) -> Level
     ensures level { result ≡ judged_level asked }
 {
     match asked {
-        Some(level) if level.is_snapshot() => Level::Snapshot,
-        Some(_) | None => Level::Serializable,
+        Some(level) => judged_of(level),
+        None => Level::Serializable,
     }
+}
+
+/// How far down a level below prefix stands.
+fn depth_below(level: seen_laws::Level) -> usize
+    ensures depth { result ≡ depth_below level }
+{
+    match level {
+        seen_laws::Level::Causal => 3,
+        seen_laws::Level::ReadAtomic => 4,
+        seen_laws::Level::MonotonicAtomicView => 5,
+        seen_laws::Level::ReadCommitted => 6,
+    }
+}
+
+/// How far down a level stands.
+fn depth(level: Level) -> usize
+    ensures depth { result ≡ depth level }
+{
+    match level {
+        Level::Serializable => 0,
+        Level::Snapshot => 1,
+        Level::Prefix => 2,
+        Level::Below(below) => depth_below(below),
+    }
+}
+
+/// Whether one level stands above another one.
+pub fn is_above(one: Level, other: Level) -> bool
+    ensures above { result ≡ is_above one other }
+{
+    depth(one) < depth(other)
 }
 
 /// Whether a level is asked for that keeps the order of stated moments.

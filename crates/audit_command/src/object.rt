@@ -12,11 +12,12 @@ ghost use Rattle.audit_command.specs.Objects.{parts_of, rest_of_object, explanat
 ghost use Rattle.audit_command.specs.Objects.{faults_value, why_unknown, behind_verdict, level_value};
 ghost use Rattle.audit_command.specs.Objects.{kept_or_null, strict_value, snapshot_value};
 ghost use Rattle.audit_command.specs.Objects.{head_values, weaker_values, part_or_null, shown_value};
+ghost use Rattle.audit_command.specs.Objects.{lower_values, lowest_value};
 
 use crate::codes::{code_number, kept_text, verdict_text, word_of, word_text};
 use crate::lines::{put, put_number};
 use crate::report::put_too_few;
-use crate::told::{Answer, Told, ToldPart, ToldTxn, Totals, Word};
+use crate::told::{Answer, Lower, Told, ToldPart, ToldTxn, Totals, Word};
 use isolation::Isolation;
 use std::alloc::{AllocError, Global};
 
@@ -427,6 +428,31 @@ fn put_shown(out: &mut Vec<u8>, explain: bool, shown: &Option<ToldPart>) -> Resu
     put_part_or_null(out, explain, shown)
 }
 
+/// Appends whether levels below snapshot isolation were kept.
+#[tactic(auto, unfolding(crate::specs::Objects::lower_values))]
+fn put_lower(out: &mut Vec<u8>, lower: &Lower) -> Result<(), AllocError>
+    ensures put { OnOk result (out.new.items ≡ out.old.items ++ lower_values lower.now) }
+{
+    put(out, b",\"prefix\":")?;
+    put_kept_or_null(out, lower.prefix)?;
+    put(out, b",\"causal\":")?;
+    put_kept_or_null(out, lower.causal)?;
+    put(out, b",\"read_atomic\":")?;
+    put_kept_or_null(out, lower.read_atomic)?;
+    put(out, b",\"monotonic_atomic_view\":")?;
+    put_kept_or_null(out, lower.monotonic_atomic_view)?;
+    put(out, b",\"read_committed\":")?;
+    put_kept_or_null(out, lower.read_committed)
+}
+
+#[tactic(auto, unfolding(crate::specs::Objects::lowest_value))]
+fn put_lowest(out: &mut Vec<u8>, explain: bool, lowest: &Option<ToldPart>) -> Result<(), AllocError>
+    ensures put { OnOk result (out.new.items ≡ out.old.items ++ lowest_value explain lowest.now) }
+{
+    put(out, b",\"weakest_fault\":")?;
+    put_part_or_null(out, explain, lowest)
+}
+
 /// Appends what holds without moments and at weaker levels.
 #[tactic(auto, unfolding(crate::specs::Objects::weaker_values))]
 fn put_weaker(out: &mut Vec<u8>, explain: bool, told: &Told) -> Result<(), AllocError>
@@ -435,7 +461,9 @@ fn put_weaker(out: &mut Vec<u8>, explain: bool, told: &Told) -> Result<(), Alloc
     put_without(out, told.without_moments)?;
     put_strict(out, told.strict_snapshot)?;
     put_snapshot(out, told.snapshot)?;
-    put_shown(out, explain, &told.shown)
+    put_shown(out, explain, &told.shown)?;
+    put_lower(out, &told.lower)?;
+    put_lowest(out, explain, &told.lowest)
 }
 
 /// Appends what stands behind the verdict.

@@ -9,13 +9,15 @@ ghost use Rattle.audit_command.specs.Report.{parts_text, first_size, report_text
 ghost use Rattle.audit_command.specs.Report.{listed, codes_where, behind_first, level_text, reason_line};
 ghost use Rattle.audit_command.specs.Report.{level_row, weaker_text, short_title, found_text};
 ghost use Rattle.audit_command.specs.Report.{kept_line, shown_by, snapshot_row, broken_text, last_part};
+ghost use Rattle.audit_command.specs.Report.{lower_text, title_of, why_lowest, lowest_part};
+ghost use Rattle.audit_command.specs.Lower.{or_above, weakest_of};
 ghost use Rattle.audit_command.specs.Words as spec;
 
 use crate::codes::{
     code_number, finding_title, hint_text, kept_text, verdict_text, word_of, word_text,
 };
 use crate::lines::{put, put_count, put_line, put_lines, put_name, put_number};
-use crate::told::{Answer, Told, ToldPart, ToldTxn, Totals, Word};
+use crate::told::{Answer, Lower, Told, ToldPart, ToldTxn, Totals, Word};
 use isolation::Isolation;
 use std::alloc::{AllocError, Global};
 
@@ -413,6 +415,84 @@ fn put_last(out: &mut Vec<u8>, shown: &Option<ToldPart>) -> Result<(), AllocErro
     }
 }
 
+/// Appends whether levels below snapshot isolation were kept, where that is told.
+#[tactic(auto, unfolding(crate::specs::Report::lower_text))]
+fn put_lower(out: &mut Vec<u8>, lower: &Lower) -> Result<(), AllocError>
+    ensures put { OnOk result (out.new.items ≡ out.old.items ++ lower_text lower.now) }
+{
+    put_level_row(out, Isolation::Prefix, lower.prefix)?;
+    put_level_row(out, Isolation::Causal, lower.causal)?;
+    put_level_row(out, Isolation::ReadAtomic, lower.read_atomic)?;
+    put_level_row(
+        out,
+        Isolation::MonotonicAtomicView,
+        lower.monotonic_atomic_view,
+    )?;
+    put_level_row(out, Isolation::ReadCommitted, lower.read_committed)
+}
+
+/// The weaker of two levels that were not kept: this one, where it was not, or else the one above.
+fn or_above(level: Isolation, word: Option<Word>, above: Option<Isolation>) -> Option<Isolation>
+    ensures weakest { result ≡ or_above level word above }
+{
+    match word {
+        Some(Word::NotSerializable) => Some(level),
+        Some(Word::Serializable | Word::Unknown) | None => above,
+    }
+}
+
+/// The weakest level below snapshot isolation that was not kept.
+fn weakest_of(lower: &Lower) -> Option<Isolation>
+    ensures weakest { result ≡ weakest_of lower.now }
+{
+    let prefix = or_above(Isolation::Prefix, lower.prefix, None);
+    let causal = or_above(Isolation::Causal, lower.causal, prefix);
+    let atomic = or_above(Isolation::ReadAtomic, lower.read_atomic, causal);
+    let view = or_above(
+        Isolation::MonotonicAtomicView,
+        lower.monotonic_atomic_view,
+        atomic,
+    );
+    or_above(Isolation::ReadCommitted, lower.read_committed, view)
+}
+
+fn put_title(out: &mut Vec<u8>, level: Option<Isolation>) -> Result<(), AllocError>
+    ensures put { OnOk result (out.new.items ≡ out.old.items ++ title_of level) }
+{
+    match level {
+        None => Ok(()),
+        Some(level) => put(out, level.title().as_bytes()),
+    }
+}
+
+/// Appends a part that shows that this level was not kept.
+fn put_why_lowest(
+    out: &mut Vec<u8>,
+    level: Option<Isolation>,
+    part: &ToldPart,
+) -> Result<(), AllocError>
+    ensures put { OnOk result (out.new.items ≡ out.old.items ++ why_lowest level part.now) }
+{
+    put(out, b"why ")?;
+    put_title(out, level)?;
+    put(out, b" was not kept:\n")?;
+    put_part(out, part)
+}
+
+/// The same, where there is one.
+fn put_lowest(
+    out: &mut Vec<u8>,
+    level: Option<Isolation>,
+    part: &Option<ToldPart>,
+) -> Result<(), AllocError>
+    ensures put { OnOk result (out.new.items ≡ out.old.items ++ lowest_part level part.now) }
+{
+    match part {
+        None => Ok(()),
+        Some(part) => put_why_lowest(out, level, part),
+    }
+}
+
 /// Appends what holds without moments and at weaker levels, where that is told.
 #[tactic(auto, unfolding(crate::specs::Report::weaker_text))]
 fn put_weaker(out: &mut Vec<u8>, told: &Told) -> Result<(), AllocError>
@@ -420,7 +500,8 @@ fn put_weaker(out: &mut Vec<u8>, told: &Told) -> Result<(), AllocError>
 {
     put_without_row(out, word_of(&told.answer), told.without_moments)?;
     put_level_row(out, Isolation::StrictSnapshot, told.strict_snapshot)?;
-    put_snapshot_row(out, told.snapshot, &told.shown)
+    put_snapshot_row(out, told.snapshot, &told.shown)?;
+    put_lower(out, &told.lower)
 }
 
 /// How many transactions the first part has.
@@ -467,6 +548,7 @@ fn put_behind_first(out: &mut Vec<u8>, faults: usize, told: &Told) -> Result<(),
     put_weaker(out, told)?;
     put_middle(out, faults, &told.answer)?;
     put_last(out, &told.shown)?;
+    put_lowest(out, weakest_of(&told.lower), &told.lowest)?;
     put_counts(out, &told.totals, part_size(&told.answer))?;
     Ok(())
 }

@@ -10,7 +10,8 @@ ghost use Rattle.judging.specs.Made.{IsMadeOf};
 ghost use Rattle.audit_command.specs.Why.{IsWhyOf, IsWhy, IsNamedBy, IsNamed};
 ghost use Rattle.audit_command.specs.Why.{read_name, anomaly_name};
 
-use crate::explaining::{Explained, MANY_LINES, SEARCH_SHOWS, explain_serial, places_of};
+use crate::explaining::{Explained, MANY_LINES, explain_serial, places_of, searched};
+use crate::overlooked::explain_below;
 use deciding::Means;
 use judging::{Finding, JudgeMeans, Level, RefutedPart};
 use session_history::{Anomaly, ReadAnomaly};
@@ -104,13 +105,14 @@ fn text_of_points(alloc: Global, told: &Told) -> Result<Explained, AllocError> {
     Ok(explained)
 }
 
-/// Why a part has no snapshot order, by its snapshots and commits; `None` where circles of these do
-/// not show it, or the log has more lines than any.
+/// Why a part has no snapshot order, or no prefix order where keys are not locked, by its snapshots
+/// and commits; `None` where circles of these do not show it, or the log has more lines than any.
 fn explain_points(
     alloc: Global,
     version: Version,
     sessions: &[Session],
     refuted: &RefutedPart,
+    is_locked: bool,
 ) -> Result<Option<Explained>, AllocError>
     requires made { IsMadeOf (map view sessions.now) refuted.now }
 {
@@ -118,7 +120,7 @@ fn explain_points(
         return Ok(None);
     }
     let places = places_of(alloc, version, sessions, refuted)?;
-    match tell_snapshots(alloc, &refuted.part, &places)? {
+    match tell_snapshots(alloc, &refuted.part, &places, is_locked)? {
         Some(told) => Ok(Some(text_of_points(alloc, &told)?)),
         None => Ok(None),
     }
@@ -182,11 +184,38 @@ fn explain_snapshot<R: Threads + Wait + Clock + Sync>(
         let explained = explain_serial(rt, alloc, version, sessions, refuted, means)?;
         return with_name(alloc, explained.text, name_at_snapshots(anomaly));
     }
-    if let Some(explained) = explain_points(alloc, version, sessions, refuted)? {
+    if let Some(explained) = explain_points(alloc, version, sessions, refuted, true)? {
         return Ok(explained);
     }
     let explained = explain_serial(rt, alloc, version, sessions, refuted, means)?;
     below_snapshot(alloc, explained)
+}
+
+/// Why a part has no prefix order.
+fn explain_prefix<R: Threads + Wait + Clock + Sync>(
+    rt: &R,
+    alloc: Global,
+    version: Version,
+    sessions: &[Session],
+    refuted: &RefutedPart,
+    means: &Means,
+) -> Result<Explained, AllocError>
+    requires legal { AllByRecursion IsLegal (map view refuted.now.part.items) }
+    requires made { IsMadeOf (map view sessions.now) refuted.now }
+{
+    if let Finding::Anomaly(anomaly) = refuted.finding {
+        let explained = explain_serial(rt, alloc, version, sessions, refuted, means)?;
+        return with_name(alloc, explained.text, name_at_snapshots(anomaly));
+    }
+    if let Some(explained) = explain_points(alloc, version, sessions, refuted, false)? {
+        return Ok(explained);
+    }
+    let mut text = Vec::new(alloc);
+    put_line(&mut text, NO_POINTS_LEFT)?;
+    Ok(Explained {
+        text,
+        known_as: None,
+    })
 }
 
 /// Why a part has no serial order.
@@ -206,10 +235,7 @@ fn explain_order<R: Threads + Wait + Clock + Sync>(
         told.text.items) }
 {
     match refuted.finding {
-        Finding::Formula => Ok(Explained {
-            text: Vec::from_slice(alloc, SEARCH_SHOWS)?,
-            known_as: None,
-        }),
+        Finding::Formula | Finding::Overlooked => searched(alloc),
         Finding::Anomaly(anomaly) => {
             let explained = explain_serial(rt, alloc, version, sessions, refuted, means)?;
             Ok(Explained {
@@ -237,12 +263,14 @@ pub fn explain_part<R: Threads + Wait + Clock + Sync>(
     requires made { IsMadeOf (map view sessions.now) refuted.now }
     ensures why { IfOk result (λ told. IsWhy means.now (first_line version)
         (map view sessions.now) refuted.now told.text.items) }
-    ensures named { IfOk result (λ told. IsNamed means.now.level refuted.now.finding
-        told.known_as told.text.items) }
+    ensures named { IfOk result (λ told. IsNamed means.now.level refuted.now told.known_as
+        told.text.items) }
 {
     let deciding = &means.deciding;
     match means.level {
         Level::Serializable => explain_order(rt, alloc, version, sessions, refuted, deciding),
         Level::Snapshot => explain_snapshot(rt, alloc, version, sessions, refuted, deciding),
+        Level::Prefix => explain_prefix(rt, alloc, version, sessions, refuted, deciding),
+        Level::Below(below) => explain_below(alloc, version, sessions, refuted, below),
     }
 }

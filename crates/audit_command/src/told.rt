@@ -60,6 +60,16 @@ pub struct Totals {
     pub taken: usize,
 }
 
+/// What holds of levels below snapshot isolation, in the order of sessions, where that is asked for.
+#[derive(Clone, Copy, Debug, PartialEq, Eq)]
+pub struct Lower {
+    pub prefix: Option<Word>,
+    pub causal: Option<Word>,
+    pub read_atomic: Option<Word>,
+    pub monotonic_atomic_view: Option<Word>,
+    pub read_committed: Option<Word>,
+}
+
 /// What is told of a log.
 #[derive(Drop)]
 pub struct Told {
@@ -75,5 +85,10 @@ pub struct Told {
     /// The part that shows that snapshot isolation was not kept, where no part of the answer has its
     /// transactions.
     pub shown: Option<ToldPart>,
+    /// What holds of the levels below, down to the first that was kept.
+    pub lower: Lower,
+    /// The part that shows that the weakest of these that was not kept was not, where no other part
+    /// has its transactions.
+    pub lowest: Option<ToldPart>,
     pub totals: Totals,
 }

@@ -86,6 +86,7 @@ pub fn reason_text(
         Why::NotBegun => String::from_str(alloc, "the time was up"),
         Why::NoRoom(why) => room_text(alloc, why),
         Why::TooLarge { .. } => large_text(alloc, proposal, tried),
+        Why::NotShown => String::from_str(alloc, "it has too many operations, or sessions"),
     }
 }
 
@@ -156,7 +157,7 @@ pub fn advice_lines(
     let mut lines = Vec::new(alloc);
     match why {
         Why::Spent { .. } => lines.push(String::from_str(alloc, "a higher --budget may help")?)?,
-        Why::TooManyChoices | Why::NoRoom(_) => {}
+        Why::TooManyChoices | Why::NoRoom(_) | Why::NotShown => {}
         Why::NotBegun => lines.push(String::from_str(alloc, "more --seconds may help")?)?,
         Why::TooLarge { .. } => match proposal {
             Proposal::Stuck(stuck) => {

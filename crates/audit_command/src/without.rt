@@ -98,7 +98,7 @@ pub fn state_moments(sessions: &[Session]) -> bool
 }
 
 /// The verdict, in a word.
-fn word_of(verdict: &Verdict) -> Word
+pub fn word_of(verdict: &Verdict) -> Word
     ensures is { result ≡ verdict_word verdict.now }
     ensures word { (m : JudgeMeans) (ss : List ClientSession) → IsVerdict m ss verdict.now
         → IsWord m ss result }
@@ -112,7 +112,7 @@ fn word_of(verdict: &Verdict) -> Word
 
 /// Whether weaker levels are asked for: a level was not kept or is not decided, and more than the
 /// first line is told.
-fn asks_levels(options: &AuditOptions<'_>, answer: &Answer) -> bool
+pub fn asks_levels(options: &AuditOptions<'_>, answer: &Answer) -> bool
     ensures asks { result ≡ asks_levels options.now answer.now }
 {
     match answer {
@@ -127,7 +127,7 @@ fn is_serial(level: Level) -> bool
 {
     match level {
         Level::Serializable => true,
-        Level::Snapshot => false,
+        Level::Snapshot | Level::Prefix | Level::Below(_) => false,
     }
 }
 
@@ -149,14 +149,14 @@ fn asks_plain(options: &AuditOptions<'_>, answer: &Answer, states: bool) -> bool
 }
 
 /// Whether it is told that a level was kept.
-fn is_kept(word: Option<Word>) -> bool
+pub fn is_kept(word: Option<Word>) -> bool
     ensures kept { result ≡ is_kept word }
 {
     matches!(word, Some(Word::Serializable))
 }
 
 /// Whether it is told of one of two levels that it was kept.
-fn is_one_kept(one: Option<Word>, other: Option<Word>) -> bool
+pub fn is_one_kept(one: Option<Word>, other: Option<Word>) -> bool
     ensures kept { result ≡ (is_kept one || is_kept other) }
 {
     is_kept(one) || is_kept(other)
@@ -183,7 +183,7 @@ fn asked_at_snapshot<'a>(options: &AuditOptions<'a>) -> AuditOptions<'a>
 }
 
 /// Which transactions the first part of an answer has.
-fn first_flags(answer: &Answer) -> Option<&Flags> {
+pub fn first_flags(answer: &Answer) -> Option<&Flags> {
     match answer {
         Answer::NotSerializable(parts) => parts
             .first()
@@ -336,7 +336,7 @@ fn plain_where<R: Threads + Wait + Clock + Eprint + Sync, P: Progress>(
 }
 
 /// What holds of a log of these sessions, whose outcomes are known, as if it stated no moments, and
-/// at weaker levels, where that is asked for.
+/// at weaker levels, where that is asked for; and the sessions without them.
 pub fn judge_weaker<R: Threads + Wait + Clock + Eprint + Sync, P: Progress>(
     rt: &R,
     alloc: Global,
@@ -346,11 +346,13 @@ pub fn judge_weaker<R: Threads + Wait + Clock + Eprint + Sync, P: Progress>(
     sessions: Vec<Session>,
     options: &AuditOptions<'_>,
     progress: &mut P,
-) -> Result<Weaker, AllocError>
+) -> Result<(Weaker, Vec<Session>), AllocError>
     requires log { IsLog (map view sessions.items) }
     ensures weaker { (ss : List ClientSession) → AllByRecursion IsLegal ss → IsSoundLog ss
         → map view sessions.items ≡ resolved ss → states ≡ states_moments ss
-        → IfOk result (IsWeaker options.now (first_line version) ss answer.now) }
+        → IfOk result (λ both. IsWeaker options.now (first_line version) ss answer.now both.0) }
+    ensures rest { IfOk result (λ both. map view both.1.items
+        ≡ without_moments (map view sessions.items)) }
 {
     let means = at_snapshot(&options.means);
     let first = first_flags(answer);
@@ -365,10 +367,11 @@ pub fn judge_weaker<R: Threads + Wait + Clock + Eprint + Sync, P: Progress>(
     let plain = plain_where(
         rt, alloc, version, &sessions, answer, is_implied, is_plain, options, progress,
     )?;
-    Ok(Weaker {
+    let weaker = Weaker {
         without_moments,
         strict_snapshot,
         snapshot: plain.word,
         shown: plain.shown,
-    })
+    };
+    Ok((weaker, sessions))
 }

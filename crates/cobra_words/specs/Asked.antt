@@ -68,7 +68,13 @@ abbrev pub level_of : Option Text → Option Isolation
 level_of text = if is_word (codes "strict-serializable") text then Some level.StrictSerializable
     else (if is_word (codes "serializable") text then Some level.Serializable
     else (if is_word (codes "strict-snapshot") text then Some level.StrictSnapshot
-    else (if is_word (codes "snapshot") text then Some level.Snapshot else None)))
+    else (if is_word (codes "snapshot") text then Some level.Snapshot
+    else (if is_word (codes "prefix") text then Some level.Prefix
+    else (if is_word (codes "causal") text then Some level.Causal
+    else (if is_word (codes "read-atomic") text then Some level.ReadAtomic
+    else (if is_word (codes "monotonic-atomic-view") text then Some level.MonotonicAtomicView
+    else (if is_word (codes "read-committed") text then Some level.ReadCommitted
+    else None))))))))
 
 -- ---- a request
 

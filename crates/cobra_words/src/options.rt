@@ -24,11 +24,16 @@ const FORMATS: [&str; 2] = ["text", "dot"];
 const REPORTS: [&str; 2] = ["text", "json"];
 
 /// The words for levels of isolation.
-const LEVELS: [&str; 4] = [
+const LEVELS: [&str; 9] = [
     "strict-serializable",
     "serializable",
     "strict-snapshot",
     "snapshot",
+    "prefix",
+    "causal",
+    "read-atomic",
+    "monotonic-atomic-view",
+    "read-committed",
 ];
 
 /// The words for strategies.

@@ -108,6 +108,11 @@ pub fn level_of(text: Option<&str>) -> Option<Isolation>
         Some("serializable") => Some(Isolation::Serializable),
         Some("strict-snapshot") => Some(Isolation::StrictSnapshot),
         Some("snapshot") => Some(Isolation::Snapshot),
+        Some("prefix") => Some(Isolation::Prefix),
+        Some("causal") => Some(Isolation::Causal),
+        Some("read-atomic") => Some(Isolation::ReadAtomic),
+        Some("monotonic-atomic-view") => Some(Isolation::MonotonicAtomicView),
+        Some("read-committed") => Some(Isolation::ReadCommitted),
         _ => None,
     }
 }

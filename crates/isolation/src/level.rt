@@ -1,9 +1,9 @@
 //! The levels, and what their names mean.
 
 ghost use Rattle.std.specs.Prelude.{◌≡◌};
-ghost use Rattle.isolation.specs.Levels.{is_snapshot, is_strict, level_title};
+ghost use Rattle.isolation.specs.Levels.{is_strict, level_title};
 
-/// A level of isolation that a store may promise.
+/// A level of isolation that a store may promise. Each keeps the order of sessions.
 #[derive(Clone, Copy, Debug, PartialEq, Eq)]
 pub enum Isolation {
     /// Serializability in the order of sessions and of the stated moments.
@@ -14,27 +14,27 @@ pub enum Isolation {
     StrictSnapshot,
     /// Snapshot isolation in the order of sessions.
     Snapshot,
+    /// Prefix consistency: snapshot isolation where updates may be lost.
+    Prefix,
+    /// Causal consistency, with one order for all: a read sees what it follows.
+    Causal,
+    /// Read atomic: a read sees all of each transaction that its own one read from.
+    ReadAtomic,
+    /// Monotonic atomic view: the same from that read on.
+    MonotonicAtomicView,
+    /// Read committed: nobody reads what was not left by a commit.
+    ReadCommitted,
 }
 
 impl Isolation {
-    /// Whether it is one of snapshots, and not of a serial order.
-    pub fn is_snapshot(self) -> bool
-        ensures snapshot { result ≡ is_snapshot self }
-    {
-        match self {
-            Isolation::StrictSnapshot | Isolation::Snapshot => true,
-            Isolation::StrictSerializable | Isolation::Serializable => false,
-        }
-    }
-
     /// Whether it keeps the order of stated moments.
     pub fn is_strict(self) -> bool
         ensures strict { result ≡ is_strict self }
     {
-        match self {
-            Isolation::StrictSerializable | Isolation::StrictSnapshot => true,
-            Isolation::Serializable | Isolation::Snapshot => false,
-        }
+        matches!(
+            self,
+            Isolation::StrictSerializable | Isolation::StrictSnapshot
+        )
     }
 
     /// Its name.
@@ -46,6 +46,11 @@ impl Isolation {
             Isolation::Serializable => "serializability",
             Isolation::StrictSnapshot => "strict snapshot isolation",
             Isolation::Snapshot => "snapshot isolation",
+            Isolation::Prefix => "prefix consistency",
+            Isolation::Causal => "causal consistency",
+            Isolation::ReadAtomic => "read atomic",
+            Isolation::MonotonicAtomicView => "monotonic atomic view",
+            Isolation::ReadCommitted => "read committed",
         }
     }
 }

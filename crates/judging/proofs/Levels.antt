@@ -14,24 +14,33 @@ use Rattle.log_laws.proofs.Resolved.{nodes_stay, resolved_is_log}
 use Rattle.part_laws.specs.Parts.{IsPart}
 use Rattle.level_laws.specs.Split.{Locks, split_writers}
 use Rattle.level_laws.proofs.Resolved.{of_same_nodes}
-use Rattle.level_laws.proofs.Some.{snapshot_of_taken}
-use Rattle.level_laws.proofs.OfPart.{some_snapshot_of_part}
+use Rattle.level_laws.proofs.Some.{snapshot_of_taken, prefix_of_taken}
+use Rattle.level_laws.proofs.OfPart.{some_snapshot_of_part, some_prefix_of_part}
+use Rattle.level_laws.specs.Prefix.{no_locks}
+use Rattle.seen_laws.specs.declared.level.Level.{Level as BelowLevel}
+use Rattle.seen_laws.specs.Seen.{IsLevelOrder, HasLevelOrder}
+use Rattle.seen_laws.proofs.Same.{same_nodes, same_order, same_level}
+use Rattle.seen_laws.proofs.OfPart.{level_of_taken, some_level_of_part}
+use Rattle.level_refutations.specs.declared.evidence.Evidence.{Evidence}
+use Rattle.level_refutations.specs.Refuted.{is_refuted}
 use Rattle.splitting.specs.Locks.{lock_key, most_leading, longest, largest, refusal, locks_of, no_room}
-use Rattle.splitting.proofs.Fresh.{snapshot_by_split_log}
+use Rattle.splitting.proofs.Fresh.{snapshot_by_split_log, prefix_by_split_log}
 use Rattle.polygraph.specs.declared.fault.PolyFault.TheVariants as poly_fault
 use Rattle.reduction.specs.Outcome.{IsReduceFault}
 use Rattle.branch_search.specs.declared.answer.Answer.TheVariants.{Unknown}
 use Rattle.deciding.specs.Decides.{HasNoOrder, IsSearched}
 use Rattle.judging.specs.declared.level.Level.{Level}
-use Rattle.judging.specs.declared.level.Level.TheVariants.{Serializable, Snapshot}
+use Rattle.judging.specs.declared.level.Level.TheVariants.{Serializable, Snapshot, Prefix, Below}
 use Rattle.judging.specs.declared.means.JudgeMeans.{JudgeMeans}
 use Rattle.judging.specs.declared.judged.Why.{Why}
-use Rattle.judging.specs.declared.judged.Why.TheVariants.{Spent, TooLarge, TooManyChoices, NoRoom, NotBegun}
+use Rattle.judging.specs.declared.judged.Why.TheVariants.{Spent, TooLarge, TooManyChoices, NoRoom, NotBegun, NotShown}
 use Rattle.judging.specs.declared.found.Found.{Found}
 use Rattle.judging.specs.declared.found.Found.TheVariants as found
 use Rattle.judging.specs.Limits.{IsOver}
-use Rattle.judging.specs.Levels.{judged_at, HasNoOrderAt, IsOrderAt, IsJudgedAt}
-use Rattle.judging.specs.Judges.{Finds, IsRefutedLog, IsUndecidedBy}
+use Rattle.judging.specs.declared.judged.Finding.{Finding}
+use Rattle.judging.specs.declared.judged.Finding.TheVariants.{Overlooked}
+use Rattle.judging.specs.Levels.{is_split, judged_at, HasNoOrderAt, HasRoomAt, IsOrderAt, IsJudgedAt}
+use Rattle.judging.specs.Judges.{Finds, FindsAt, IsRefutedLog, IsUndecidedBy}
 use Rattle.judging.specs.Finds.{IsFound, of_serial}
 use Rattle.judging.proofs.Resolved.{twice, known, serial_of_resolved}
 use Rattle.judging.proofs.Parts.{none_of_part}
@@ -52,19 +61,30 @@ pub room_resolved : (ss : List ClientSession) → no_room (resolved ss) ≡ no_r
 unfolding no_room
 room_resolved ss = ap (λ ops. refusal (most_leading ops + 1) (longest ops) (largest ops) (length (written ops))) (ops_resolved ss)
 
+pub bare_resolved : (ss : List ClientSession) → judged_at Prefix (resolved ss) ≡ judged_at Prefix ss
+bare_resolved ss = ap (split_writers no_locks) (twice ss)
+
 pub judged_resolved : (ss : List ClientSession) → judged_at Snapshot (resolved ss) ≡ judged_at Snapshot ss
 judged_resolved ss = ap (λ l. split_writers l (resolved (resolved ss))) (locks_resolved ss) ∙ ap (split_writers (locks_of ss)) (twice ss)
 
 -- ---- orders
 pub order_of_resolved : (level : Level) (ss : List ClientSession) (order : List ℕ) → IsOrderAt level (resolved ss) order → IsOrderAt level ss order
 order_of_resolved Serializable ss order h =
-    let own = serial_of_resolved ss order h.serial in
-    record { has = (order, own); room = tt; serial = own }
+    let own = serial_of_resolved ss order h.judged in
+    record { has = (order, own); room = tt; judged = own }
 order_of_resolved Snapshot ss order h = record {
   has = of_same_nodes (resolved ss) ss (nodes_stay ss) h.has;
   room = sym (room_resolved ss) ∙ h.room;
-  serial = subst (λ l. IsSerialOrder l order) (judged_resolved ss) h.serial;
+  judged = subst (λ l. IsSerialOrder l order) (judged_resolved ss) h.judged;
 }
+order_of_resolved Prefix ss order h = record {
+  has = of_same_nodes (resolved ss) ss (nodes_stay ss) h.has;
+  room = tt;
+  judged = subst (λ l. IsSerialOrder l order) (bare_resolved ss) h.judged;
+}
+order_of_resolved (Below below) ss order h =
+    let own = same_order below (resolved ss) ss (same_nodes (resolved ss) ss (nodes_stay ss)) order h.judged in
+    record { has = (order, own); room = tt; judged = own }
 
 -- ---- parts
 pub none_at_part : (level : Level) (ss part : List ClientSession) → AllByRecursion IsLegal ss → IsSoundLog ss → IsPart (resolved ss) part → HasNoOrderAt level part → HasNoOrderAt level ss
@@ -73,48 +93,105 @@ none_at_part Snapshot ss part legal sound h none = λ some.
     let whole = (resolved_is_log ss legal sound).sound in
     let has = of_same_nodes ss (resolved ss) (sym (nodes_stay ss)) ((snapshot_of_taken ss sound).0 some) in
     none (some_snapshot_of_part (resolved ss) part whole h ((snapshot_of_taken (resolved ss) whole).1 has))
+none_at_part Prefix ss part legal sound h none = λ some.
+    let whole = (resolved_is_log ss legal sound).sound in
+    let has = of_same_nodes ss (resolved ss) (sym (nodes_stay ss)) ((prefix_of_taken ss sound).0 some) in
+    none (some_prefix_of_part (resolved ss) part whole h ((prefix_of_taken (resolved ss) whole).1 has))
+none_at_part (Below below) ss part legal sound h none = λ some.
+    let whole = (resolved_is_log ss legal sound).sound in
+    let has = same_level below ss (resolved ss) (same_nodes ss (resolved ss) (sym (nodes_stay ss))) ((level_of_taken below ss sound).0 some) in
+    none (some_level_of_part below (resolved ss) part whole h ((level_of_taken below (resolved ss) whole).1 has))
 
 -- ---- what is judged for a log whose outcomes are known
 -- the split log, of a log that is known
 split_known : (ss : List ClientSession) → IsLog ss → split_writers (locks_of ss) ss ≡ judged_at Snapshot ss
 split_known ss log = ap (split_writers (locks_of ss)) (sym (known ss log))
 
+bare_known : (ss : List ClientSession) → IsLog ss → split_writers no_locks ss ≡ judged_at Prefix ss
+bare_known ss log = ap (split_writers no_locks) (sym (known ss log))
+
 pub judged_is_log : (level : Level) (ss judged : List ClientSession) → IsLog ss → IsJudgedAt level ss judged → IsLog judged
 judged_is_log Serializable ss judged log h = subst IsLog (sym h) log
 judged_is_log Snapshot ss judged log h = subst IsLog (sym h.1) (snapshot_by_split_log ss log h.0).0
+judged_is_log Prefix ss judged log h = subst IsLog (sym h) (prefix_by_split_log ss log).0
+judged_is_log (Below below) ss judged log h = absurd h
 
 -- a serial order of what is judged is an order of the level
-pub order_of_judged : (level : Level) (ss judged : List ClientSession) (order : List ℕ) → IsLog ss → IsJudgedAt level ss judged → IsSerialOrder judged order → IsOrderAt level ss order
-order_of_judged Serializable ss judged order log h serial =
+order_of_serial : (ss judged : List ClientSession) (order : List ℕ) → judged ≡ ss → IsSerialOrder judged order → IsOrderAt Serializable ss order
+order_of_serial ss judged order h serial =
     let own = subst (λ l. IsSerialOrder l order) h serial in
-    record { has = (order, own); room = tt; serial = own }
-order_of_judged Snapshot ss judged order log h serial = record {
+    record { has = (order, own); room = tt; judged = own }
+
+order_of_snapshots : (ss judged : List ClientSession) (order : List ℕ) → IsLog ss → IsJudgedAt Snapshot ss judged → IsSerialOrder judged order → IsOrderAt Snapshot ss order
+order_of_snapshots ss judged order log h serial = record {
   has = (snapshot_by_split_log ss log h.0).1.1 (order, subst (λ l. IsSerialOrder l order) h.1 serial);
   room = h.0;
-  serial = subst (λ l. IsSerialOrder l order) (h.1 ∙ split_known ss log) serial;
+  judged = subst (λ l. IsSerialOrder l order) (h.1 ∙ split_known ss log) serial;
 }
 
-none_of_judged : (ss judged : List ClientSession) → IsLog ss → IsJudgedAt Snapshot ss judged → HasNoOrder judged → HasNoOrderAt Snapshot ss
-none_of_judged ss judged log h un = λ some.
+order_of_prefixes : (ss judged : List ClientSession) (order : List ℕ) → IsLog ss → IsJudgedAt Prefix ss judged → IsSerialOrder judged order → IsOrderAt Prefix ss order
+order_of_prefixes ss judged order log h serial = record {
+  has = (prefix_by_split_log ss log).1.1 (order, subst (λ l. IsSerialOrder l order) h serial);
+  room = tt;
+  judged = subst (λ l. IsSerialOrder l order) (h ∙ bare_known ss log) serial;
+}
+
+pub order_of_judged : (level : Level) (ss judged : List ClientSession) (order : List ℕ) → IsLog ss → IsJudgedAt level ss judged → IsSerialOrder judged order → IsOrderAt level ss order
+order_of_judged Serializable ss judged order log h serial = order_of_serial ss judged order h serial
+order_of_judged Snapshot ss judged order log h serial = order_of_snapshots ss judged order log h serial
+order_of_judged Prefix ss judged order log h serial = order_of_prefixes ss judged order log h serial
+order_of_judged (Below below) ss judged order log h serial = absurd h
+
+-- no serial order of the split log: no order of the level
+none_of_split : (level : Level) (ss judged : List ClientSession) → is_split level ≡ true → IsLog ss → IsJudgedAt level ss judged → HasNoOrder judged → HasNoOrderAt level ss
+none_of_split Snapshot ss judged is log h un = λ some.
     let has = (snapshot_by_split_log ss log h.0).1.0 ((snapshot_of_taken ss log.sound).0 some) in
     let own = some_where_serial judged (has.0, subst (λ l. IsSerialOrder l has.0) (sym h.1) has.1) in
     un.none own.0 own.1
+none_of_split Prefix ss judged is log h un = λ some.
+    let has = (prefix_by_split_log ss log).1.0 ((prefix_of_taken ss log.sound).0 some) in
+    let own = some_where_serial judged (has.0, subst (λ l. IsSerialOrder l has.0) (sym h) has.1) in
+    un.none own.0 own.1
+none_of_split Serializable ss judged is log h un = cc
+none_of_split (Below below) ss judged is log h un = cc
+
+split_room : (level : Level) (ss judged : List ClientSession) → is_split level ≡ true → IsJudgedAt level ss judged → HasRoomAt level ss
+split_room Snapshot ss judged is h = h.0
+split_room Prefix ss judged is h = tt
+split_room Serializable ss judged is h = cc
+split_room (Below below) ss judged is h = cc
+
+-- it is the one of the level
+pub split_is : (level : Level) (ss judged : List ClientSession) → is_split level ≡ true → IsLog ss → IsJudgedAt level ss judged → judged ≡ judged_at level ss
+split_is Snapshot ss judged is log h = h.1 ∙ split_known ss log
+split_is Prefix ss judged is log h = h ∙ bare_known ss log
+split_is Serializable ss judged is log h = cc
+split_is (Below below) ss judged is log h = cc
+
+finds_split : (level : Level) (ss : List ClientSession) (finding : Finding) → is_split level ≡ true → Finds (judged_at level ss) finding → FindsAt level ss finding
+finds_split Snapshot ss finding is h = h
+finds_split Prefix ss finding is h = h
+finds_split Serializable ss finding is h = cc
+finds_split (Below below) ss finding is h = cc
 
 pub not_snapshot : Serializable ≡ Snapshot → ⊥
 not_snapshot e = cc
 
+pub not_below : (below : BelowLevel) → Serializable ≡ Below below → ⊥
+not_below below e = cc
+
 -- what is found of the split log is found of the log
-pub found_by_split : (m : JudgeMeans) (ss judged : List ClientSession) (f : Found) → m.level ≡ Snapshot → IsLog ss → IsJudgedAt Snapshot ss judged → IsFound (of_serial m) judged f → IsFound m ss f
-found_by_split m ss judged (found.Serial order) at log h is = subst (λ level. IsOrderAt level ss order) (sym at) (order_of_judged Snapshot ss judged order log h is.serial)
-found_by_split m ss judged (found.Refuted finding) at log h is = subst (λ level. IsRefutedLog level ss finding) (sym at) (record {
-  none = none_of_judged ss judged log h is.none;
-  room = h.0;
-  found = subst (λ l. Finds l finding) (h.1 ∙ split_known ss log) is.found;
-})
+pub found_by_split : (m : JudgeMeans) (ss judged : List ClientSession) (f : Found) → is_split m.level ≡ true → IsLog ss → IsJudgedAt m.level ss judged → IsFound (of_serial m) judged f → IsFound m ss f
+found_by_split m ss judged (found.Serial order) at log h is = order_of_judged m.level ss judged order log h is.judged
+found_by_split m ss judged (found.Refuted finding) at log h is = record {
+  none = none_of_split m.level ss judged at log h is.none;
+  room = split_room m.level ss judged at h;
+  found = finds_split m.level ss finding at (subst (λ l. Finds l finding) (split_is m.level ss judged at log h) is.found);
+}
 found_by_split m ss judged (found.Undecided why) at log h is = undecided why is
   where
     same : judged ≡ judged_at m.level ss
-    same = h.1 ∙ split_known ss log ∙ ap (λ level. judged_at level ss) (sym at)
+    same = split_is m.level ss judged at log h
 
     undecided : (why : Why) → IsUndecidedBy (of_serial m) judged why → IsUndecidedBy m ss why
     undecided (Spent closed) is = (is.0, subst (λ l. IsSearched m.deciding.budget l (Unknown closed)) same is.1)
@@ -122,3 +199,16 @@ found_by_split m ss judged (found.Undecided why) at log h is = undecided why is
     undecided TooManyChoices is = subst (λ l. IsReduceFault l poly_fault.TooManyChoices) same is
     undecided (NoRoom why) is = absurd (not_snapshot is.0)
     undecided NotBegun is = is
+    undecided NotShown is = absurd (not_below is.0 is.1)
+
+-- ---- levels below
+-- evidence that is right leaves a log whose outcomes are known no order
+pub refuted_below : (below : BelowLevel) (ss : List ClientSession) (evidence : Evidence) → IsLog ss → is_refuted below ss evidence ≡ true → (HasLevelOrder below ss → ⊥) → IsRefutedLog (Below below) ss Overlooked
+refuted_below below ss evidence log is none = record {
+  none = λ some. none ((level_of_taken below ss log.sound).0 some);
+  room = tt;
+  found = (evidence, is);
+}
+
+pub order_below : (below : BelowLevel) (ss : List ClientSession) (order : List ℕ) → IsLevelOrder below ss order → IsOrderAt (Below below) ss order
+order_below below ss order h = record { has = (order, h); room = tt; judged = h }

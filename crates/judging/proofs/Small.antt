@@ -31,10 +31,10 @@ use Rattle.judging.specs.Levels.{judged_at}
 use Rattle.judging.specs.Judges.{IsVerdict, IsInVain}
 use Rattle.judging.specs.declared.means.JudgeMeans.{JudgeMeans}
 use Rattle.judging.specs.declared.judged.Why.{Why}
-use Rattle.judging.specs.declared.judged.Why.TheVariants.{Spent, TooLarge, TooManyChoices, NoRoom, NotBegun}
+use Rattle.judging.specs.declared.judged.Why.TheVariants.{Spent, TooLarge, TooManyChoices, NoRoom, NotBegun, NotShown}
 use Rattle.judging.specs.declared.judged.Tried.{Tried}
 use Rattle.judging.specs.declared.judged.Verdict.TheVariants.{Undecided}
-use Rattle.judging.proofs.Levels.{not_snapshot}
+use Rattle.judging.proofs.Levels.{not_snapshot, not_below}
 
 -- ---- bytes
 header_by_number : (v w : Version) → version_number v ≤ version_number w → length (header_text v) ≤ length (header_text w)
@@ -117,3 +117,4 @@ in_vain m text ss (TooLarge which) tried w e none h = never_too_large text ss wh
 in_vain m text ss TooManyChoices tried w e none h = subst (λ l. IsReduceFault (judged_at l ss) poly_fault.TooManyChoices) e h.0
 in_vain m text ss (NoRoom why) tried w e none h = absurd (not_snapshot (sym e ∙ h.0.0))
 in_vain m text ss NotBegun tried w e none h = h.0 none
+in_vain m text ss NotShown tried w e none h = absurd (not_below h.0.0 (sym e ∙ h.0.1))

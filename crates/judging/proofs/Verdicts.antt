@@ -19,10 +19,10 @@ use Rattle.deciding.specs.Decides.{IsSearched}
 use Rattle.log_parts.specs.Picked.{chosen}
 use Rattle.judging.specs.Limits.{IsOver}
 use Rattle.judging.specs.declared.level.Level.{Level}
-use Rattle.judging.specs.declared.level.Level.TheVariants.{Serializable, Snapshot}
+use Rattle.judging.specs.declared.level.Level.TheVariants.{Serializable, Snapshot, Prefix, Below}
 use Rattle.judging.specs.declared.means.JudgeMeans.{JudgeMeans}
 use Rattle.judging.specs.declared.judged.Why.{Why}
-use Rattle.judging.specs.declared.judged.Why.TheVariants.{Spent, TooLarge, TooManyChoices, NoRoom, NotBegun}
+use Rattle.judging.specs.declared.judged.Why.TheVariants.{Spent, TooLarge, TooManyChoices, NoRoom, NotBegun, NotShown}
 use Rattle.judging.specs.declared.judged.Tried.{Tried}
 use Rattle.judging.specs.declared.judged.Tried.TheVariants.{Nothing, NotSerial, PartSerial, PartOpen}
 use Rattle.judging.specs.declared.judged.RefutedPart.{RefutedPart}
@@ -32,7 +32,8 @@ use Rattle.judging.specs.Judges.{IsRefutedLog, IsUndecidedBy, IsTried, IsVerdict
 use Rattle.judging.specs.Made.{IsMadeOf, IsMade, IsToldPart}
 use Rattle.judging.specs.Finds.{IsSaid, IsTriedOf, of_serial}
 use Rattle.judging.proofs.Resolved.{twice, known, serial_resolved, serial_of_resolved, log_resolved}
-use Rattle.judging.proofs.Levels.{judged_resolved, room_resolved, order_of_resolved, none_at_part}
+use Rattle.seen_laws.specs.declared.level.Level.{Level as BelowLevel}
+use Rattle.judging.proofs.Levels.{bare_resolved, judged_resolved, room_resolved, order_of_resolved, none_at_part, not_below}
 use Rattle.judging.proofs.Shorter.{over_resolved}
 use Rattle.judging.proofs.Parts.{part_log, part_itself, chosen_part}
 
@@ -54,6 +55,16 @@ undecided_serial m ss (TooLarge which) legal h = over_resolved ss which legal h
 undecided_serial m ss TooManyChoices legal h = rw (sym (log_resolved ss)) h
 undecided_serial m ss (NoRoom why) legal h = cc
 undecided_serial m ss NotBegun legal h = h
+undecided_serial m ss NotShown legal h = absurd (not_below h.0 h.1)
+
+-- so it is below, where the log itself is judged too
+undecided_below : (m : JudgeMeans) (below : BelowLevel) (ss : List ClientSession) (why : Why) → AllByRecursion IsLegal ss → IsUndecidedBy (record m { level = Below below }) (resolved ss) why → IsUndecidedBy (record m { level = Below below }) ss why
+undecided_below m below ss (Spent closed) legal h = undecided_serial m ss (Spent closed) legal h
+undecided_below m below ss (TooLarge which) legal h = undecided_serial m ss (TooLarge which) legal h
+undecided_below m below ss TooManyChoices legal h = undecided_serial m ss TooManyChoices legal h
+undecided_below m below ss (NoRoom why) legal h = cc
+undecided_below m below ss NotBegun legal h = h
+undecided_below m below ss NotShown legal h = h
 
 undecided_snapshot : (m : JudgeMeans) (ss : List ClientSession) (why : Why) → IsUndecidedBy (record m { level = Snapshot }) (resolved ss) why → IsUndecidedBy (record m { level = Snapshot }) ss why
 undecided_snapshot m ss (Spent closed) h = (h.0, subst (λ l. IsSearched m.deciding.budget l (Unknown closed)) (judged_resolved ss) h.1)
@@ -61,13 +72,27 @@ undecided_snapshot m ss (TooLarge which) h = subst (λ l. IsOver l which) (judge
 undecided_snapshot m ss TooManyChoices h = subst (λ l. IsReduceFault l poly_fault.TooManyChoices) (judged_resolved ss) h
 undecided_snapshot m ss (NoRoom why) h = (h.0, sym (room_resolved ss) ∙ h.1)
 undecided_snapshot m ss NotBegun h = h
+undecided_snapshot m ss NotShown h = cc
+
+undecided_prefix : (m : JudgeMeans) (ss : List ClientSession) (why : Why) → IsUndecidedBy (record m { level = Prefix }) (resolved ss) why → IsUndecidedBy (record m { level = Prefix }) ss why
+undecided_prefix m ss (Spent closed) h = (h.0, subst (λ l. IsSearched m.deciding.budget l (Unknown closed)) (bare_resolved ss) h.1)
+undecided_prefix m ss (TooLarge which) h = subst (λ l. IsOver l which) (bare_resolved ss) h
+undecided_prefix m ss TooManyChoices h = subst (λ l. IsReduceFault l poly_fault.TooManyChoices) (bare_resolved ss) h
+undecided_prefix m ss (NoRoom why) h = cc
+undecided_prefix m ss NotBegun h = h
+undecided_prefix m ss NotShown h = cc
+
+abbrev IsUndecidedAt : JudgeMeans → List ClientSession → Why → Level → Type 0
+IsUndecidedAt m ss why level = IsUndecidedBy (record m { level = level }) ss why
 
 pub undecided_of_resolved : (m : JudgeMeans) (ss : List ClientSession) (why : Why) → AllByRecursion IsLegal ss → IsUndecidedBy m (resolved ss) why → IsUndecidedBy m ss why
 undecided_of_resolved m ss why legal h = go m.level refl
   where
     go : (level : Level) → m.level ≡ level → IsUndecidedBy m ss why
-    go Serializable e = subst (λ l. IsUndecidedBy (record m { level = l }) ss why) (sym e) (undecided_serial m ss why legal (subst (λ l. IsUndecidedBy (record m { level = l }) (resolved ss) why) e h))
-    go Snapshot e = subst (λ l. IsUndecidedBy (record m { level = l }) ss why) (sym e) (undecided_snapshot m ss why (subst (λ l. IsUndecidedBy (record m { level = l }) (resolved ss) why) e h))
+    go Serializable e = subst (IsUndecidedAt m ss why) (sym e) (undecided_serial m ss why legal (subst (IsUndecidedAt m (resolved ss) why) e h))
+    go Snapshot e = subst (IsUndecidedAt m ss why) (sym e) (undecided_snapshot m ss why (subst (IsUndecidedAt m (resolved ss) why) e h))
+    go Prefix e = subst (IsUndecidedAt m ss why) (sym e) (undecided_prefix m ss why (subst (IsUndecidedAt m (resolved ss) why) e h))
+    go (Below below) e = subst (IsUndecidedAt m ss why) (sym e) (undecided_below m below ss why legal (subst (IsUndecidedAt m (resolved ss) why) e h))
 
 -- ---- parts
 part_once : (ss part : List ClientSession) → IsPart (resolved (resolved ss)) part → IsPart (resolved ss) part

@@ -1,5 +1,5 @@
 -- What is said of a log of any length.
-use Rattle.std.specs.Prelude.{◌≡◌, ◌≢◌, ℕ, false, List, map, Some, None}
+use Rattle.std.specs.Prelude.{◌≡◌, ◌≢◌, ℕ, true, false, List, map, Some, None}
 use Rattle.session_log.specs.Text.{ClientSession, view}
 use Rattle.serializability.specs.Anomalies.{anomaly_of}
 use Rattle.log_definitions.specs.Unknown.{resolved}
@@ -15,22 +15,24 @@ use Rattle.splitting.specs.Locks.{no_room}
 use Rattle.deciding.specs.Decides.{IsSearched, IsCycleOf, IsRefutedBy}
 use Rattle.solving.specs.Solved.{IsRefutedFor}
 use Rattle.judging.specs.Limits.{IsOver}
+use Rattle.seen_laws.specs.declared.level.Level.{Level as BelowLevel}
+use Rattle.level_refutations.specs.declared.evidence.Evidence.{Evidence}
+use Rattle.level_refutations.specs.Refuted.{is_refuted}
 use Rattle.judging.specs.Levels.{judged_at, HasOrderAt, HasNoOrderAt, HasRoomAt, IsOrderAt}
 use Rattle.judging.specs.declared.level.Level.{Level}
-use Rattle.judging.specs.declared.level.Level.TheVariants.{Snapshot}
+use Rattle.judging.specs.declared.level.Level.TheVariants.{Serializable, Snapshot, Prefix, Below}
 use Rattle.judging.specs.declared.judged.Finding.{Finding}
 use Rattle.judging.specs.declared.judged.Finding.TheVariants.{Anomaly, Cycle, Dead, Refuted}
-use Rattle.judging.specs.declared.judged.Finding.TheVariants.{Formula}
+use Rattle.judging.specs.declared.judged.Finding.TheVariants.{Formula, Overlooked}
 use Rattle.judging.specs.declared.judged.Why.{Why}
 use Rattle.judging.specs.declared.judged.Why.TheVariants.{Spent, TooLarge, TooManyChoices}
-use Rattle.judging.specs.declared.judged.Why.TheVariants.{NoRoom, NotBegun}
+use Rattle.judging.specs.declared.judged.Why.TheVariants.{NoRoom, NotBegun, NotShown}
 use Rattle.judging.specs.declared.means.JudgeMeans.{JudgeMeans}
 use Rattle.judging.specs.declared.judged.Tried.{Tried}
 use Rattle.judging.specs.declared.judged.Tried.TheVariants.{Nothing, NotSerial}
 use Rattle.judging.specs.declared.judged.Tried.TheVariants.{PartSerial, PartOpen}
 use Rattle.judging.specs.declared.judged.Verdict.{Verdict}
-use Rattle.judging.specs.declared.judged.Verdict.TheVariants.{Serializable}
-use Rattle.judging.specs.declared.judged.Verdict.TheVariants.{NotSerializable, Undecided}
+use Rattle.judging.specs.declared.judged.Verdict.TheVariants as verdict
 
 -- ---- a log that is judged by itself
 
@@ -48,6 +50,19 @@ Finds ss Dead = (ledger : Ledger) × IsDeadHistory ss ledger
 Finds ss Refuted = (budget : ℕ) × (left : Remainder) × (tree : List TreeNode)
     × IsRefutedBy budget ss left tree
 Finds ss Formula = IsRefutedFor false ss × IsLeftOpen ss
+Finds ss Overlooked = ⊥
+
+-- what stands against a log at a level below prefix: evidence, of which each place can be looked up
+abbrev pub FindsBelow : BelowLevel → List ClientSession → Finding → Type 0
+FindsBelow below ss Overlooked = (evidence : Evidence) × (is_refuted below ss evidence ≡ true)
+FindsBelow below ss _ = ⊥
+
+-- what stands against a log at a level, in the log that is judged for it
+abbrev pub FindsAt : Level → List ClientSession → Finding → Type 0
+FindsAt Serializable ss finding = Finds ss finding
+FindsAt Snapshot ss finding = Finds (judged_at Snapshot ss) finding
+FindsAt Prefix ss finding = Finds (judged_at Prefix ss) finding
+FindsAt (Below below) ss finding = FindsBelow below ss finding
 
 -- no order of the level explains the log's committed and any unknown transactions, and why: in the
 -- log that is judged for it, whose locks have room
@@ -55,11 +70,12 @@ pub record IsRefutedLog (level : Level) (ss : List ClientSession) (finding : Fin
     : Type 0 where
   pub none : HasNoOrderAt level ss
   pub room : HasRoomAt level ss
-  pub found : Finds (judged_at level ss) finding
+  pub found : FindsAt level ss finding
 
 -- why a log is not decided: the search of the log that is judged closed as many cubes as it may, and
 -- found nothing; it has too many of something; its chains have too many choices; names of locks have
--- no room; or a time was set, of which no more is said
+-- no room; a time was set, of which no more is said; or the level is below prefix, of which no more is
+-- said either
 abbrev pub IsUndecidedBy : JudgeMeans → List ClientSession → Why → Type 0
 IsUndecidedBy m ss (Spent closed) = (closed ≡ m.deciding.budget)
     × IsSearched m.deciding.budget (judged_at m.level ss) (Unknown closed)
@@ -67,6 +83,7 @@ IsUndecidedBy m ss (TooLarge which) = IsOver (judged_at m.level ss) which
 IsUndecidedBy m ss TooManyChoices = IsReduceFault (judged_at m.level ss) poly_fault.TooManyChoices
 IsUndecidedBy m ss (NoRoom why) = (m.level ≡ Snapshot) × (no_room ss ≡ Some why)
 IsUndecidedBy m ss NotBegun = m.deadline ≢ None
+IsUndecidedBy m ss NotShown = (below : BelowLevel) × (m.level ≡ Below below)
 
 -- ---- the whole
 
@@ -96,10 +113,10 @@ IsTried m ss (PartOpen why) = (part : List ClientSession) × IsOpenPart m ss par
 -- that none of the committed and of any unknown ones explains it, since this part of it has none; or
 -- that it is not decided: then the log itself was searched in vain, or is too large to be.
 abbrev pub IsVerdict : JudgeMeans → List ClientSession → Verdict → Type 0
-IsVerdict m ss (Serializable order) = IsOrderAt m.level ss order.items
-IsVerdict m ss (NotSerializable told) = HasNoOrderAt m.level ss
+IsVerdict m ss (verdict.Serializable order) = IsOrderAt m.level ss order.items
+IsVerdict m ss (verdict.NotSerializable told) = HasNoOrderAt m.level ss
     × IsRefutedPart m.level ss (map view told.part.items) told.finding
-IsVerdict m ss (Undecided why tried) = IsUndecidedBy m ss why × IsTried m ss tried
+IsVerdict m ss (verdict.Undecided why tried) = IsUndecidedBy m ss why × IsTried m ss tried
 
 -- ---- a log that `check` takes
 

@@ -38,6 +38,19 @@ pub fn all_flags(alloc: Global, sessions: &[Session], flag: bool) -> Result<Flag
     Ok(flags)
 }
 
+/// Each transaction with the other flag.
+pub fn other_flags(alloc: Global, flags: &[Vec<bool>]) -> Result<Flags, AllocError> {
+    let mut others = Vec::with_capacity(alloc, flags.len())?;
+    for list in flags {
+        let mut own = Vec::with_capacity(alloc, list.len())?;
+        for flag in list {
+            own.push(!*flag)?;
+        }
+        others.push(own)?;
+    }
+    Ok(others)
+}
+
 /// Whether the transaction at this place is chosen.
 fn is_flagged(flags: &[bool], place: usize) -> bool {
     flags.get(place).copied().unwrap_or(false)

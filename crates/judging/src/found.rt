@@ -1,17 +1,19 @@
 //! What is found of a log that is judged by itself.
 
-ghost use Rattle.std.specs.Prelude.{◌≡◌, List, IfOk, IfSome, map};
+ghost use Rattle.std.specs.Prelude.{◌≡◌, true, List, IfOk, IfSome, map};
 ghost use Rattle.session_log.specs.Text.{ClientSession, view};
 ghost use Rattle.session_log.specs.declared.fault.LogFault.TheVariants.{OverLimit};
 ghost use Rattle.log_laws.specs.Logs.{IsLog};
 ghost use Rattle.deciding.specs.Decides.{Decides};
 ghost use Rattle.judging.specs.Judges.{IsLeftOpen};
 ghost use Rattle.judging.specs.Finds.{IsFound, IsLimitOrMemory, is_spent, of_serial};
+ghost use Rattle.judging.specs.Levels.{is_split};
 ghost use Rattle.judging.specs.declared.means.JudgeMeans.{JudgeMeans};
 
+use crate::below::see_below;
 use crate::halves::joined_nodes;
 use crate::judged::{Finding, Why};
-use crate::level::{LevelLog, log_at};
+use crate::level::{Level, LevelLog, log_at};
 use crate::limits::size_limit;
 use crate::means::JudgeMeans;
 use deciding::{Decision, decide};
@@ -241,6 +243,24 @@ fn see_split<R: Threads + Wait + Clock + Sync>(
     })
 }
 
+/// What is found of a log at a level of points, by its split log.
+fn see_points<R: Threads + Wait + Clock + Sync>(
+    rt: &R,
+    alloc: Global,
+    log: &[Session],
+    means: &JudgeMeans,
+) -> Result<Seen, AllocError>
+    requires log { IsLog (map view log.now) }
+    requires level { is_split means.now.level ≡ true }
+    ensures { IfOk result (λ seen. IsFound means.now (map view log.now) seen.found) }
+{
+    match log_at(alloc, means.level, log)? {
+        LevelLog::Itself => unreachable!(),
+        LevelLog::Split(split) => see_split(rt, alloc, log, &split, means),
+        LevelLog::NoRoom(why) => Ok(undecided(alloc, Why::NoRoom(why))),
+    }
+}
+
 /// What is found of a log that can be judged by itself, and the nodes that show it.
 pub fn see_log<R: Threads + Wait + Clock + Sync>(
     rt: &R,
@@ -251,10 +271,10 @@ pub fn see_log<R: Threads + Wait + Clock + Sync>(
     requires log { IsLog (map view log.now) }
     ensures { IfOk result (λ seen. IsFound means.now (map view log.now) seen.found) }
 {
-    match log_at(alloc, means.level, log)? {
-        LevelLog::Itself => see_serial(rt, alloc, log, means),
-        LevelLog::Split(split) => see_split(rt, alloc, log, &split, means),
-        LevelLog::NoRoom(why) => Ok(undecided(alloc, Why::NoRoom(why))),
+    match means.level {
+        Level::Serializable => see_serial(rt, alloc, log, means),
+        Level::Snapshot | Level::Prefix => see_points(rt, alloc, log, means),
+        Level::Below(below) => see_below(rt, alloc, below, log, means),
     }
 }
 

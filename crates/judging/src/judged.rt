@@ -18,6 +18,8 @@ pub enum Finding {
     Refuted,
     /// A search that learns refuted its formula.
     Formula,
+    /// At a level below prefix: a read overlooks what it sees, or no level allows it.
+    Overlooked,
 }
 
 /// Why a log is not decided.
@@ -33,6 +35,8 @@ pub enum Why {
     NoRoom(NoRoom),
     /// A time was set; that it was up is tested.
     NotBegun,
+    /// At a level below prefix: neither an order nor evidence was found right. No contract says more.
+    NotShown,
 }
 
 /// What became of what was proposed of a log that is not decided. No contract speaks of it.

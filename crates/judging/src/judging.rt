@@ -11,11 +11,13 @@ ghost use Rattle.judging.specs.Levels.{IsJudgedAt, IsLogAt};
 ghost use Rattle.judging.specs.Judges.{IsRefutedLog, IsUndecidedBy, IsTried, IsVerdict};
 ghost use Rattle.judging.specs.Finds.{IsAttempt, IsSaid, IsWhole};
 ghost use Rattle.judging.specs.Made.{IsMade, IsToldPart};
+ghost use Rattle.judging.specs.declared.level.Level.TheVariants as level;
 
+use crate::below::judge_level_order;
 use crate::flags::{copy_flags, count_flags};
 use crate::found::{Found, Seen, see_log};
 use crate::judged::{Finding, RefutedPart, Tried, Verdict, Why};
-use crate::level::LevelLog;
+use crate::level::{Level, LevelLog};
 use crate::means::JudgeMeans;
 use crate::shrinking::smaller;
 use crate::trial::{Attempt, Trial, try_part};
@@ -221,6 +223,52 @@ fn judge_by_part<R: Threads + Wait + Clock + Sync>(
     }
 }
 
+/// What an order that is proposed at a level below prefix says, and what else is to be said where it
+/// is none.
+fn judge_by_level_order<R: Threads + Wait + Clock + Sync>(
+    rt: &R,
+    alloc: Global,
+    sessions: &[Session],
+    below: seen_laws::Level,
+    order: &[usize],
+    proposal: &Proposal,
+    means: &JudgeMeans,
+) -> Result<Verdict, AllocError>
+    requires log { IsLog (map view sessions.now) }
+    requires level { means.now.level ≡ level.Below below }
+    ensures { IfOk result (IsSaid means.now (map view sessions.now)) }
+{
+    match judge_level_order(alloc, below, sessions, order)? {
+        Some(order) => Ok(Verdict::Serializable(order)),
+        None => judge_rest(rt, alloc, sessions, proposal, Tried::NotSerial, means),
+    }
+}
+
+/// What a proposed order says of a log that is judged itself.
+fn judge_itself<R: Threads + Wait + Clock + Sync>(
+    rt: &R,
+    alloc: Global,
+    sessions: &[Session],
+    order: &[usize],
+    proposal: &Proposal,
+    means: &JudgeMeans,
+) -> Result<Verdict, AllocError>
+    requires log { IsLog (map view sessions.now) }
+    ensures { IfOk result (IsSaid means.now (map view sessions.now)) }
+{
+    match means.level {
+        Level::Serializable => {
+            judge_by_order(rt, alloc, sessions, sessions, order, proposal, means)
+        }
+        Level::Below(below) => {
+            judge_by_level_order(rt, alloc, sessions, below, order, proposal, means)
+        }
+        Level::Snapshot | Level::Prefix => {
+            judge_rest(rt, alloc, sessions, proposal, Tried::Nothing, means)
+        }
+    }
+}
+
 /// What a proposed order says of what is judged for a log.
 fn judge_ordered<R: Threads + Wait + Clock + Sync>(
     rt: &R,
@@ -236,7 +284,7 @@ fn judge_ordered<R: Threads + Wait + Clock + Sync>(
     ensures { IfOk result (IsSaid means.now (map view sessions.now)) }
 {
     match at {
-        LevelLog::Itself => judge_by_order(rt, alloc, sessions, sessions, order, proposal, means),
+        LevelLog::Itself => judge_itself(rt, alloc, sessions, order, proposal, means),
         LevelLog::Split(split) => {
             judge_by_order(rt, alloc, sessions, split, order, proposal, means)
         }

@@ -5,25 +5,30 @@ ghost use Rattle.session_log.specs.Text.{view};
 ghost use Rattle.log_laws.specs.Logs.{IsLog};
 ghost use Rattle.judging.specs.Levels.{IsLogAt};
 
+use crate::below::propose_below;
 use crate::halves::{joined_proposal, split_flags};
 use crate::means::JudgeMeans;
 use progress::Progress;
 use proposals::{Proposal, propose};
 use session_log::Session;
-use splitting::{NoRoom, split};
+use splitting::{NoRoom, split, split_bare};
 use std::alloc::{AllocError, Global};
 use std::io::Eprint;
 use std::thread::Threads;
 use std::time::Clock;
 
-/// The level of isolation at which a log is judged: in the order of sessions, and of moments where
-/// the log states some.
+/// The level of isolation at which a log is judged: in the order of sessions, and down to prefix
+/// consistency in that of moments where the log states some.
 #[derive(Clone, Copy, Debug, PartialEq, Eq)]
 pub enum Level {
     /// Serializability.
     Serializable,
     /// Snapshot isolation.
     Snapshot,
+    /// Prefix consistency: snapshot isolation where updates may be lost.
+    Prefix,
+    /// A level below.
+    Below(seen_laws::Level),
 }
 
 /// What is judged for a log at some level.
@@ -43,7 +48,8 @@ pub fn log_at(alloc: Global, level: Level, sessions: &[Session]) -> Result<Level
     ensures { IfOk result (IsLogAt level (map view sessions.now)) }
 {
     match level {
-        Level::Serializable => Ok(LevelLog::Itself),
+        Level::Serializable | Level::Below(_) => Ok(LevelLog::Itself),
+        Level::Prefix => Ok(LevelLog::Split(split_bare(alloc, sessions)?)),
         Level::Snapshot => match split(alloc, sessions)? {
             Ok(split) => Ok(LevelLog::Split(split)),
             Err(why) => Ok(LevelLog::NoRoom(why)),
@@ -63,6 +69,9 @@ pub fn propose_at<R: Threads + Clock + Eprint + Sync, P: Progress>(
     means: &JudgeMeans,
     progress: &mut P,
 ) -> Result<Proposal, AllocError> {
+    if let Level::Below(below) = means.level {
+        return propose_below(alloc, below, sessions, left_out);
+    }
     match at {
         LevelLog::Itself | LevelLog::NoRoom(_) => {
             propose(rt, alloc, sessions, left_out, &means.proposing(), progress)

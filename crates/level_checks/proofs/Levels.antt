@@ -29,7 +29,7 @@ use Rattle.log_laws.proofs.Txns.{split}
 use Rattle.log_laws.proofs.Sessions.{nodes_of}
 use Rattle.log_laws.proofs.Shifted.{nodes_are}
 use Rattle.seen_laws.specs.declared.level.Level.{Level}
-use Rattle.seen_laws.specs.declared.level.Level.TheVariants.{ReadCommitted, ReadAtomic, Causal}
+use Rattle.seen_laws.specs.declared.level.Level.TheVariants.{ReadCommitted, MonotonicAtomicView, ReadAtomic, Causal}
 use Rattle.seen_laws.specs.Seen.{last_write, ReadsBehind, WritesKey, IsEarlier, ReadsFrom, Direct, Past, Sees, IsLastSeen, FindsLast, IsLevelOrder}
 use Rattle.seen_laws.specs.Seen.Past.{step, path}
 use Rattle.level_checks.specs.declared.trace.Look.{Look}
@@ -438,7 +438,8 @@ basis level ss order indices learnt sound walk = record {
 
     seen_at : (l : Level) → level ≡ l → (u v : ℕ) (before behind : List Op) (i : ℕ) (lt : i < length order) → at (suc i) ≡ v → on (suc i) ≡ before ++ behind → (first : List Look) → AreFound of (suc i) (seen_of i (kept i lt)) (past nodes order i) before [] first
         → Sees l ss u v before → SeenAt order u i (λ q. SeenBy l (kept i lt).row (of (suc i)) (kept i lt).looks first (of q) q)
-    seen_at ReadCommitted e u v before behind i lt is parts first are r =
+    seen_at ReadCommitted e u v before behind i lt is parts first are r = absurd r
+    seen_at MonotonicAtomicView e u v before behind i lt is parts first are r =
         let w = read_at i (past nodes order i) (seen_of i (kept i lt)) before [] first (λ k x c. subst (λ l. Contains l (Write k x)) (sym parts) (Contains-append_left before behind (Write k x) c)) (past_each nodes order i) are u r.key r.wid (λ e. r.other (e ∙ is)) r.writes r.reads in
         let a = position_of w.0.source u w.2 (omega (arith, w.3, lt)) w.4 in
         record { index = a.0.index; less = omega (arith, a.1, w.3); is = a.0.is; seen = (w.0, w.1, sym a.1) }

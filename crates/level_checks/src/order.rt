@@ -18,7 +18,7 @@ use std::alloc::{AllocError, Global};
 use std::collections::BTreeMap;
 
 /// How many numbers the rows may have in all.
-const MOST_REACHES: usize = 0x0800_0000;
+const MOST_REACHES: usize = 0x1000_0000;
 
 /// How many writes may be passed for each operation, on the whole way.
 const MOST_PASSED: usize = 4096;
@@ -128,7 +128,7 @@ fn most_passed(nodes: &[Node]) -> usize {
 /// Whether the rows of so many nodes, for so many sessions, have few enough numbers.
 fn is_room(level: Level, nodes: usize, width: usize) -> bool {
     match level {
-        Level::ReadCommitted | Level::ReadAtomic => true,
+        Level::ReadCommitted | Level::MonotonicAtomicView | Level::ReadAtomic => true,
         Level::Causal => width == 0 || nodes <= MOST_REACHES / width,
     }
 }

@@ -15,7 +15,7 @@ use Rattle.serializability.proofs.Places.{Apart-from_IsDistinct}
 use Rattle.log_definitions.specs.Serial.{committed_in, ops_of}
 use Rattle.log_laws.specs.Logs.{IsSoundLog, IsLearntLog}
 use Rattle.seen_laws.specs.declared.level.Level.{Level}
-use Rattle.seen_laws.specs.declared.level.Level.TheVariants.{ReadCommitted, ReadAtomic, Causal}
+use Rattle.seen_laws.specs.declared.level.Level.TheVariants.{ReadCommitted, MonotonicAtomicView, ReadAtomic, Causal}
 use Rattle.seen_laws.specs.Seen.{last_write, ReadsBehind, IsEarlier, Direct, Past, step, path, Sees}
 use Rattle.level_refutations.specs.declared.evidence.TxnAt.{TxnAt}
 use Rattle.level_refutations.specs.declared.evidence.Hop.{Hop}
@@ -165,7 +165,8 @@ pub record Seen (level : Level) (ss : List ClientSession) (a b : TxnAt) (i : ℕ
   pub may : may_see level i hops ≡ true
 
 pub seen_shown : (level : Level) (ss : List ClientSession) (a b : TxnAt) (u v : ℕ) (before : List Op) (key : List ℕ) (wid : ℕ) → IsSoundLog ss → IsLearntLog ss → ReadsBehind ss v before key wid → Sees level ss u v before → Stands ss a u → Stands ss b v → Seen level ss a b (length before)
-seen_shown ReadCommitted ss a b u v before key wid sound learnt reads h s r =
+seen_shown ReadCommitted ss a b u v before key wid sound learnt reads h s r = absurd h
+seen_shown MonotonicAtomicView ss a b u v before key wid sound learnt reads h s r =
     let i = index_of (ops_of ss u) (Write h.key h.wid) h.writes in
     let j = index_of before (Read h.key h.wid) h.reads in
     let there = ap (λ l. slice_get l j.0) reads.1 ∙ get_front before (Read key wid ∷ reads.0) j.0 (Read h.key h.wid) j.1 in

@@ -12,7 +12,7 @@ use Rattle.session_log.specs.declared.session.Op.TheVariants.{Read, Write}
 use Rattle.log_definitions.specs.Serial.{ops_of}
 use Rattle.log_laws.specs.Logs.{IsSoundLog, IsLearntLog}
 use Rattle.seen_laws.specs.declared.level.Level.{Level}
-use Rattle.seen_laws.specs.declared.level.Level.TheVariants.{ReadCommitted, ReadAtomic, Causal}
+use Rattle.seen_laws.specs.declared.level.Level.TheVariants.{ReadCommitted, MonotonicAtomicView, ReadAtomic, Causal}
 use Rattle.seen_laws.specs.Seen.{last_write, ReadsBehind, IsReadBehind, Direct, Sees}
 use Rattle.level_refutations.specs.declared.evidence.TxnAt.{TxnAt}
 use Rattle.level_refutations.specs.declared.evidence.OpAt.{OpAt}
@@ -106,7 +106,8 @@ read_behind ss i from to (hop_step.Read write read) u v sound b t s r =
     }
 
 pub seen_by : (level : Level) (ss : List ClientSession) (i : ℕ) (from to : TxnAt) (hops : List Hop) (u v : ℕ) → IsSoundLog ss → IsLearntLog ss → may_see level i hops ≡ true → is_path ss from hops to ≡ true → Stands ss from u → Stands ss to v → Sees level ss u v (take i (ops_of ss v))
-seen_by ReadCommitted ss i from to hops u v sound learnt m t s r =
+seen_by ReadCommitted ss i from to hops u v sound learnt m t s r = absurd (false≢true m)
+seen_by MonotonicAtomicView ss i from to hops u v sound learnt m t s r =
     let p = and_parts (eqb (length hops) 1) (begins_before i hops) m in
     let o = one_hop ss from to hops p.0 t in
     read_behind ss i o.hop.from o.hop.to o.hop.step u v sound (sym (ap (begins_before i) o.only) ∙ p.1) o.right (subst (λ at. Stands ss at u) o.first s) (subst (λ at. Stands ss at v) (sym o.last) r)

@@ -1,1 +1,2 @@
 mod Points
+pub mod Resolved

@@ -24,13 +24,13 @@ use Rattle.level_laws.proofs.Orders.{before_place, lo_snapshot, lo_commit}
 use Rattle.level_laws.proofs.Resolved.{settled_sound, settled_learnt}
 use Rattle.level_laws.proofs.Doubled.{snapshot_where_serial}
 use Rattle.seen_laws.specs.declared.level.Level.{Level}
-use Rattle.seen_laws.specs.declared.level.Level.TheVariants.{ReadCommitted, ReadAtomic, Causal}
+use Rattle.seen_laws.specs.declared.level.Level.TheVariants.{ReadCommitted, MonotonicAtomicView, ReadAtomic, Causal}
 use Rattle.seen_laws.specs.Seen.{last_write, ReadsBehind, IsEarlier, ReadsFrom, Direct, Past, step, path, FindsLast, HasLevelOrder}
 use Rattle.seen_laws.specs.Ladder.{LevelWhereSnapshot, LevelWherePrefix, LevelWhereSerial}
 use Rattle.seen_laws.proofs.Listing.{Listed, listed}
 use Rattle.seen_laws.proofs.LastWrites.{some_written}
 use Rattle.seen_laws.proofs.OfPart.{IsSplit, split_at, level_of_taken}
-use Rattle.seen_laws.proofs.Ladder.{atomic_where_causal, committed_where_atomic}
+use Rattle.seen_laws.proofs.Ladder.{atomic_where_causal, view_where_atomic, committed_where_view}
 use Rattle.seen_laws.proofs.Snapshots.{IsMet, met, met_by_own}
 
 -- its own snapshot stands before a commit
@@ -171,7 +171,8 @@ causal_order ss points apart h = (
 from_causal : (level : Level) (ss : List ClientSession) → HasLevelOrder Causal ss → HasLevelOrder level ss
 from_causal Causal ss h = h
 from_causal ReadAtomic ss (order, h) = (order, atomic_where_causal ss order h)
-from_causal ReadCommitted ss (order, h) = (order, committed_where_atomic ss order (atomic_where_causal ss order h))
+from_causal MonotonicAtomicView ss (order, h) = (order, view_where_atomic ss order (atomic_where_causal ss order h))
+from_causal ReadCommitted ss (order, h) = (order, committed_where_view ss order (view_where_atomic ss order (atomic_where_causal ss order h)))
 
 level_where_points : (level : Level) {locked : Bool} (ss : List ClientSession) → IsSoundLog ss → HasPointOrder locked ss → HasLevelOrder level ss
 level_where_points level ss sound (points, h) =

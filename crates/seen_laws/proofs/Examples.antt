@@ -16,9 +16,9 @@ use Rattle.level_laws.specs.Examples.{x, y, lost_update}
 use Rattle.level_laws.proofs.Nodes.{nodes_are, is_node}
 use Rattle.level_laws.proofs.Resolved.{ops_at}
 use Rattle.seen_laws.specs.declared.level.Level.{Level}
-use Rattle.seen_laws.specs.declared.level.Level.TheVariants.{ReadCommitted, ReadAtomic, Causal}
+use Rattle.seen_laws.specs.declared.level.Level.TheVariants.{ReadCommitted, MonotonicAtomicView, ReadAtomic, Causal}
 use Rattle.seen_laws.specs.Seen.{last_write, ReadsBehind, WritesKey, IsEarlier, ReadsFrom, Direct, Past, step, path, Sees, NoneSeen, FindsLast, HasLevelOrder}
-use Rattle.seen_laws.specs.Examples.{AllowsLostUpdate, fractured_read, SplitsAtomic, unseen_cause, SplitsCausal, stale_read, RefusesStaleRead}
+use Rattle.seen_laws.specs.Examples.{AllowsLostUpdate, fractured_read, SplitsAtomic, unseen_cause, SplitsCausal, stale_read, SplitsView}
 use Rattle.seen_laws.proofs.Listing.{Listed, listed}
 use Rattle.seen_laws.proofs.LastWrites.{some_written, same_wid}
 
@@ -209,8 +209,8 @@ fractured_writes v key wid c = go v (among (Write key wid) (ops_at (nodes_of fra
     go (suc (suc zero)) a = elim a [ inl e ↦ cc | inr b ↦ elim b [ inl e ↦ cc | inr n ↦ absurd n ] ]
     go (suc (suc (suc v))) a = absurd a
 
-splits_committed : HasLevelOrder ReadCommitted fractured_read
-splits_committed = by_number ReadCommitted fractured_read (nodes_of fractured_read) fractured_facts fractured_alone from each
+fractured_view : HasLevelOrder MonotonicAtomicView fractured_read
+fractured_view = by_number MonotonicAtomicView fractured_read (nodes_of fractured_read) fractured_facts fractured_alone from each
   where
     from : (u v : ℕ) → ReadsFrom fractured_read u v → u < v
     from u v e =
@@ -221,7 +221,7 @@ splits_committed = by_number ReadCommitted fractured_read (nodes_of fractured_re
     none : (u : ℕ) → u ≢ 1 → WritesKey fractured_read u x → ⊥
     none u ne w = ne (fractured_writes u x w.0 w.1).0
 
-    each : (v : ℕ) → EachRead (IsExternal ReadCommitted fractured_read v) (ops_at (nodes_of fractured_read) v)
+    each : (v : ℕ) → EachRead (IsExternal MonotonicAtomicView fractured_read v) (ops_at (nodes_of fractured_read) v)
     each zero = tt
     each (suc zero) = tt
     each (suc (suc zero)) = (
@@ -244,7 +244,7 @@ fractured_not_atomic (order, h) =
     (2, subst (λ l. Contains l (Write y 2)) (sym (fractured_facts.ops 1)) (1, omega arith, refl))
 
 pub splits_atomic : SplitsAtomic
-splits_atomic = (splits_committed, fractured_not_atomic)
+splits_atomic = (fractured_view, fractured_not_atomic)
 
 -- ---- a cause that is not seen
 cause_facts : Facts unseen_cause (nodes_of unseen_cause)
@@ -373,18 +373,51 @@ splits_causal = (cause_atomic, cause_not_causal)
 stale_facts : Facts stale_read (nodes_of stale_read)
 stale_facts = facts stale_read (never, (never, tt))
 
-stale_writes : Wrote (λ v key wid. 0 < wid) stale_read
+stale_alone : Alone (nodes_of stale_read)
+stale_alone zero lo hi = absurd (omega (arith, lo))
+stale_alone (suc zero) lo hi = refl
+stale_alone (suc (suc zero)) lo hi = refl
+stale_alone (suc (suc (suc v))) lo hi = absurd (omega (arith, hi))
+
+stale_reads : (v : ℕ) (key : List ℕ) (wid : ℕ) → Contains (ops_of stale_read v) (Read key wid) → v ≡ 2
+stale_reads v key wid c = go v (among (Read key wid) (ops_at (nodes_of stale_read) v) (subst (λ l. Contains l (Read key wid)) (stale_facts.ops v) c))
+  where
+    go : (v : ℕ) → Among (Read key wid) (ops_at (nodes_of stale_read) v) → v ≡ 2
+    go zero a = absurd a
+    go (suc zero) a = elim a [ inl e ↦ cc | inr b ↦ elim b [ inl e ↦ cc | inr n ↦ absurd n ] ]
+    go (suc (suc zero)) a = refl
+    go (suc (suc (suc v))) a = absurd a
+
+stale_writes : Wrote (λ v key wid. (v ≡ 1) × (0 < wid)) stale_read
 stale_writes v key wid c = go v (among (Write key wid) (ops_at (nodes_of stale_read) v) (subst (λ l. Contains l (Write key wid)) (stale_facts.ops v) c))
   where
-    go : (v : ℕ) → Among (Write key wid) (ops_at (nodes_of stale_read) v) → 0 < wid
+    go : (v : ℕ) → Among (Write key wid) (ops_at (nodes_of stale_read) v) → (v ≡ 1) × (0 < wid)
     go zero a = absurd a
-    go (suc zero) a = elim a [ inl e ↦ let is = same_wid x key 1 wid e in omega (arith, is) | inr b ↦ elim b [ inl e ↦ let is = same_wid y key 2 wid e in omega (arith, is) | inr n ↦ absurd n ] ]
+    go (suc zero) a = elim a [ inl e ↦ (refl, (let is = same_wid x key 1 wid e in omega (arith, is))) | inr b ↦ elim b [ inl e ↦ (refl, (let is = same_wid y key 2 wid e in omega (arith, is))) | inr n ↦ absurd n ] ]
     go (suc (suc zero)) a = elim a [ inl e ↦ cc | inr b ↦ elim b [ inl e ↦ cc | inr n ↦ absurd n ] ]
     go (suc (suc (suc v))) a = absurd a
 
-pub refuses_stale_read : RefusesStaleRead
-refuses_stale_read (order, h) =
-    zero_unseen ReadCommitted stale_read order stale_writes 2 (Read x 1 ∷ []) y
+stale_committed : HasLevelOrder ReadCommitted stale_read
+stale_committed = by_number ReadCommitted stale_read (nodes_of stale_read) stale_facts stale_alone from each
+  where
+    from : (u v : ℕ) → ReadsFrom stale_read u v → u < v
+    from u v e =
+        let a = (stale_writes u e.key e.wid e.writes).0 in
+        let b = stale_reads v e.key e.wid e.reads in
+        omega (arith, a, b)
+
+    each : (v : ℕ) → EachRead (IsExternal ReadCommitted stale_read v) (ops_at (nodes_of stale_read) v)
+    each zero = tt
+    each (suc zero) = tt
+    each (suc (suc zero)) = (
+      (refl, inr (1, (λ e. omega (arith, e)), ap (last_write x) (stale_facts.ops 1), (λ u ne s w. s))),
+      ((refl, inl (refl, (λ u s w. s))), tt),
+    )
+    each (suc (suc (suc v))) = tt
+
+stale_not_view : HasLevelOrder MonotonicAtomicView stale_read → ⊥
+stale_not_view (order, h) =
+    zero_unseen MonotonicAtomicView stale_read order (λ v key wid c. (stale_writes v key wid c).1) 2 (Read x 1 ∷ []) y
     (h.found 2 (Read x 1 ∷ []) y 0 ([], stale_facts.ops 2) refl) 1
     (record {
       key = x;
@@ -394,3 +427,6 @@ refuses_stale_read (order, h) =
       reads = (0, omega arith, refl);
     })
     (2, subst (λ l. Contains l (Write y 2)) (sym (stale_facts.ops 1)) (1, omega arith, refl))
+
+pub splits_view : SplitsView
+splits_view = (stale_committed, stale_not_view)

@@ -20,7 +20,7 @@ use Rattle.part_laws.proofs.Thinned.{IsSublist, was_in}
 use Rattle.part_laws.proofs.Replay.{read_is_no_write}
 use Rattle.level_laws.proofs.Nodes.{is_node}
 use Rattle.seen_laws.specs.declared.level.Level.{Level}
-use Rattle.seen_laws.specs.declared.level.Level.TheVariants.{ReadCommitted, ReadAtomic, Causal}
+use Rattle.seen_laws.specs.declared.level.Level.TheVariants.{ReadCommitted, MonotonicAtomicView, ReadAtomic, Causal}
 use Rattle.seen_laws.specs.Seen.{last_write, ReadsBehind, WritesKey, IsEarlier, ReadsFrom, Direct, Past, step, path, Sees, IsLastSeen, FindsLast, IsLevelOrder, HasLevelOrder}
 use Rattle.seen_laws.proofs.Listing.{Listed, listed}
 use Rattle.seen_laws.proofs.LastWrites.{some_written, none_written, last_kept, IsCut, cut_at}
@@ -99,7 +99,8 @@ past_up xs ys at k (step u v d) = step (at u) (at v) (direct_up xs ys at k u v d
 past_up xs ys at k (path u v w d p) = path (at u) (at v) (at w) (direct_up xs ys at k u v d) (past_up xs ys at k p)
 
 sees_up : (level : Level) (xs ys : List ClientSession) (at : ℕ → ℕ) → IsFewer xs ys at → (u v : ℕ) (before less : List Op) → IsSublist before less → v ≤ length (committed_in ys) → Sees level ys u v less → Sees level xs (at u) (at v) before
-sees_up ReadCommitted xs ys at k u v before less p hv h =
+sees_up ReadCommitted xs ys at k u v before less p hv h = h
+sees_up MonotonicAtomicView xs ys at k u v before less p hv h =
     let hu = (is_node ys u (Write h.key h.wid) h.writes).1 in
     record {
       key = h.key;

@@ -4,7 +4,7 @@ use Rattle.session_log.specs.Text.{ClientSession}
 use Rattle.log_laws.specs.Logs.{IsSoundLog, HasOrder}
 use Rattle.level_laws.specs.Snapshot.{HasSnapshotOrder, HasPrefixOrder}
 use Rattle.seen_laws.specs.declared.level.Level.{Level}
-use Rattle.seen_laws.specs.declared.level.Level.TheVariants.{ReadCommitted, ReadAtomic, Causal}
+use Rattle.seen_laws.specs.declared.level.Level.TheVariants.{ReadCommitted, MonotonicAtomicView, ReadAtomic, Causal}
 use Rattle.seen_laws.specs.Seen.{IsLevelOrder, HasLevelOrder}
 
 -- a causal order is one of read atomic
@@ -12,10 +12,15 @@ abbrev pub AtomicWhereCausal : Type 0
 AtomicWhereCausal = (ss : List ClientSession) (order : List ℕ) → IsLevelOrder Causal ss order
     → IsLevelOrder ReadAtomic ss order
 
+-- that is one of monotonic atomic view
+abbrev pub ViewWhereAtomic : Type 0
+ViewWhereAtomic = (ss : List ClientSession) (order : List ℕ) → IsLevelOrder ReadAtomic ss order
+    → IsLevelOrder MonotonicAtomicView ss order
+
 -- and that is one of read committed
-abbrev pub CommittedWhereAtomic : Type 0
-CommittedWhereAtomic = (ss : List ClientSession) (order : List ℕ) → IsLevelOrder ReadAtomic ss order
-    → IsLevelOrder ReadCommitted ss order
+abbrev pub CommittedWhereView : Type 0
+CommittedWhereView = (ss : List ClientSession) (order : List ℕ)
+    → IsLevelOrder MonotonicAtomicView ss order → IsLevelOrder ReadCommitted ss order
 
 -- a log that has a snapshot order has one at each level
 abbrev pub LevelWhereSnapshot : Type 0

@@ -19,14 +19,16 @@ use Rattle.log_definitions.proofs.Settled.{learnt_resolved, ops_resolved}
 use Rattle.log_laws.specs.Logs.{IsLog, HasOrder}
 use Rattle.log_laws.proofs.Lists.{of_mapped, of_flat, test_le}
 use Rattle.log_laws.proofs.Sessions.{le_true}
-use Rattle.level_laws.specs.Snapshot.{HasSnapshotOrder}
+use Rattle.level_laws.specs.Snapshot.{HasSnapshotOrder, HasPrefixOrder}
 use Rattle.level_laws.specs.Split.{Locks, HasKey, split_writers}
 use Rattle.level_laws.proofs.Legal.{split_is_log, resolved_split_is_log}
 use Rattle.level_laws.proofs.Writers.{snapshot_by_writers}
 use Rattle.level_laws.proofs.Fresh.{same_behind}
+use Rattle.level_laws.specs.Prefix.{no_locks}
+use Rattle.level_laws.proofs.Prefix.{prefix_by_split, bare_split_log}
 use Rattle.level_laws.proofs.Doubled.{same_place}
 use Rattle.splitting.specs.Locks.{leading, most_leading, longest, largest, lock_key, marks, locks_of, refusal, no_room, HasRoom}
-use Rattle.splitting.specs.Laws.{LocksAreFresh, SnapshotBySplitLog, SnapshotByResolvedSplit}
+use Rattle.splitting.specs.Laws.{LocksAreFresh, SnapshotBySplitLog, SnapshotByResolvedSplit, PrefixBySplitLog}
 use Rattle.splitting.proofs.Greatest.{within_greatest}
 
 -- ---- keys
@@ -177,3 +179,9 @@ snapshot_by_resolved_split ss legal sound room =
     let names = locks_are_fresh ss legal sound (sym (same_room (resolved ss) ss same) ∙ room) in
     let P : Locks → Type 0 = λ l. IsLog (split_writers l (resolved ss)) × (HasSnapshotOrder ss ↔ HasOrder (split_writers l (resolved ss))) in
     subst P (sym (same_locks (resolved ss) ss same)) ((resolved_split_is_log ss (locks_of ss) legal sound names.0 names.1).1, snapshot_by_writers ss (locks_of ss) sound names.0)
+
+-- ---- without locks
+pub prefix_by_split_log : PrefixBySplitLog
+prefix_by_split_log ss log =
+    let P : List ClientSession → Type 0 = λ l. IsLog (split_writers no_locks l) × (HasPrefixOrder ss ↔ HasOrder (split_writers no_locks l)) in
+    subst P (learnt_resolved ss log.learnt) (bare_split_log ss log.legal log.sound, prefix_by_split ss log.sound)

@@ -5,3 +5,4 @@ pub mod Steps
 pub mod Named
 pub mod Walks
 pub mod Whole
+pub mod Sides

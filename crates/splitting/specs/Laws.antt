@@ -1,11 +1,12 @@
--- The laws of the locks' names.
+-- The laws of the locks' names, and of the split log without locks.
 use Rattle.std.specs.Prelude.{◌↔◌, List}
 use Rattle.std.specs.List.{AllByRecursion}
 use Rattle.session_log.specs.Text.{ClientSession, IsLegal}
 use Rattle.log_definitions.specs.Unknown.{resolved}
 use Rattle.log_laws.specs.Logs.{IsSoundLog, IsLog, HasOrder}
-use Rattle.level_laws.specs.Snapshot.{HasSnapshotOrder}
+use Rattle.level_laws.specs.Snapshot.{HasSnapshotOrder, HasPrefixOrder}
 use Rattle.level_laws.specs.Split.{AreFresh, AreLegalLocks, split_writers}
+use Rattle.level_laws.specs.Prefix.{no_locks}
 use Rattle.splitting.specs.Locks.{locks_of, HasRoom}
 
 -- Where the names have room, the locks are fresh, and a log can hold them.
@@ -26,3 +27,9 @@ SnapshotByResolvedSplit =
     (ss : List ClientSession) → AllByRecursion IsLegal ss → IsSoundLog ss → HasRoom (resolved ss)
     → IsLog (split_writers (locks_of (resolved ss)) (resolved ss))
     × (HasSnapshotOrder ss ↔ HasOrder (split_writers (locks_of (resolved ss)) (resolved ss)))
+
+-- Without locks it has a prefix order exactly there, and this needs no room.
+abbrev pub PrefixBySplitLog : Type 0
+PrefixBySplitLog = (ss : List ClientSession) → IsLog ss
+    → IsLog (split_writers no_locks ss)
+    × (HasPrefixOrder ss ↔ HasOrder (split_writers no_locks ss))

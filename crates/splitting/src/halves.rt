@@ -1,6 +1,6 @@
 //! The two transactions that a transaction is split into.
 
-ghost use Rattle.std.specs.Prelude.{◌≡◌, ◌∷◌, ◌++◌, [], ◌+◌, ◌≤◌, ℕ, List, length, IfOk, OnOk};
+ghost use Rattle.std.specs.Prelude.{◌≡◌, ◌∷◌, ◌++◌, [], ◌+◌, ◌≤◌, ℕ, List, length, IfOk, OnOk, None};
 ghost use Rattle.session_log.specs.Text.{view_txn};
 ghost use Rattle.session_log.specs.declared.session.Op.{Op as OpValue};
 ghost use Rattle.session_log.specs.declared.session.Op.TheVariants as op;
@@ -134,6 +134,33 @@ impl<'a> Halves<'a> {
     }
 }
 
+/// The two transactions of these operations that stand for one: the first has begun with it, and the
+/// second has ended with it.
+pub fn both_halves(txn: &Txn, start: Vec<Op>, end: Vec<Op>) -> (Txn, Txn)
+    ensures start { view_txn result.0 ≡ record (view_txn txn.now) {
+      ops = start.items;
+      ended = None;
+    } }
+    ensures end { view_txn result.1 ≡ record (view_txn txn.now) {
+      ops = end.items;
+      begun = None;
+    } }
+{
+    let start = Txn {
+        ops: start,
+        outcome: txn.outcome,
+        begun: txn.begun,
+        ended: None,
+    };
+    let end = Txn {
+        ops: end,
+        outcome: txn.outcome,
+        begun: None,
+        ended: txn.ended,
+    };
+    (start, end)
+}
+
 /// The two transactions that a transaction is split into, whose writes give the identities behind
 /// this one.
 pub fn split_txn(
@@ -155,17 +182,5 @@ pub fn split_txn(
     } = Halves::of(alloc, marks, last, &txn.ops)?;
     reads.append(&mut takes)?;
     finds.append(&mut rest)?;
-    let start = Txn {
-        ops: reads,
-        outcome: txn.outcome,
-        begun: txn.begun,
-        ended: None,
-    };
-    let end = Txn {
-        ops: finds,
-        outcome: txn.outcome,
-        begun: None,
-        ended: txn.ended,
-    };
-    Ok((start, end))
+    Ok(both_halves(txn, reads, finds))
 }

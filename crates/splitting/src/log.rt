@@ -48,7 +48,7 @@ fn last_behind(last: u64, ops: &[Op]) -> u64
     last
 }
 
-fn copy_op(alloc: Global, op: &Op) -> Result<Op, AllocError>
+pub fn copy_op(alloc: Global, op: &Op) -> Result<Op, AllocError>
     ensures { IfOk result (λ copy. copy ≡ op.now) }
 {
     match op {
@@ -64,7 +64,7 @@ fn copy_op(alloc: Global, op: &Op) -> Result<Op, AllocError>
 }
 
 /// The same transaction once more.
-fn copy_txn(alloc: Global, txn: &Txn) -> Result<Txn, AllocError>
+pub fn copy_txn(alloc: Global, txn: &Txn) -> Result<Txn, AllocError>
     ensures { IfOk result (λ copy. view_txn copy ≡ view_txn txn.now) }
 {
     let mut ops = Vec::with_capacity(alloc, txn.ops.len())?;

@@ -66,12 +66,17 @@ struct Search<'a, 'b> {
 }
 
 impl<'a, 'b> Search<'a, 'b> {
-    /// What a part itself says, with no step.
-    fn of(alloc: Global, part: &'b Part<'a>) -> Result<Search<'a, 'b>, AllocError> {
+    /// What a part itself says, with no step. Where keys are not locked, no two are open.
+    fn of(
+        alloc: Global,
+        part: &'b Part<'a>,
+        is_locked: bool,
+    ) -> Result<Search<'a, 'b>, AllocError> {
         let mut open = Vec::new(alloc);
         for first in part.nodes.iter().copied() {
             for second in part.nodes.iter().copied() {
-                if first.number != second.number
+                if is_locked
+                    && first.number != second.number
                     && let Some(key) = part.both_write(first, second)
                 {
                     open.push(Pair { first, second, key })?;
@@ -209,8 +214,9 @@ impl<'a, 'b> Search<'a, 'b> {
 pub fn refute<'a>(
     alloc: Global,
     part: &Part<'a>,
+    is_locked: bool,
 ) -> Result<Option<(Vec<Step<'a>>, Ending<'a>)>, AllocError> {
-    let mut search = Search::of(alloc, part)?;
+    let mut search = Search::of(alloc, part, is_locked)?;
     for _ in 0..MANY_ROUNDS {
         search.graph.learn_costs();
         if let Some(circle) = search.graph.circle(alloc)? {

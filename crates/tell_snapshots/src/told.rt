@@ -102,18 +102,20 @@ fn tell<'a>(
 }
 
 /// Why a part of these sessions, whose outcomes are known, has no snapshot order, by these places of
-/// its transactions. `None` where circles and steps do not show it, as where only a search does.
+/// its transactions; or no prefix order, where keys are not locked. `None` where circles and steps do
+/// not show it, as where only a search does.
 pub fn tell_snapshots(
     alloc: Global,
     sessions: &[Session],
     places: &LogPlaces,
+    is_locked: bool,
 ) -> Result<Option<Told>, AllocError> {
     let part = Part::of(alloc, sessions, places)?;
     let ops = part.reads.len().saturating_add(part.writes.len());
     if part.nodes.len() > MANY_NODES || ops > MANY_OPS {
         return Ok(None);
     }
-    match refute(alloc, &part)? {
+    match refute(alloc, &part, is_locked)? {
         Some((steps, ending)) => Ok(Some(tell(alloc, &part, &steps, &ending)?)),
         None => Ok(None),
     }

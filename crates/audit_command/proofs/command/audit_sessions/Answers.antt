@@ -5,7 +5,10 @@ use Rattle.log_laws.specs.Logs.{IsSoundLog, IsLog}
 use Rattle.long_log_definitions.proofs.Texts.{sound_where_long}
 use Rattle.log_laws.proofs.Resolved.{resolved_is_log}
 use Rattle.session_log.specs.Version.{first_line, version_of}
-use Rattle.audit_command.specs.Audited.{seen, states_moments, IsAnswer, IsWeaker, AreTotals, IsOrderFile, order_asked}
+use Rattle.log_definitions.specs.Unknown.{resolved}
+use Rattle.level_laws.specs.Without.{without_moments}
+use Rattle.level_laws.proofs.Without.{legal_without, sound_without, log_without, resolved_without}
+use Rattle.audit_command.specs.Audited.{seen, states_moments, IsAnswer, IsWeaker, IsLower, AreTotals, IsOrderFile, order_asked}
 use Rattle.audit_command.proofs.Resolved.{seen_legal, seen_sound}
 use Rattle.audit_command.proofs.command.audit_sessions.Goals as goal
 
@@ -30,6 +33,16 @@ judge_weaker-requires-clause-log g c κs within =
     let sound = subst IsSoundLog (sym c.seen-sessions.ensures.seen) (seen_sound no_moments ss log.0 log.1) in
     subst IsLog (sym c.in_ok-sessions.ensures.known.resolved) (resolved_is_log (map view c.seen-sessions.result.items) legal sound)
 
+pub judge_lower-requires-clause-log : goal.judge_lower-requires-clause-log
+judge_lower-requires-clause-log g c κs within =
+    let ss = map view c.args.sessions.items in
+    let no_moments = c.args.options.now.no_moments in
+    let log = sound_where_long c.args.log.now ss c.requires.long in
+    let legal = subst (AllByRecursion IsLegal) (sym c.seen-sessions.ensures.seen) (seen_legal no_moments ss log.0) in
+    let sound = subst IsSoundLog (sym c.seen-sessions.ensures.seen) (seen_sound no_moments ss log.0 log.1) in
+    let known = subst IsLog (sym c.in_ok-sessions.ensures.known.resolved) (resolved_is_log (map view c.seen-sessions.result.items) legal sound) in
+    subst IsLog (sym (ap (map view) c.deref-2.ensures.value ∙ c.in_ok-weaker.ensures.rest)) (log_without (map view c.in_ok-sessions.field-0.sessions.items) known)
+
 pub returns : goal.returns
 returns g c =
     let o = c.args.options.now in
@@ -44,6 +57,13 @@ returns g c =
     let states = c.state_moments-states.ensures.states ∙ ap (λ l. states_moments (map view l)) c.deref.ensures.value in
     let answer = c.in_ok-sessions.field-0.answered.answer in
     let weaker = c.in_ok-weaker.weaker in
+    let bare = c.in_ok-weaker.bare in
+    let lower = c.in_ok-lower.lower in
+    let lowest = c.in_ok-lower.lowest in
+    let other = without_moments judged in
+    let left : map view bare.items ≡ resolved other = c.in_ok-weaker.ensures.rest ∙ ap without_moments known.resolved ∙ sym (resolved_without judged) in
+    let own : map view c.deref-2.result.now ≡ resolved other = ap (map view) c.deref-2.ensures.value ∙ left in
+    let under = subst (λ n. IsLower o n other answer weaker.snapshot weaker.shown lower lowest) (ap first_line c.requires.version) (c.in_ok-lower.ensures.lower other (legal_without judged legal) (sound_without judged legal sound) own) in
     let totals = c.in_ok-sessions.field-0.totals in
     let order = c.in_ok-sessions.field-0.answered.order in
     let numbered = subst (λ n. IsAnswer o n judged answer) (ap first_line c.requires.version) known.answered.answer in
@@ -59,11 +79,14 @@ returns g c =
           strict_snapshot = weaker.strict_snapshot;
           snapshot = weaker.snapshot;
           shown = weaker.shown;
+          lower = lower;
+          lowest = lowest;
           totals = totals;
         };
         level = refl;
         answer = subst (λ l. IsAnswer o (first_line (version_of text)) l answer) e numbered;
         weaker = subst (λ l. IsWeaker o (first_line (version_of text)) l answer weaker) e below;
+        lower = subst (λ l. IsLower o (first_line (version_of text)) (without_moments l) answer weaker.snapshot weaker.shown lower lowest) e under;
         totals = subst (λ l. AreTotals l totals) e known.totals;
         ends = c.in_ok-reply.ensures.ends;
         text = c.in_ok-reply.ensures.text;

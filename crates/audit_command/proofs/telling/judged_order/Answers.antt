@@ -2,7 +2,7 @@ use Rattle.std.proofs.Common.{map, subst}
 use Rattle.std.proofs.lemmas.Result.{IfOk-weaker}
 use Rattle.session_log.specs.Text.{view}
 use Rattle.judging.specs.Levels.{IsLogAt}
-use Rattle.audit_command.proofs.Points.{serial_text, points_order}
+use Rattle.audit_command.proofs.Points.{own_text, points_order}
 use Rattle.audit_command.proofs.Resolved.{never_without_room}
 use Rattle.audit_command.proofs.telling.judged_order.Goals as goal
 
@@ -13,7 +13,7 @@ returns-in-Itself c =
     let at = subst (IsLogAt level known) c.in-Itself.is c.requires.at in
     record {
       text = λ ss same order. IfOk-weaker c.order_file.result _ _
-          (λ text e. serial_text level ss c.args.order.now text.items at order (e ss same))
+          (λ text e. own_text level ss c.args.order.now text.items at order (e ss same))
           c.order_file.ensures.text;
     }
 

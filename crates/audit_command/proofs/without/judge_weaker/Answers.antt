@@ -18,6 +18,7 @@ plain_where-requires-clause-log g c κs within =
 
 pub returns : goal.returns
 returns g c = record {
+  rest = c.leave_out_moments.ensures;
   weaker = λ ss legal sound same states. (
       let other = without_moments ss in
       let legal_other = legal_without ss legal in

@@ -3,18 +3,18 @@ use Rattle.std.proofs.lemmas.Result.{IfOk-weaker}
 use Rattle.session_log.specs.Text.{view}
 use Rattle.session_log.specs.declared.session.Session.{Session}
 use Rattle.log_laws.specs.Logs.{IsLog}
-use Rattle.judging.specs.declared.level.Level.TheVariants.{Snapshot}
 use Rattle.judging.specs.Levels.{IsLogAt}
 use Rattle.judging.specs.Finds.{IsFound, of_serial}
 use Rattle.judging.proofs.Levels.{judged_is_log, found_by_split}
-use Rattle.judging.proofs.found.see_log.Goals as goal
+use Rattle.judging.proofs.found.see_points.Goals as goal
 
 pub see_split-requires-clause-log : goal.see_split-requires-clause-log
 see_split-requires-clause-log g c κs within =
     let ss = map view c.args.log.now in
-    let at = subst (IsLogAt c.args.means.now.level ss) c.in-Split.is c.in_ok-log_at.ensures in
+    let level = c.args.means.now.level in
+    let at = subst (IsLogAt level ss) c.in-Split.is c.in_ok-log_at.ensures in
     let P : List Session → Type 0 = λ l. IsLog (map view l) in
-    subst P (sym c.deref.ensures.value) (judged_is_log Snapshot ss (map view c.in-Split.split.items) c.requires.log at.1)
+    subst P (sym c.deref.ensures.value) (judged_is_log level ss (map view c.in-Split.split.items) c.requires.log at.1)
 
 pub returns-in-Split : goal.returns-in-Split
 returns-in-Split g c =

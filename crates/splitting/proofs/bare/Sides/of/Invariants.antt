@@ -1,0 +1,6 @@
+use Rattle.std.specs.Prelude.{drop}
+use Rattle.splitting.specs.Sides.{AreSides}
+use Rattle.splitting.proofs.bare.Sides.of.Given as goal
+
+abbrev pub invariant-loop-op : goal.invariant-loop-op
+invariant-loop-op l = AreSides l.ops l.sides (drop l.op-index l.ops)

@@ -1,0 +1,4 @@
+pub mod Rows
+pub mod Sentences
+pub mod Evidence
+pub mod Names

@@ -1,0 +1,112 @@
+-- What the field calls a fault, at the level that it breaks. The head of the crate has the sources.
+use Rattle.std.specs.Prelude.{ℕ, ◌==◌, ◌&&◌, not, Bool, true, false, if◌then◌else◌, List, [], ◌∷◌}
+use Rattle.std.specs.Prelude.{length, codes, Option, None, Some}
+use Rattle.std.specs.List.{list_any}
+use Rattle.seen_laws.specs.declared.level.Level.{Level}
+use Rattle.seen_laws.specs.declared.level.Level.TheVariants.{ReadCommitted, MonotonicAtomicView, ReadAtomic, Causal}
+use Rattle.level_refutations.specs.declared.evidence.Hop.{Hop}
+use Rattle.level_refutations.specs.declared.evidence.Step.{Step}
+use Rattle.level_refutations.specs.declared.evidence.Step.TheVariants as step
+use Rattle.level_refutations.specs.declared.evidence.Overlooked.{Overlooked}
+use Rattle.level_refutations.specs.declared.evidence.Edge.{Edge}
+use Rattle.level_refutations.specs.declared.evidence.Edge.TheVariants as edge
+use Rattle.level_refutations.specs.declared.evidence.Why.{Why}
+use Rattle.level_refutations.specs.declared.evidence.Why.TheVariants as why
+use Rattle.level_refutations.specs.declared.evidence.Evidence.{Evidence}
+use Rattle.level_refutations.specs.declared.evidence.Evidence.TheVariants as evidence
+use Rattle.tell_evidence.specs.Sentences.{reads_it}
+use Rattle.tell_evidence.specs.Evidence.{is_forced_edge}
+
+abbrev pub why_name : Why → Option (List ℕ)
+why_name (why.MissesOwn write) = Some (codes "own write missed (internal)")
+why_name why.Unwritten = None
+why_name (why.Aborted write) = Some (codes "dirty read (G1a)")
+why_name (why.Overwritten write later) = Some (codes "intermediate read (G1b)")
+why_name (why.OwnLater write) = Some (codes "future read (internal)")
+
+-- ---- how a read sees the write that it overlooks
+
+abbrev pub is_session : Step → Bool
+is_session step.Session = true
+is_session (step.Read write read) = false
+
+abbrev pub begins_by_session : List Hop → Bool
+begins_by_session [] = false
+begins_by_session (hop ∷ hops) = is_session hop.step
+
+-- by several hops
+abbrev pub sees_far : Overlooked → Bool
+sees_far o = not (length o.path.items == 1)
+
+-- first by a session
+abbrev pub sees_by_session : Overlooked → Bool
+sees_by_session o = begins_by_session o.path.items
+
+-- first by a read of something else
+abbrev pub sees_by_other : Overlooked → Bool
+sees_by_other o = not (begins_by_session o.path.items) && not (reads_it o.write o.path.items)
+
+-- the same of edges that are forced
+abbrev pub is_far_edge : Edge → Bool
+is_far_edge (edge.Known hop) = false
+is_far_edge (edge.Forced o found) = sees_far o
+
+abbrev pub is_session_edge : Edge → Bool
+is_session_edge (edge.Known hop) = false
+is_session_edge (edge.Forced o found) = sees_by_session o
+
+abbrev pub is_other_edge : Edge → Bool
+is_other_edge (edge.Known hop) = false
+is_other_edge (edge.Forced o found) = sees_by_other o
+
+-- and of one that is not
+abbrev pub is_known_session : Edge → Bool
+is_known_session (edge.Known hop) = is_session hop.step
+is_known_session (edge.Forced o found) = false
+
+-- ---- names
+
+-- A read overlooks a write that it sees: far away, or else by its session, or else by a read of
+-- something else, which above monotonic atomic view has the name `skew`. What is left is that its
+-- transaction reads the very write: two versions of a key.
+abbrev pub view_name : Bool → List ℕ
+view_name other = if other then codes "observed transaction vanishes (OTV)"
+    else codes "non-repeatable read"
+
+abbrev pub atomic_name : Bool → Bool → List ℕ → List ℕ
+atomic_name session other skew = if session then codes "stale read of its own session"
+    else if other then skew else codes "non-repeatable read"
+
+abbrev pub causal_name : Bool → Bool → Bool → List ℕ → List ℕ
+causal_name far session other skew = if far then codes "causal violation"
+    else atomic_name session other skew
+
+abbrev pub seen_name : Level → Bool → Bool → Bool → List ℕ → Option (List ℕ)
+seen_name ReadCommitted far session other skew = None
+seen_name MonotonicAtomicView far session other skew = Some (view_name other)
+seen_name ReadAtomic far session other skew = Some (atomic_name session other skew)
+seen_name Causal far session other skew = Some (causal_name far session other skew)
+
+-- of edges of which none is forced
+abbrev pub known_name : List Edge → List ℕ
+known_name edges = if list_any is_known_session edges
+    then codes "circular information flow (G1c-process)"
+    else codes "circular information flow (G1c)"
+
+-- of edges of which some are forced: that of the read that sees farthest
+abbrev pub forced_name : Level → List Edge → Option (List ℕ)
+forced_name level edges = seen_name level (list_any is_far_edge edges)
+    (list_any is_session_edge edges) (list_any is_other_edge edges) (codes "read skew")
+
+abbrev pub circle_name : Level → List Edge → Option (List ℕ)
+circle_name level edges = if list_any is_forced_edge edges then forced_name level edges
+    else Some (known_name edges)
+
+abbrev pub initial_name : Level → Overlooked → Option (List ℕ)
+initial_name level o = seen_name level (sees_far o) (sees_by_session o) (sees_by_other o)
+    (codes "fractured read")
+
+abbrev pub evidence_name : Level → Evidence → Option (List ℕ)
+evidence_name level (evidence.Fault fault) = why_name fault.why
+evidence_name level (evidence.Circle edges) = circle_name level edges.items
+evidence_name level (evidence.Initial o) = initial_name level o

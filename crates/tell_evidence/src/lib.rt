@@ -1,0 +1,32 @@
+//! Evidence against a level of isolation below prefix consistency, told in sentences: what a read
+//! names and what it sees, each with its lines in the log, so that a reader needs no other theory.
+//!
+//! Called by `audit_command`. It knows no judge, and does not ask whether the evidence is right: of a
+//! place that is not in the log it tells number 0, line 0 and no key.
+//!
+//! What the field calls such a fault:
+//!
+//! | Name | What shows it | Source |
+//! |---|---|---|
+//! | dirty read (G1a) | a read of what was aborted | Adya 1999 |
+//! | intermediate read (G1b) | a read of what its writer wrote over | Adya 1999 |
+//! | own write missed, future read (internal) | a read that misses an own write, or finds a later one | Biswas and Enea 2019 |
+//! | circular information flow (G1c) | a circle of reads; with sessions G1c-process | Adya 1999 |
+//! | non-repeatable read | a transaction reads two versions of a key | Bailis and others 2013 |
+//! | observed transaction vanishes (OTV) | a later read overlooks a transaction that was read from | Bailis and others 2013 |
+//! | fractured read | a read of the initial value overlooks a transaction that is read from | Bailis and others 2014 |
+//! | read skew | a read of an older version does | Berenson and others 1995 |
+//! | stale read of its own session | a read overlooks what stands before it in its session | Biswas and Enea 2019 |
+//! | causal violation | a read overlooks what it sees by several steps | Biswas and Enea 2019 |
+#![tactic(auto)]
+
+mod edges;
+mod faults;
+mod names;
+mod paths;
+mod places;
+mod telling;
+mod words;
+
+pub use names::evidence_name;
+pub use telling::evidence_text;

@@ -1,0 +1,203 @@
+//! What the field calls a fault.
+
+ghost use Rattle.std.specs.Prelude.{◌≡◌};
+ghost use Rattle.std.specs.Option.{option_copied};
+ghost use Rattle.tell_evidence.specs.Names as spec;
+
+use crate::edges::is_forced_edge;
+use crate::paths::reads_it;
+use level_refutations::{Edge, Evidence, Hop, Overlooked, Step, Why};
+use seen_laws::Level;
+
+fn why_name(why: Why) -> Option<&'static str>
+    ensures { option_copied result ≡ spec.why_name why }
+{
+    match why {
+        Why::MissesOwn { .. } => Some("own write missed (internal)"),
+        Why::Unwritten => None,
+        Why::Aborted { .. } => Some("dirty read (G1a)"),
+        Why::Overwritten { .. } => Some("intermediate read (G1b)"),
+        Why::OwnLater { .. } => Some("future read (internal)"),
+    }
+}
+
+fn is_session(step: Step) -> bool
+    ensures { result ≡ spec.is_session step }
+{
+    match step {
+        Step::Session => true,
+        Step::Read { .. } => false,
+    }
+}
+
+fn begins_by_session(path: &[Hop]) -> bool
+    ensures { result ≡ spec.begins_by_session path.now }
+{
+    match path {
+        [] => false,
+        [first, ..] => is_session(first.step),
+    }
+}
+
+/// Whether a read sees the write that it overlooks by several hops.
+fn sees_far(it: &Overlooked) -> bool
+    ensures { result ≡ spec.sees_far it.now }
+{
+    it.path.len() != 1
+}
+
+/// The same, first by a session.
+fn sees_by_session(it: &Overlooked) -> bool
+    ensures { result ≡ spec.sees_by_session it.now }
+{
+    begins_by_session(&it.path)
+}
+
+/// The same, first by a read of something else.
+fn sees_by_other(it: &Overlooked) -> bool
+    ensures { result ≡ spec.sees_by_other it.now }
+{
+    !begins_by_session(&it.path) && !reads_it(it.write, &it.path)
+}
+
+/// Whether an edge is forced, and its read sees far.
+fn is_far_edge(edge: &Edge) -> bool
+    ensures { result ≡ spec.is_far_edge edge.now }
+{
+    match edge {
+        Edge::Known(_) => false,
+        Edge::Forced { overlooked, .. } => sees_far(overlooked),
+    }
+}
+
+fn is_session_edge(edge: &Edge) -> bool
+    ensures { result ≡ spec.is_session_edge edge.now }
+{
+    match edge {
+        Edge::Known(_) => false,
+        Edge::Forced { overlooked, .. } => sees_by_session(overlooked),
+    }
+}
+
+fn is_other_edge(edge: &Edge) -> bool
+    ensures { result ≡ spec.is_other_edge edge.now }
+{
+    match edge {
+        Edge::Known(_) => false,
+        Edge::Forced { overlooked, .. } => sees_by_other(overlooked),
+    }
+}
+
+/// Whether an edge is known by a session.
+fn is_known_session(edge: &Edge) -> bool
+    ensures { result ≡ spec.is_known_session edge.now }
+{
+    match edge {
+        Edge::Known(hop) => is_session(hop.step),
+        Edge::Forced { .. } => false,
+    }
+}
+
+/// The name at monotonic atomic view of a read that overlooks a write.
+fn view_name(other: bool) -> &'static str
+    ensures { result.now ≡ spec.view_name other }
+{
+    if other {
+        "observed transaction vanishes (OTV)"
+    } else {
+        "non-repeatable read"
+    }
+}
+
+/// The name at read atomic.
+fn atomic_name(session: bool, other: bool, skew: &'static str) -> &'static str
+    ensures { result.now ≡ spec.atomic_name session other skew.entry.now }
+{
+    if session {
+        "stale read of its own session"
+    } else if other {
+        skew
+    } else {
+        "non-repeatable read"
+    }
+}
+
+/// The name at causal consistency.
+fn causal_name(far: bool, session: bool, other: bool, skew: &'static str) -> &'static str
+    ensures { result.now ≡ spec.causal_name far session other skew.entry.now }
+{
+    if far {
+        "causal violation"
+    } else {
+        atomic_name(session, other, skew)
+    }
+}
+
+/// The name of a read that overlooks a write: far away, by its session, or by a read of something
+/// else, which has the name `skew`.
+fn seen_name(
+    level: Level,
+    far: bool,
+    session: bool,
+    other: bool,
+    skew: &'static str,
+) -> Option<&'static str>
+    ensures { option_copied result ≡ spec.seen_name level far session other skew.entry.now }
+{
+    match level {
+        Level::ReadCommitted => None,
+        Level::MonotonicAtomicView => Some(view_name(other)),
+        Level::ReadAtomic => Some(atomic_name(session, other, skew)),
+        Level::Causal => Some(causal_name(far, session, other, skew)),
+    }
+}
+
+/// The name of edges of which none is forced.
+fn known_name(edges: &[Edge]) -> &'static str
+    ensures { result.now ≡ spec.known_name edges.now }
+{
+    if edges.iter().any(|edge| is_known_session(edge)) {
+        "circular information flow (G1c-process)"
+    } else {
+        "circular information flow (G1c)"
+    }
+}
+
+/// The name of edges of which some are forced: that of the read that sees farthest.
+fn forced_name(level: Level, edges: &[Edge]) -> Option<&'static str>
+    ensures { option_copied result ≡ spec.forced_name level edges.now }
+{
+    let far = edges.iter().any(|edge| is_far_edge(edge));
+    let session = edges.iter().any(|edge| is_session_edge(edge));
+    let other = edges.iter().any(|edge| is_other_edge(edge));
+    seen_name(level, far, session, other, "read skew")
+}
+
+fn circle_name(level: Level, edges: &[Edge]) -> Option<&'static str>
+    ensures { option_copied result ≡ spec.circle_name level edges.now }
+{
+    if edges.iter().any(|edge| is_forced_edge(edge)) {
+        forced_name(level, edges)
+    } else {
+        Some(known_name(edges))
+    }
+}
+
+fn initial_name(level: Level, it: &Overlooked) -> Option<&'static str>
+    ensures { option_copied result ≡ spec.initial_name level it.now }
+{
+    let (far, session, other) = (sees_far(it), sees_by_session(it), sees_by_other(it));
+    seen_name(level, far, session, other, "fractured read")
+}
+
+/// What the field calls what the evidence shows, where it has a name at this level, which the
+/// evidence breaks.
+pub fn evidence_name(level: Level, evidence: &Evidence) -> Option<&'static str>
+    ensures name { option_copied result ≡ spec.evidence_name level evidence.now }
+{
+    match evidence {
+        Evidence::Fault(fault) => why_name(fault.why),
+        Evidence::Circle(edges) => circle_name(level, edges),
+        Evidence::Initial(overlooked) => initial_name(level, overlooked),
+    }
+}
