@@ -9,6 +9,7 @@ use progress::{Progress, Stage};
 use std::alloc::Global;
 use std::io::{Eprint, Write};
 use std::time::{Clock, Instant};
+
 /// After how many seconds it is told again how far judging is.
 const EACH: u64 = 1;
 

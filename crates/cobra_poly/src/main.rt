@@ -7,11 +7,9 @@ mod outside;
 
 use crate::audit_call::{EachSecond, tell_failure};
 use crate::outside::{SystemErrors, SystemFiles, SystemInputs};
-use cobra_calls::{
-    Ending, Inputs, Outlet, USAGE, World, answer, audit_log, is_plain, read_log, report,
-};
+use cobra_calls::{Ending, Inputs, USAGE, World, answer, audit_log, is_plain, read_log, report};
 use cobra_cli::{Fault, Status, Stop};
-use cobra_words::{Command, Request, Words, words_of};
+use cobra_words::{AuditWords, Command, Request, Words, words_of};
 use output::Counted;
 use std::alloc::Global;
 use std::env;
@@ -22,43 +20,12 @@ use std::sync::Wait;
 use std::thread::Threads;
 use std::time::Instant;
 
-/// Runs one of the commands that `cobra_calls` does not run whole. The call began then.
-fn run_other<R: Runtime + Threads + Wait + Sync, W: Write>(
-    rt: &R,
-    alloc: Global,
-    log: &[u8],
-    request: &Request<'_>,
-    start: Option<Instant>,
-    sink: &mut Counted<W>,
-) -> Result<Status, Ending> {
-    match &request.command {
-        Command::Audit(words) => {
-            let mut progress = EachSecond {
-                is_asked: words.progress,
-                last: start,
-            };
-            let mut files = SystemFiles { rt };
-            audit_log(
-                rt,
-                alloc,
-                log,
-                request,
-                words,
-                start,
-                &mut progress,
-                sink,
-                &mut files,
-            )
-        }
-        _ => Err(Ending::Stop(Stop::Words)),
-    }
-}
-
-/// Runs such a command on the log that it reads.
-fn run<R: Runtime + Threads + Wait + Sync, I: Inputs, W: Write>(
+/// Audits the log that a call reads. The call began then.
+fn run_audit<R: Runtime + Threads + Wait + Sync, I: Inputs, W: Write>(
     rt: &R,
     alloc: Global,
     request: &Request<'_>,
+    words: &AuditWords<'_>,
     start: Option<Instant>,
     inputs: &mut I,
     sink: &mut Counted<W>,
@@ -66,17 +33,26 @@ fn run<R: Runtime + Threads + Wait + Sync, I: Inputs, W: Write>(
     let log = match read_log(alloc, request, inputs) {
         Ok(log) => log,
         Err(ending) => {
-            if let Command::Audit(words) = &request.command {
-                tell_failure(alloc, words, &ending, sink);
-            }
+            tell_failure(alloc, words, &ending, sink);
             return Err(ending);
         }
     };
-    let status = run_other(rt, alloc, &log, request, start, sink)?;
-    match sink.flush() {
-        Ok(()) => Ok(status),
-        Err(_) => Err(Ending::Stop(Stop::Output)),
-    }
+    let mut progress = EachSecond {
+        is_asked: words.progress,
+        last: start,
+    };
+    let mut files = SystemFiles { rt };
+    audit_log(
+        rt,
+        alloc,
+        &log,
+        request,
+        words,
+        start,
+        &mut progress,
+        sink,
+        &mut files,
+    )
 }
 
 /// Why the words of a call cannot be had.
@@ -101,9 +77,12 @@ fn status_of<R: Runtime + AllocGlobal + Threads + Wait + Sync, I: Inputs, W: Wri
             if is_plain(&request.command) {
                 return Ok(answer(rt, alloc, &request, world));
             }
+            let Command::Audit(words) = &request.command else {
+                return Err(Ending::Stop(Stop::Words));
+            };
             let inputs = &mut world.inputs;
             let output = &mut world.output;
-            Ok(run(rt, alloc, &request, start, inputs, output)?.code())
+            Ok(run_audit(rt, alloc, &request, words, start, inputs, output)?.code())
         }
         // Help and the version have to arrive; words that are no call are refused in any case.
         Some(Words::Shown(text)) => match text.print(rt) {
