@@ -59,12 +59,53 @@ class Store:
         """Removes them behind the run."""
 
 
-class Client:
+class Connection:
+    """A connection to the store, which is made anew where it is gone."""
+
+    def __init__(self, store_class, arguments):
+        self.store_class, self.arguments, self.store = store_class, arguments, store_class(arguments)
+
+    def transact(self, reads, writes):
+        """One transaction of the recorder's own, for its rounds."""
+        try:
+            self.store.begin()
+            seen = [self.store.read(key) for key in reads]
+            for key, wid in writes:
+                self.store.write(key, '%d fence' % wid)
+            if self.store.commit() is not False:
+                return seen
+            self.roll_back()
+        except self.store_class.aborted:
+            self.roll_back()
+        except self.store_class.lost:
+            self.connect()
+            raise
+        return False
+
+    def roll_back(self):
+        try:
+            self.store.abort()
+        except self.store_class.lost:
+            self.connect()
+
+    def connect(self):
+        self.store.close()
+        late = time.monotonic() + PATIENCE
+        while True:
+            try:
+                self.store = self.store_class(self.arguments)
+                return
+            except self.store_class.lost:
+                if time.monotonic() > late:
+                    raise
+                time.sleep(0.1)
+
+
+class Client(Connection):
     def __init__(self, run, store_class, arguments, number):
-        self.store_class, self.arguments = store_class, arguments
+        super().__init__(store_class, arguments)
         self.dice = random.Random('%d %d' % (arguments.seed, number))
-        self.store = store_class(arguments)
-        self.session = run.session()
+        self.session = run.session(self.transact)
 
     def transaction(self, operations, is_kept=True, cut_at=None):
         """Makes these operations in a transaction; at operation `cut_at`, or as it commits, the connection is cut."""
@@ -85,28 +126,13 @@ class Client:
             # a connection that was cut may still get an answer, which would be taken for that of the next question
             self.connect()
         elif txn.outcome == 'abort':
-            try:
-                self.store.abort()
-            except self.store_class.lost:
-                self.connect()
+            self.roll_back()
 
     def commit(self, cut_at):
         if cut_at == 'commit':
             # COMMIT is sent, and the answer does not come
             self.store.cut(socket.SHUT_RD)
         return self.store.commit()
-
-    def connect(self):
-        self.store.close()
-        late = time.monotonic() + PATIENCE
-        while True:
-            try:
-                self.store = self.store_class(self.arguments)
-                return
-            except self.store_class.lost:
-                if time.monotonic() > late:
-                    raise
-                time.sleep(0.1)
 
     def look(self, keys):
         """Reads these keys in one transaction."""
@@ -136,7 +162,7 @@ def parse(document, levels, address, options):
     parser = argparse.ArgumentParser(description=about, prog=os.path.basename(sys.argv[0]))
     if address:
         parser.add_argument('address', metavar='ADDRESS', help=address)
-    parser.add_argument('out', metavar='OUT', help='the log')
+    parser.add_argument('out', metavar='OUT', help='the log; with --rounds the folder of the logs')
     parser.add_argument('--level', choices=sorted(levels), default=next(iter(levels)), help='what the store is asked for: %(default)s')
     parser.add_argument('--sessions', type=int, default=8, metavar='N', help='how many clients run at once: %(default)s; one more reads all keys in the end')
     parser.add_argument('--transactions', type=int, default=800, metavar='N', help='how many all of them together try: %(default)s')
@@ -147,6 +173,8 @@ def parse(document, levels, address, options):
     parser.add_argument('--seed', type=int, default=random.randrange(10 ** 9), metavar='N', help='of what the clients try: a random one')
     parser.add_argument('--moments', choices=('all', 'none'), default='none',
                         help="'all' for a store that promises strict serializability: %(default)s")
+    parser.add_argument('--rounds', type=int, default=0, metavar='N', help='for a run of any length: a log for each N transactions, in a folder')
+    parser.add_argument('--durable', action='store_true', help='what a client wrote is in its file before the store hears of it')
     parser.add_argument('--overwrite', action='store_true', help='replace OUT where it is there already')
     for option, how in options.items():
         parser.add_argument(option, **how)
@@ -154,9 +182,9 @@ def parse(document, levels, address, options):
     if all(hasattr(store, 'cut') for store in levels.values()):
         parser.add_argument('--kill', type=int, default=0, metavar='N', help='cut the connection in one of N transactions')
     arguments = parser.parse_args()
-    if min(arguments.sessions, arguments.keys) < 1 or min(arguments.transactions, arguments.pause, arguments.kill) < 0:
+    if min(arguments.sessions, arguments.keys) < 1 or min(arguments.transactions, arguments.pause, arguments.rounds, arguments.kill) < 0:
         parser.error('a number is too small')
-    if holds_something(arguments.out) and not arguments.overwrite:
+    if holds_something(arguments.out, arguments.rounds) and not arguments.overwrite:
         parser.error('%s is there already, and may be a log that is still needed: take another name, or --overwrite' % arguments.out)
     if not os.path.isdir(os.path.dirname(os.path.abspath(arguments.out))):
         parser.error('%s: there is no such folder' % arguments.out)
@@ -183,8 +211,9 @@ def main(document, levels, address=None, options={}):
     except store_class.lost as fault:
         stop('the store cannot be used: %s' % str(fault).strip())
     try:
+        rounds = dict(rounds=arguments.rounds, transact=Connection(store_class, arguments).transact) if arguments.rounds else {}
         run = Recorder(arguments.out, moments=moments, aborted=store_class.aborted, unknown=store_class.lost,
-                       overwrite=arguments.overwrite)
+                       overwrite=arguments.overwrite, durable=arguments.durable, **rounds)
         with run, concurrent.futures.ThreadPoolExecutor(arguments.sessions) as pool:
             clients = [Client(run, store_class, arguments, number) for number in range(arguments.sessions)]
             # a counter that threads share: each next() of it is one step
@@ -193,7 +222,8 @@ def main(document, levels, address=None, options={}):
                 ended.result()
             # a write that was lost may be seen by one who reads all keys when the others have ended
             last = Client(run, store_class, arguments, arguments.sessions)
-            last.look(['k%d' % number for number in range(arguments.keys)])
+            with last.session:
+                last.look(['k%d' % number for number in range(arguments.keys)])
             last.store.close()
     finally:
         store_class.clear(arguments)

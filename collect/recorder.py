@@ -81,8 +81,10 @@ def clock_of_machine():
     return time.monotonic_ns() // 1000
 
 
-def holds_something(path):
-    """Whether a log that is written there would replace what somebody may need."""
+def holds_something(path, rounds=None):
+    """Whether a log, or a folder of rounds, that is written there would replace what somebody may need."""
+    if rounds and os.path.isdir(path):
+        return bool(os.listdir(path))
     return os.path.exists(path) and (not os.path.isfile(path) or os.path.getsize(path) > 0)
 
 
@@ -266,7 +268,7 @@ class Recorder:
             self.close()
 
     def _check_free_path(self, told='', rounds=None):
-        if not self._may_replace and (os.listdir(self.path) if os.path.isdir(self.path) and rounds else holds_something(self.path)):
+        if not self._may_replace and holds_something(self.path, rounds):
             raise Misuse('%s is there already, and may be a log that is still needed: take another name, or overwrite=True%s' % (
                 self.path, told))
 

@@ -98,8 +98,8 @@ class Store(clients.Store):
     @classmethod
     def clear(cls, arguments):
         store = cls(arguments)
-        for number in range(arguments.keys):
-            store.ask('DEL', '%sk%d' % (store.prefix, number))
+        for key in store.ask('KEYS', store.prefix + '*'):
+            store.ask('DEL', key)
         store.close()
 
 

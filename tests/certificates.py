@@ -1,6 +1,6 @@
 """What `audit` answers, read word for word, and its certificates, each looked at by a plain program that shares nothing with it: the serial
 order of `--order`, the part of `--part`, the counts, the explanation, and the object of JSON."""
-import json, os, re, subprocess, sys
+import itertools, json, os, re, subprocess, sys
 
 HERE = os.path.dirname(os.path.abspath(__file__))
 sys.path.insert(0, HERE)
@@ -8,18 +8,24 @@ import explained, reference, small_logs
 
 COUNTS = ('sessions', 'committed', 'aborted', 'unknown', 'taken', 'keys', 'operations', 'part')
 TITLES = {'A1 unknown read', 'A2 aborted read', 'A3 intermediate read', 'A4 own write missed', 'A5 future read', 'A6 split read', 'A7 lost update',
-          'A8 cycle of known edges', 'A9 pruning ends in a cycle', 'every order of its versions closes a cycle', 'the formula is refuted'}
+          'A8 cycle of known edges', 'A9 pruning ends in a cycle', 'every order of its versions closes a cycle', 'the formula is refuted',
+          'what they read rules it out'}
 SHORT = {title.split()[0] if title[0] == 'A' else title: title for title in TITLES}
 # What the field calls the anomalies.
 NAMES = {'A2': 'aborted read (G1a)', 'A3': 'intermediate read (G1b)', 'A4': 'own write missed (internal)', 'A5': 'future read (internal)',
          'A6': 'non-repeatable read (internal)', 'A7': 'lost update (G-single)'}
-WEAKER = {'strict snapshot isolation': 'strict_snapshot', 'snapshot isolation': 'snapshot'}
+# What JSON calls the weaker levels; of those behind the second each is told down to the first that is kept.
+WEAKER = {'strict snapshot isolation': 'strict_snapshot', 'snapshot isolation': 'snapshot', 'prefix consistency': 'prefix',
+          'causal consistency': 'causal', 'read atomic': 'read_atomic', 'monotonic atomic view': 'monotonic_atomic_view',
+          'read committed': 'read_committed'}
+SNAPSHOT, LADDER = 'snapshot isolation', list(WEAKER)[2:]
 STATUS = {'serializable': 0, 'not serializable': 1, 'unknown': 3, 'refused': 2}
 HEADING = re.compile(r'shown by (\d+) transactions?: (.+)')
 TRANSACTION = re.compile(r'(\d+)\.(\d+) \(lines (\d+) to (\d+)\)')
 # What is told with --explain alone.
 EXPLAINED = 'explanation', 'without_sessions'
-OBJECT = ['verdict', 'code', 'known_as', 'part', *EXPLAINED, 'without_moments', 'strict_snapshot', 'snapshot', 'snapshot_fault', 'faults', 'reason', *COUNTS[:-1], 'version']
+OBJECT = ['verdict', 'code', 'known_as', 'part', *EXPLAINED, 'without_moments', 'strict_snapshot', 'snapshot', 'snapshot_fault',
+          *(WEAKER[level] for level in LADDER), 'weakest_fault', 'faults', 'reason', *COUNTS[:-1], 'version']
 # Of parts of so many nodes all orders are tried.
 TRIED = 9
 LATE = 600
@@ -91,8 +97,8 @@ HINTS = {'A1': 'check first: does the log have each write of all clients, under 
 SERIAL_APART = 'these break the order of sessions alone: without it they have a serial order; of the rest of the log this says nothing'
 # What is said where a log has an order without its moments, and none with them.
 TIME_ALONE = ['only real time was broken: the whole log has a serial order, but none in the order of its moments', 'check first: do the clients share a clock?']
-# What stands before what holds without moments, and before a last part, which breaks snapshot isolation.
-WITHOUT, WHY_NOT = 'without real time: ', 'why snapshot isolation was not kept:'
+# What stands before what holds without moments, and before a last part, which breaks a weaker level.
+WITHOUT, WHY_NOT = 'without real time: ', 'why %s was not kept:'
 
 
 class Part:
@@ -135,7 +141,7 @@ class Answer:
         middle, tail = rest[:-len(COUNTS)], [line.split(' ') for line in rest[-len(COUNTS):]]
         must([pair[0] for pair in tail] == list(COUNTS) and all(len(pair) == 2 and pair[1].isdecimal() for pair in tail), 'counts %r' % tail)
         self.counts = {name: int(number) for name, number in tail}
-        self.parts, self.codes, self.without, self.weaker, self.shown, self.advice = [], [], None, {}, None, []
+        self.parts, self.codes, self.without, self.weaker, self.shown, self.weakest, self.advice = [], [], None, {}, None, None, []
         if self.verdict == 'not serializable':
             self.refuted(middle, faults)
         elif self.verdict == 'unknown':
@@ -155,20 +161,32 @@ class Answer:
             self.without = middle.pop(0)[len(WITHOUT):]
             must(self.without in STATUS and self.without != 'refused', 'without moments %r' % self.without)
             must((self.verdict, self.without) != ('not serializable', 'serializable'), 'not said that real time alone was broken')
-        if WHY_NOT in middle:
-            place = middle.index(WHY_NOT)
-            self.shown = Part(*middle[place + 1:place + 3], middle[place + 3:])
-            del middle[place:]
-        weakest = list(WEAKER)[-1]
-        for level in WEAKER:
-            found = re.fullmatch('%s: (kept|not kept|unknown)(, as .+)?' % level, middle[0]) if middle else None
-            if found:
-                middle.pop(0)
-                self.weaker[level] = found[1]
-                shows = ', as %s' % ('shown below' if self.shown is None else 'the last part shows') if (level, found[1]) == (weakest, 'not kept') else None
-                must(found[2] == shows, 'what shows it: %r' % found[0])
-        must(not self.weaker or weakest in self.weaker, 'levels: %r' % self.weaker)
-        must(self.shown is None or self.weaker[weakest] == 'not kept', 'a part shows that %s' % self.weaker)
+        lines = [re.fullmatch('(%s): (kept|not kept|unknown)(, as .+)?' % '|'.join(WEAKER), line) for line in middle]
+        lines = list(itertools.takewhile(bool, lines))
+        self.weaker = {line[1]: line[2] for line in lines}
+        del middle[:len(lines)]
+        weakest = next((level for level in reversed(LADDER) if self.weaker.get(level) == 'not kept'), None)
+        self.weakest = self.last_part(middle, weakest)
+        self.shown = self.last_part(middle, SNAPSHOT)
+        shows = ', as %s' % ('shown below' if self.shown is None else 'the last part shows')
+        for line in lines:
+            must(line[3] == (shows if line.group(1, 2) == (SNAPSHOT, 'not kept') else None), 'what shows it: %r' % line[0])
+        told, ladder = list(self.weaker), [level for level in self.weaker if level in LADDER]
+        must(told == [level for level in WEAKER if level in told] and (not told or SNAPSHOT in told), 'levels: %r' % self.weaker)
+        last = next((place for place, level in enumerate(LADDER) if self.weaker.get(level) == 'kept'), len(LADDER) - 1)
+        wanted = LADDER[:last + 1] if self.weaker.get(SNAPSHOT, 'kept') != 'kept' else []
+        must(ladder == wanted, 'levels below %s: %r' % (SNAPSHOT, self.weaker))
+        must(self.shown is None or self.weaker[SNAPSHOT] == 'not kept', 'a part shows that %s' % self.weaker)
+
+    def last_part(self, middle, level):
+        """Takes the part that stands last, below the line that it breaks this level."""
+        why = WHY_NOT % level
+        if why not in middle:
+            return None
+        place = middle.index(why)
+        part = Part(*middle[place + 1:place + 3], middle[place + 3:])
+        del middle[place:]
+        return part
 
     def refuted(self, middle, faults):
         self.below(middle)
@@ -177,7 +195,7 @@ class Answer:
         while faults > 1 and re.fullmatch(r'(A[1-9]|no code) [1-9][0-9]*', middle[-1]):
             self.codes.insert(0, middle.pop())
         self.parts = [Part(middle[at], middle[at + 1], middle[at + 2:end]) for at, end in zip(heads, heads[1:] + [len(middle)])]
-        told = self.parts + [self.shown] * (self.shown is not None)
+        told = self.parts + [part for part in (self.shown, self.weakest) if part is not None]
         must(len({tuple(sorted(part.lines)) for part in told}) == len(told), 'a part is told twice')
         codes = sorted(part.code or 'no code' for part in self.parts)
         wanted = ['%s %d' % (code, codes.count(code)) for code in dict.fromkeys(codes)]
@@ -357,6 +375,7 @@ def check_object(answer, said, explain=False):
     weaker = {name: answer.weaker.get(level) for level, name in WEAKER.items()}
     must({name: it[name] for name in weaker} == weaker, 'JSON: levels %r' % it)
     check_fault(answer.shown, it['snapshot_fault'], explain)
+    check_fault(answer.weakest, it['weakest_fault'], explain)
     must(it['reason'] == (answer.first.split(': ', 1)[1] if answer.verdict == 'unknown' else None), 'JSON: reason %r' % it['reason'])
     must(len(it['faults']) == len(answer.parts), 'JSON: %d faults' % len(it['faults']))
     for part, each in zip(answer.parts, it['faults']):

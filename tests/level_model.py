@@ -13,7 +13,7 @@ import argparse, collections, itertools, os, random, sys
 
 HERE = os.path.dirname(os.path.abspath(__file__))
 sys.path.insert(0, HERE)
-import certificates, generate, levels, reference, snapshots
+import certificates, generate, reference, snapshots
 
 # Each level, weakest first, with those that it implies at once.
 IMPLIED = {'read-committed': [], 'monotonic-atomic-view': ['read-committed'], 'read-atomic': ['monotonic-atomic-view'],
@@ -91,9 +91,28 @@ class Seen:
             return not left or any(all((u, v) not in pairs for u in left) and goes_on(left - {v}) for v in left)
         return goes_on(frozenset(self.all))
 
-    def has_line_of_all(self, pairs):
-        """The same, of all lists."""
-        return any(all(order.index(u) < order.index(v) for u, v in pairs) for order in itertools.permutations(self.all))
+    def finds(self, level, v, place, at):
+        """Whether the operation at this place, if it is a read, finds what it names, where each node stands at a place of an order: the last
+        write of its key among those that it sees and the one that it names."""
+        kind, key, wid = self.ops[v][place]
+        before = self.ops[v][:place]
+        own = self.last_write(before, key)
+        if kind == 'w' or own is not None:
+            return kind == 'w' or own == wid
+        left = {u: self.last_write(self.ops[u], key) for u in self.all if u != v}
+        seen = [u for u in left if left[u] is not None and (left[u] == wid or self.sees(level, u, v, before))]
+        return wid == (left[max(seen, key=at.get)] if seen else 0)
+
+    def is_order(self, level, order):
+        """Whether this list of nodes is an order of the level."""
+        at = {v: place for place, v in enumerate(order)}
+        if sorted(order) != list(self.all) or any(at[u] > at[v] for u, v in self.direct):
+            return False
+        return all(self.finds(level, v, place, at) for v in self.all for place in range(len(self.ops[v])))
+
+    def has_order_of_all(self, level):
+        """Whether one of all lists is such an order: for a few nodes."""
+        return any(self.is_order(level, order) for order in itertools.permutations(self.all))
 
 
 # ---- all levels
@@ -147,8 +166,50 @@ def bent_text(seed):
     return generate.text_of([(number, transactions) for number, transactions in enumerate(made, 1)])
 
 
+def snapshot_log(seed):
+    """A log of at most five transactions that ran under snapshot isolation, each from a snapshot that others may have passed meanwhile. In
+    many logs the store does wrong now and then: it commits what should be aborted, takes a snapshot older than the session's last
+    commit or, where moments are stated, than the transaction's beginning, or lets a read see another write."""
+    r = random.Random(seed)
+    keys, states, wid = 'xyz'[:r.choice((1, 2, 2, 3))], [{}], 0
+    made = [[] for _ in range(r.randint(2, 6))]
+    seen, says, does_wrong = [0] * len(made), r.choice((0, 0.8, 1)), r.random() < 0.6
+    for _ in range(r.randint(3, 5)):
+        session = r.randrange(len(made))
+        if made[session] and made[session][-1].outcome == 'unknown':
+            continue
+        wrong = r.choice(('lost', 'session', 'moment', 'moment', 'read')) if does_wrong and r.random() < 0.7 else 'nothing'
+        last = len(states) - 1
+        at = min(r.randint(0 if wrong == 'session' else seen[session], last) for _ in range(2))
+        ops, mine = [], {}
+        for kind in r.choices('rw', (6, 4), k=r.randint(1, 4)) if r.random() < 0.4 else 'r' * len(keys) + r.choice(('', 'w', 'w', 'wr')):
+            key = keys[len(ops)] if kind == 'r' and len(ops) < len(keys) else r.choice(keys)
+            if kind == 'w':
+                wid += 1
+                mine[key] = wid
+            ops.append((kind, key, mine.get(key, states[at].get(key, 0))))
+        reads = [place for place, op in enumerate(ops) if op[0] == 'r']
+        if wrong == 'read' and reads:
+            place = r.choice(reads)
+            ops[place] = 'r', ops[place][1], r.randint(0, wid)
+        is_late = any(states[at].get(key, 0) != state.get(key, 0) for state in states[at:] for key in mine)
+        outcome = 'abort' if is_late and wrong != 'lost' else r.choices(('commit', 'unknown'), (9, 1))[0]
+        if outcome != 'abort':
+            states.append({**states[-1], **mine})
+            seen[session] = len(states) - 1
+        # a state is the last one from its number times two on, and this one was so when the transaction began
+        first = last if wrong == 'moment' else r.choice((at, r.randint(0, at)))
+        begun, ended = (moment if r.random() < says else None for moment in (2 * first + 1, 2 * last + 2))
+        made[session].append(generate.stating(ops, outcome, begun, ended))
+    return generate.text_of(list(enumerate(made, 1)))
+
+
+def points_text(seed):
+    return generate.small_log(seed, 1 + seed % 3) if seed % 5 == 0 else snapshot_log(seed)
+
+
 def made_text(seed):
-    return bent_text(seed) if seed % 2 else levels.made_text(seed)
+    return bent_text(seed) if seed % 2 else points_text(seed)
 
 
 # ---- written-out logs
@@ -205,8 +266,7 @@ def made_faults(logs, seed, count):
         count.update(found)
         wrong = [(level, low) for level in found for low in IMPLIED[level] if low not in found]
         seen = Seen(sessions)
-        if len(seen.nodes) < 5 and seen.has_line(seen.past) != seen.has_line_of_all(seen.past):
-            wrong.append('lines')
+        wrong += [('all lists', level) for level in BELOW if len(seen.nodes) < 5 and seen.has_order_of_all(level) != (level in found)]
         yield 'made log %d: %r' % (number, wrong) if wrong else None
 
 

@@ -229,7 +229,8 @@ def faults(checks, seed):
                 status, said, error = checks.follow(folder, '--workers', '2', '--on-fault', 'echo $ROUND > "%s"' % on, level=level)
                 last = said[:said.find('not ' + level)].count('\n') + 1
                 checks.expect(status == 1 and last == place, '%s in round %d at %s: status %d at %d: %s%s' % (kind, place, level, status, last, said, error))
-                checks.expect('shown by' in said and open(on).read().strip() == os.path.join(folder, '%06d.log' % place), '%s: it is told why' % kind)
+                older = 'which was written in round' in said or 'A1' not in said
+                checks.expect('shown by' in said and older and open(on).read().strip() == os.path.join(folder, '%06d.log' % place), '%s: it is told why' % kind)
 
 
 def small(checks, name, store=None, **words):

@@ -4,12 +4,12 @@
 First the lines that docs/COLLECTING.md has for each are compiled and run. Then all get the same script of events, whose clock is part of it: sessions that begin, leave and come back, outcomes of each kind, odd
 keys, writes that are refused, shares, files that are there already, and what a harness may do wrong. What comes of each event, the warnings
 and the logs must be the same, byte for byte. Then threads of each language use a small store at once, whose log PROGRAM must find to be
-serializable; and a log of which each language wrote a share must fit together. A language whose compiler is not installed is passed over,
+serializable, and so must their rounds be, by tools/follow.py; and a log of which each language wrote a share must fit together. A language whose compiler is not installed is passed over,
 with a line that says so. Last line: 'writers: N passed, M failed'.
 
 The events, one a line: open OUT all|none K N yes|no (N 0: no share; whether OUT may be replaced), clock N, name KEY, text UTF-16 KEY,
 session S, begin S, read S KEY SEEN, before S KEY SEEN W, write S KEY W, refused S W, commit S, abort S, unknown S, leave S, close, load OUT
-THREADS TRANSACTIONS. A KEY is hexadecimal, or - for none; SEEN is none, @W, or text: and hexadecimal."""
+THREADS TRANSACTIONS, rounds DIR THREADS TRANSACTIONS EVERY. A KEY is hexadecimal, or - for none; SEEN is none, @W, or text: and hexadecimal."""
 import contextlib, io, os, random, re, shutil, subprocess, sys, tempfile
 
 HERE = os.path.dirname(os.path.abspath(__file__))
@@ -270,6 +270,17 @@ class Checks:
             ran = subprocess.run([self.program, 'check', '--strategy', 'forced', out], stdout=subprocess.PIPE)
             self.expect(ran.returncode == 0 and self.text(out).count(b'\nbegin ') == 240, '%s: load %d: %s' % (language, number, ran.stdout[:100]))
 
+    def rounds(self, language, words):
+        """Rounds of threads at once, of a store that loses answers."""
+        out = self.path('rounds-' + language)
+        self.expect(self.told(words, ['rounds %s 4 200 90' % out]) == ['ok'], '%s: no rounds' % language)
+        follow = os.path.join(os.path.dirname(HERE), 'tools', 'follow.py')
+        for level in ('strict-serializable', 'snapshot'):
+            ran = subprocess.run([sys.executable, '-B', follow, out, '--level', level, '--program', self.program], stdout=subprocess.PIPE, stderr=subprocess.PIPE, timeout=600)
+            self.expect(ran.returncode == 0 and ran.stdout.count(b'\n') >= 8, '%s: rounds: %s' % (language, ran))
+        texts = [self.text(os.path.join(out, name)) for name in os.listdir(out)]
+        self.expect(any(b'\nunknown\n' in text for text in texts), '%s: rounds: no unknown outcome' % language)
+
     def shares(self, started):
         """One log, of which each language writes a share."""
         logs, out = [], self.path('joined.log')
@@ -298,6 +309,7 @@ def main():
             checks.page(language, page)
             checks.compare(language, words)
             checks.load(language, words)
+            checks.rounds(language, words)
         checks.shares(started)
     print('writers: %d passed, %d failed' % (checks.passed, checks.failed))
     return 1 if checks.failed else 0

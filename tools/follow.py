@@ -9,7 +9,7 @@ an earlier round began.
 
 It ends when the run has ended (its recorder writes DIR/end), or with --once when the rounds that are there are judged. Statuses: 0, each
 round keeps the level; 1, one does not; 2, one is refused, or is no round of this run; 3, some are unknown; 70, something around is wrong."""
-import argparse, array, bisect, collections, concurrent.futures, json, os, re, subprocess, sys, time
+import argparse, array, bisect, collections, concurrent.futures, itertools, json, os, re, subprocess, sys, time
 import scripts
 from scripts import AROUND, NOT_SERIALIZABLE, REFUSED, UNKNOWN, Stop
 
@@ -160,6 +160,16 @@ class Run:
         place = bisect.bisect_left(its, number)
         return place < len(its) and its[place] == number
 
+    def older(self, number, path):
+        """Reads of this round of what none of its transactions wrote, and one of the last rounds did."""
+        sessions = [txn for _, its in sessions_of(path) for txn in its]
+        written = {pair for txn in sessions for pair in txn.writes}
+        for txn in sessions:
+            for key, wid in txn.reads if txn.outcome != b'abort' else ():
+                ages = [age for age, its in enumerate(reversed(self.recent), 1) if (key, wid) not in written and self.stands(int(wid), its)]
+                if ages:
+                    yield '%s reads %s %s, which was written in round %06d' % (txn.name, key.decode(), wid.decode(), number - ages[0])
+
     def moments(self, transactions):
         if not self.is_strict:
             return
@@ -249,7 +259,7 @@ class Follower:
         said = {'kept': level, 'not kept': 'not ' + level}.get(verdict, 'unknown: %s' % judged.report.get('reason'))
         self.say('%06d: %s, %s transactions, %.1f s' % (number, said, format(judged.report['committed'], ','), judged.took))
         if verdict == 'not kept':
-            self.fault(path)
+            self.fault(number, path)
         try:
             self.run.add(path)
         except NoRound as fault:
@@ -263,10 +273,12 @@ class Follower:
         self.last = verdict
         self.show(waiting)
 
-    def fault(self, path):
+    def fault(self, number, path):
         words = [self.given.program, 'audit', '--level', self.given.level, '--explain', *self.given.words, path]
         sys.stdout.flush()
         subprocess.run(words, stdin=subprocess.DEVNULL)
+        for it in itertools.islice(self.run.older(number, path), 3):
+            self.say(it)
         self.on_fault(path)
         raise Stop('%s does not keep the level: it stays, and so do the rounds beside it' % path, NOT_SERIALIZABLE)
 

@@ -76,7 +76,12 @@ public final class Main {
                 run.close();
                 return "warnings: " + String.join(" | ", run.warnings());
             case "load":
-                load(words[1], Integer.parseInt(words[2]), Integer.parseInt(words[3]));
+                load(words[1], Integer.parseInt(words[2]), Integer.parseInt(words[3]), new Recorder.Options().moments(), new HashMap<>());
+                return "ok";
+            case "rounds":
+                Map<String, String> values = new HashMap<>();
+                Recorder.Options every = new Recorder.Options().moments().rounds(Integer.parseInt(words[4]), (reads, writes) -> transact(values, reads, writes));
+                load(words[1], Integer.parseInt(words[2]), Integer.parseInt(words[3]), every.patience(10, 3).durable(), values);
                 return "ok";
             default:
                 return of(TRANSACTIONS.get(words[1]), words);
@@ -110,10 +115,29 @@ public final class Main {
         return "ok";
     }
 
+    /** Fails now and then, and may have been done all the same. */
+    private static long[] transact(Map<String, String> values, List<byte[]> reads, List<Recorder.Write> writes) throws IOException {
+        int dice = new Random().nextInt(12);
+        if (dice == 0)
+            return null;
+        if (dice == 1)
+            throw new IOException("lost");
+        long[] seen = new long[reads.size()];
+        synchronized (values) {
+            for (int place = 0; place < seen.length; place++)
+                seen[place] = Recorder.identity(values.get(new String(reads.get(place))));
+            for (Recorder.Write it : writes)
+                values.put(new String(it.key), it.identity + " fence");
+        }
+        if (dice == 2)
+            throw new IOException("lost");
+        return seen;
+    }
+
     /** Threads use a small store at once, in which a transaction holds all others back, but not while it begins and ends. */
-    private static void load(String path, int threads, int count) throws IOException, InterruptedException {
-        Map<String, String> values = new HashMap<>();
-        try (Recorder its = new Recorder(path, new Recorder.Options().moments())) {
+    private static void load(String path, int threads, int count, Recorder.Options options, Map<String, String> values)
+            throws IOException, InterruptedException {
+        try (Recorder its = new Recorder(path, options)) {
             List<Thread> all = new ArrayList<>();
             for (int number = 0; number < threads; number++) {
                 Random dice = new Random(number);

@@ -5,6 +5,7 @@ package main
 import (
 	"bufio"
 	"encoding/hex"
+	"errors"
 	"fmt"
 	"math/rand"
 	"os"
@@ -96,20 +97,56 @@ func do(words []string) string {
 	case "load":
 		var threads, count int
 		fmt.Sscan(words[2]+" "+words[3], &threads, &count)
-		load(words[1], threads, count)
+		load(words[1], threads, count, recorder.Options{Moments: true}, store{values: map[string]string{}})
+	case "rounds":
+		var threads, count, every int
+		fmt.Sscan(words[2]+" "+words[3]+" "+words[4], &threads, &count, &every)
+		its := store{values: map[string]string{}, lock: &sync.Mutex{}}
+		load(words[1], threads, count, recorder.Options{Moments: true, Rounds: every, Bound: 3, Transact: its.transact, Durable: true}, its)
 	}
 	return "ok"
 }
 
+type store struct {
+	values map[string]string
+	lock   *sync.Mutex
+}
+
+// transact fails now and then, and may have been done all the same.
+func (its store) transact(reads []string, writes []recorder.Write) ([]uint64, error) {
+	its.lock.Lock()
+	defer its.lock.Unlock()
+	switch rand.Intn(12) {
+	case 0:
+		return nil, recorder.RolledBack
+	case 1:
+		return nil, errors.New("lost")
+	}
+	seen := []uint64{}
+	for _, key := range reads {
+		value, found := its.values[key]
+		seen = append(seen, recorder.Identity(value, found))
+	}
+	for _, write := range writes {
+		its.values[write.Key] = fmt.Sprintf("%d fence", write.Identity)
+	}
+	if rand.Intn(12) == 0 {
+		return nil, errors.New("lost")
+	}
+	return seen, nil
+}
+
 // load has goroutines use a small store at once, in which a transaction holds all others back, but not while it begins and ends.
-func load(path string, threads, count int) {
-	its, err := recorder.New(path, recorder.Options{Moments: true})
+func load(path string, threads, count int, options recorder.Options, small store) {
+	its, err := recorder.New(path, options)
 	if err != nil {
 		panic(err)
 	}
-	var lock sync.Mutex
+	lock, values := small.lock, small.values
+	if lock == nil {
+		lock = &sync.Mutex{}
+	}
 	var all sync.WaitGroup
-	values := map[string]string{}
 	for number := 0; number < threads; number++ {
 		all.Add(1)
 		go func(dice *rand.Rand) {

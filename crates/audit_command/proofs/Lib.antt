@@ -5,6 +5,7 @@ mod Doubles
 mod Points
 mod Resolved
 mod Weaker
+mod Lower
 mod Searched
 mod Singles
 mod Decided

@@ -14,7 +14,7 @@ pub const CHECK_DEFAULTS: SearchDefaults = SearchDefaults {
     budget: "10000",
 };
 
-/// How `audit` searches in each piece where the words do not say.
+/// How `audit` searches where the words do not say.
 pub const AUDIT_DEFAULTS: SearchDefaults = SearchDefaults {
     strategy: "forced",
     budget: "100000",

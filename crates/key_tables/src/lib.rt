@@ -2,7 +2,8 @@
 //! numbers; keys with one mark are told apart by their bytes, so that no choice of keys makes a
 //! search long.
 //!
-//! Called by `order_checks`, `proposals` and `audit_command`. It knows no log.
+//! Called by `order_checks`, `level_checks`, `proposals`, `level_proposals` and `audit_command`. It
+//! knows no log.
 #![tactic(auto)]
 
 mod mark;

@@ -30,13 +30,14 @@ pub struct Last {
     pub position: usize,
 }
 
-/// What was passed on the way: where the look back for each key begins, the writes, how far each
-/// node sees, marks, a row of zeros, the last node of each session, and how
+/// What was passed on the way: where the look back for each key begins, the writes, the position at
+/// which each identity was written, how far each node sees, marks, a row of zeros, the last node of each session, and how
 /// many writes may still be passed.
 #[derive(Drop)]
 struct Way<'a> {
     table: BTreeMap<(u64, &'a Key), u64>,
     entries: Vec<Passed>,
+    sources: BTreeMap<u64, usize>,
     rows: Vec<Row>,
     marks: Vec<usize>,
     own: Vec<usize>,
@@ -92,10 +93,10 @@ fn take<'a>(
         alloc,
         &mut way.table,
         &mut way.entries,
+        &mut way.sources,
         position,
         session,
         node.ops,
-        &mut way.steps,
     )?;
     let Some(looks) = traced else {
         return Ok(false);
@@ -151,6 +152,7 @@ fn walk(
     let mut way = Way {
         table: BTreeMap::new(alloc),
         entries: Vec::new(alloc),
+        sources: BTreeMap::new(alloc),
         rows: Vec::new(alloc),
         marks: vec![in alloc; 0; order.len() + 1]?,
         own: vec![in alloc; 0; width]?,

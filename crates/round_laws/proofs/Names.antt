@@ -22,8 +22,8 @@ use Rattle.log_laws.proofs.Lists.{of_mapped, of_flat, in_flat, first_or_behind}
 use Rattle.log_laws.proofs.Replay.{after, Replays-append, after-append, had_or_written}
 use Rattle.log_laws.proofs.Moments.{Alone}
 use Rattle.level_laws.specs.Snapshot.{snapshot_reads, snapshot_reads_behind, rest, is_in}
-use Rattle.level_laws.specs.Split.{Locks, HasWritten, AreFresh, first_writes, take_lock, find_lock, start_ops, end_ops}
-use Rattle.level_laws.proofs.Parts.{after_rest, written_snapshot, each_snapshot, each_rest, each_first, keys_once, OtherKey, in_one}
+use Rattle.level_laws.specs.Split.{Locks, HasWritten, AreFresh, locked_writes, take_lock, find_lock, start_ops, end_ops}
+use Rattle.level_laws.proofs.Parts.{after_rest, written_snapshot, each_snapshot, each_rest, each_locked, locked_once, OtherKey, in_one}
 use Rattle.level_laws.proofs.Fresh.{some_are_fresh}
 use Rattle.level_laws.proofs.Named.{has_key, has_written}
 use Rattle.level_laws.proofs.Nodes.{start_node, end_node, both_nodes}
@@ -34,6 +34,7 @@ use Rattle.round_laws.proofs.Given.{writes_replay}
 
 -- ---- names that are new to all these operations
 pub record Names (locks : Locks) (all : List Op) : Type 0 where
+  pub taken : locks.taken ≡ true
   pub new_key : (o p : Op) → Contains all o → Contains all p → locks.key (key_of o) ≢ key_of p
   pub one_key : (o p : Op) → Contains all o → Contains all p → locks.key (key_of o) ≡ locks.key (key_of p) → key_of o ≡ key_of p
   pub new_identity : (k l : List ℕ) (v w : ℕ) → Contains all (Write k v) → Contains all (Write l w) → locks.identity v ≢ w
@@ -68,6 +69,7 @@ pub some_names : (first second : List ClientSession) → (locks : Locks) × Name
 some_names first second = (
   locks,
   record {
+    taken = (some_are_fresh big true).1;
     new_key = λ o p c d. fresh.new_key (key_of o) (key_of p) (has_key big o (within o c)) (has_key big p (within p d));
     one_key = λ o p c d. fresh.one_key (key_of o) (key_of p) (has_key big o (within o c)) (has_key big p (within p d));
     new_identity = λ k l v w c d. fresh.new_identity v w (has_written big k v (within (Write k v) c)) (has_written big l w (within (Write l w) d));
@@ -92,10 +94,10 @@ some_names first second = (
     zero = subst (λ l. Contains l (Write [] 0)) (sym is) (Contains-append_right (ops_in first ++ ops_in second) (Write [] 0 ∷ []) (Write [] 0) (0, omega arith, refl))
 
     locks : Locks
-    locks = (some_are_fresh big).0
+    locks = (some_are_fresh big true).0
 
     fresh : AreFresh locks big
-    fresh = (some_are_fresh big).1
+    fresh = (some_are_fresh big true).2
 
 -- ---- what the two halves do
 no_writes : (ops : List Op) (key : List ℕ) (wid : ℕ) → Contains (snapshot_reads ops) (Write key wid) → ⊥
@@ -107,8 +109,8 @@ snapshot_within ops o c = member (Contains ops) (snapshot_reads ops) o (each_sna
 rest_within : (ops : List Op) (o : Op) → Contains (rest ops) o → Contains ops o
 rest_within ops o c = member (Contains ops) (rest ops) o (each_rest (Contains ops) ops (themselves ops)) c
 
-first_within : (ops : List Op) (q : List ℕ × ℕ) → Contains (first_writes ops) q → Contains ops (Write q.0 q.1)
-first_within ops q c = member (λ (q : List ℕ × ℕ). Contains ops (Write q.0 q.1)) (first_writes ops) q (each_first (Contains ops) ops (themselves ops)) c
+lock_within : (locks : Locks) (ops : List Op) (q : List ℕ × ℕ) → Contains (locked_writes locks ops) q → Contains ops (Write q.0 q.1)
+lock_within locks ops q c = member (λ (q : List ℕ × ℕ). Contains ops (Write q.0 q.1)) (locked_writes locks ops) q (each_locked (Contains ops) locks ops (themselves ops)) c
 
 -- a lock is taken
 pub record Takes (locks : Locks) (ops : List Op) (key : List ℕ) (wid : ℕ) : Type 0 where
@@ -131,42 +133,42 @@ take_where_find : (locks : Locks) (q : List ℕ × ℕ) (key : List ℕ) (wid : 
 take_where_find locks (k, w) key wid e = cc
 
 pub start_writes : (locks : Locks) (ops : List Op) (key : List ℕ) (wid : ℕ) → Contains (start_ops locks ops) (Write key wid) → Takes locks ops key wid
-start_writes locks ops key wid c = elim (Contains-append_cases (snapshot_reads ops) (map (take_lock locks) (first_writes ops)) (Write key wid) c) [
+start_writes locks ops key wid c = elim (Contains-append_cases (snapshot_reads ops) (map (take_lock locks) (locked_writes locks ops)) (Write key wid) c) [
   | inl d ↦ absurd (no_writes ops key wid d)
   | inr d ↦
-      let q = of_mapped (take_lock locks) (first_writes ops) (Write key wid) d in
+      let q = of_mapped (take_lock locks) (locked_writes locks ops) (Write key wid) d in
       let is = taken_key locks q.0 key wid q.2 in
-      record { named = q.0.0; own = q.0.1; has = first_within ops q.0 q.1; key_is = is.0; identity_is = is.1 }
+      record { named = q.0.0; own = q.0.1; has = lock_within locks ops q.0 q.1; key_is = is.0; identity_is = is.1 }
 ]
 
 pub start_reads : (locks : Locks) (ops : List Op) (key : List ℕ) (wid : ℕ) → Contains (start_ops locks ops) (Read key wid) → Contains ops (Read key wid)
-start_reads locks ops key wid c = elim (Contains-append_cases (snapshot_reads ops) (map (take_lock locks) (first_writes ops)) (Read key wid) c) [
+start_reads locks ops key wid c = elim (Contains-append_cases (snapshot_reads ops) (map (take_lock locks) (locked_writes locks ops)) (Read key wid) c) [
   | inl d ↦ snapshot_within ops (Read key wid) d
-  | inr d ↦ let q = of_mapped (take_lock locks) (first_writes ops) (Read key wid) d in absurd (never_take locks q.0 key wid q.2)
+  | inr d ↦ let q = of_mapped (take_lock locks) (locked_writes locks ops) (Read key wid) d in absurd (never_take locks q.0 key wid q.2)
 ]
 
 pub end_writes : (locks : Locks) (ops : List Op) (key : List ℕ) (wid : ℕ) → Contains (end_ops locks ops) (Write key wid) → Contains ops (Write key wid)
-end_writes locks ops key wid c = elim (Contains-append_cases (map (find_lock locks) (first_writes ops)) (rest ops) (Write key wid) c) [
-  | inl d ↦ let q = of_mapped (find_lock locks) (first_writes ops) (Write key wid) d in absurd (never_find locks q.0 key wid q.2)
+end_writes locks ops key wid c = elim (Contains-append_cases (map (find_lock locks) (locked_writes locks ops)) (rest ops) (Write key wid) c) [
+  | inl d ↦ let q = of_mapped (find_lock locks) (locked_writes locks ops) (Write key wid) d in absurd (never_find locks q.0 key wid q.2)
   | inr d ↦ rest_within ops (Write key wid) d
 ]
 
 pub end_reads : (locks : Locks) (ops : List Op) (key : List ℕ) (wid : ℕ) → Contains (end_ops locks ops) (Read key wid) → Contains ops (Read key wid) ⊎ Contains (start_ops locks ops) (Write key wid)
-end_reads locks ops key wid c = elim (Contains-append_cases (map (find_lock locks) (first_writes ops)) (rest ops) (Read key wid) c) [
+end_reads locks ops key wid c = elim (Contains-append_cases (map (find_lock locks) (locked_writes locks ops)) (rest ops) (Read key wid) c) [
   | inl d ↦
-      let q = of_mapped (find_lock locks) (first_writes ops) (Read key wid) d in
-      inr (Contains-append_right (snapshot_reads ops) (map (take_lock locks) (first_writes ops)) (Write key wid) (subst (Contains (map (take_lock locks) (first_writes ops))) (take_where_find locks q.0 key wid q.2) (mapped (take_lock locks) (first_writes ops) q.0 q.1)))
+      let q = of_mapped (find_lock locks) (locked_writes locks ops) (Read key wid) d in
+      inr (Contains-append_right (snapshot_reads ops) (map (take_lock locks) (locked_writes locks ops)) (Write key wid) (subst (Contains (map (take_lock locks) (locked_writes locks ops))) (take_where_find locks q.0 key wid q.2) (mapped (take_lock locks) (locked_writes locks ops) q.0 q.1)))
   | inr d ↦ inl (rest_within ops (Read key wid) d)
 ]
 
 pub end_has : (locks : Locks) (ops : List Op) (key : List ℕ) (wid : ℕ) → Contains ops (Write key wid) → Contains (end_ops locks ops) (Write key wid)
 end_has locks ops key wid c = elim (in_one ops (Write key wid) c) [
   | inl d ↦ absurd (no_writes ops key wid d)
-  | inr d ↦ Contains-append_right (map (find_lock locks) (first_writes ops)) (rest ops) (Write key wid) d
+  | inr d ↦ Contains-append_right (map (find_lock locks) (locked_writes locks ops)) (rest ops) (Write key wid) d
 ]
 
 pub start_has : (locks : Locks) (ops : List Op) (o : Op) → Contains (snapshot_reads ops) o → Contains (start_ops locks ops) o
-start_has locks ops o c = Contains-append_left (snapshot_reads ops) (map (take_lock locks) (first_writes ops)) o c
+start_has locks ops o c = Contains-append_left (snapshot_reads ops) (map (take_lock locks) (locked_writes locks ops)) o c
 
 -- what is read and not written is read from the snapshot
 unwritten_read : (ops : List Op) (before : List (List ℕ)) (key : List ℕ) (wid : ℕ) → is_in before key ≡ false → ((v : ℕ) → Contains ops (Write key v) → ⊥) → Contains ops (Read key wid) → Contains (snapshot_reads_behind before ops) (Read key wid)
@@ -375,7 +377,7 @@ halves_replay locks all names m ops sub h =
     (Replays-append m (start_ops locks ops) (end_ops locks ops)).1 (start, (Replays-append behind_start finds (rest ops)).1 (found, rests))
   where
     qs : List (List ℕ × ℕ)
-    qs = first_writes ops
+    qs = locked_writes locks ops
 
     takes : List Op
     takes = map (take_lock locks) qs
@@ -397,10 +399,10 @@ halves_replay locks all names m ops sub h =
     start = subst (Replays m) (sym start_is) (writes_replay m takes (takes_write qs))
 
     known : AllByRecursion (λ (q : List ℕ × ℕ). Contains all (Write q.0 q.1)) qs
-    known = each_member (λ (q : List ℕ × ℕ). Contains all (Write q.0 q.1)) qs (λ q c. sub (Write q.0 q.1) (first_within ops q c))
+    known = each_member (λ (q : List ℕ × ℕ). Contains all (Write q.0 q.1)) qs (λ q c. sub (Write q.0 q.1) (lock_within locks ops q c))
 
     found : Replays behind_start finds
-    found = subst (λ l. Replays (after m l) finds) (sym start_is) (finds_replay locks qs (after m takes) (find_after locks qs m (pairs_where locks all names qs known (keys_once ops))))
+    found = subst (λ l. Replays (after m l) finds) (sym start_is) (finds_replay locks qs (after m takes) (find_after locks qs m (pairs_where locks all names qs known (locked_once locks ops))))
 
     rests : Replays (after behind_start finds) (rest ops)
     rests = writes_replay (after behind_start finds) (rest ops) (each_rest (λ o. is_write o ≡ true) ops h)
@@ -417,8 +419,8 @@ same_after (Write k w ∷ ops) m n key e = same_after ops (set m k w) (set n k w
 pub halves_leave : (locks : Locks) (all : List Op) → Names locks all → (m : Map) (ops : List Op) → ((o : Op) → Contains ops o → Contains all o) → (key : List ℕ) (o : Op) → Contains all o → key_of o ≡ key → after m (start_ops locks ops ++ end_ops locks ops) key ≡ after m ops key
 halves_leave locks all names m ops sub key o co ko =
     ap (λ (f : Map). f key) (after-append m (start_ops locks ops) (end_ops locks ops))
-    ∙ ap (λ (f : Map). f key) (after-append (after m (start_ops locks ops)) (map (find_lock locks) (first_writes ops)) (rest ops))
-    ∙ ap (λ (f : Map). after f (rest ops) key) (finds_leave locks (first_writes ops) (after m (start_ops locks ops)))
+    ∙ ap (λ (f : Map). f key) (after-append (after m (start_ops locks ops)) (map (find_lock locks) (locked_writes locks ops)) (rest ops))
+    ∙ ap (λ (f : Map). after f (rest ops) key) (finds_leave locks (locked_writes locks ops) (after m (start_ops locks ops)))
     ∙ ap (λ (f : Map). f key) (after_rest (after m (start_ops locks ops)) ops)
     ∙ same_after ops (after m (start_ops locks ops)) m key start
   where

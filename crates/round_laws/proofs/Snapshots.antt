@@ -16,7 +16,7 @@ use Rattle.log_definitions.specs.Serial.{Committed, Map, initial, Replays}
 use Rattle.log_definitions.proofs.Members.{member}
 use Rattle.log_definitions.proofs.Settled.{IsLearnt}
 use Rattle.log_laws.proofs.Sessions.{Firsts, nodes_of, unshift, early, early_is, late_is}
-use Rattle.log_laws.specs.Logs.{IsSoundLog, IsLearntLog}
+use Rattle.log_laws.specs.Logs.{IsSoundLog, IsLearntLog, HasOrder}
 use Rattle.log_laws.proofs.Lines.{MayPrecede, IsLine, ops_along}
 use Rattle.log_laws.proofs.Lists.{of_kept, of_mapped, of_flat, op_of_node, NodeWith, node_with, first_or_behind, test_le}
 use Rattle.log_laws.proofs.Replay.{after, had_or_written}
@@ -24,7 +24,7 @@ use Rattle.log_laws.proofs.Moments.{Alone}
 use Rattle.log_laws.proofs.Identities.{ops_of_nodes, committed_within, ordered_node}
 use Rattle.log_laws.proofs.Txns.{numbers_of, split as split_each, joined as join_each}
 use Rattle.log_laws.proofs.Shifted.{HasLine, line_where_same, line_where_order}
-use Rattle.level_laws.specs.Snapshot.{snapshot_reads, HasSnapshotOrder}
+use Rattle.level_laws.specs.Snapshot.{snapshot_reads, HasPointOrder, HasSnapshotOrder}
 use Rattle.level_laws.specs.Split.{Locks, AreFresh, start_ops, end_ops, split}
 use Rattle.level_laws.proofs.Nodes.{start_node, end_node, both_nodes, split_nodes, split_learnt}
 use Rattle.level_laws.proofs.Orders.{snapshot_by_split, never_later}
@@ -42,9 +42,9 @@ split_numbers : (locks : Locks) (ss : List ClientSession) → numbers_of (split 
 split_numbers locks [] = refl
 split_numbers locks (s ∷ ss) = ap (λ l. s.number ∷ l) (split_numbers locks ss)
 
-snapshot_line : (locks : Locks) (ss : List ClientSession) → IsSoundLog ss → IsLearntLog ss → AreFresh locks ss → (HasSnapshotOrder ss ↔ HasLine initial (halves locks (nodes_of ss)))
-snapshot_line locks ss sound learnt fresh =
-    let by_split = snapshot_by_split ss locks sound learnt fresh in
+snapshot_line : (locks : Locks) (ss : List ClientSession) → IsSoundLog ss → IsLearntLog ss → AreFresh locks ss → locks.taken ≡ true → (HasSnapshotOrder ss ↔ HasLine initial (halves locks (nodes_of ss)))
+snapshot_line locks ss sound learnt fresh taken =
+    let by_split = subst (λ b. HasPointOrder b ss ↔ HasOrder (split locks ss)) taken (snapshot_by_split ss locks sound learnt fresh) in
     let lines = line_where_order (split locks ss) (split_each IsLearnt (split locks ss) (split_learnt locks ss learnt)) (subst Apart (sym (split_numbers locks ss)) (apart_of ss sound)) in
     ((λ h. subst (HasLine initial) (split_nodes locks ss) (lines.0 (by_split.0 h))), λ l. by_split.1 (lines.1 (subst (HasLine initial) (sym (split_nodes locks ss)) l)))
 
@@ -391,7 +391,7 @@ lines keeper first second locks o names p = record {
     (λ h. subst (HasLine initial) (sym whole_is) (line_where_same initial (halves locks (nodes_of run)) (halves locks whole) (λ n. (halves_within locks (nodes_of run) whole (λ m. (p.whole m).0) n, halves_within locks whole (nodes_of run) (λ m. (p.whole m).1) n)) (of_run.0 h))),
     (λ l. of_run.1 (line_where_same initial (halves locks whole) (halves locks (nodes_of run)) (λ n. (halves_within locks whole (nodes_of run) (λ m. (p.whole m).1) n, halves_within locks (nodes_of run) whole (λ m. (p.whole m).0) n)) (subst (HasLine initial) whole_is l))),
   );
-  one = snapshot_line locks first p.seam.sound_first p.seam.learnt_first (fresh_where locks all first names (λ q c. Contains-append_left (ops_in first) (ops_in second) q c));
+  one = snapshot_line locks first p.seam.sound_first p.seam.learnt_first (fresh_where locks all first names (λ q c. Contains-append_left (ops_in first) (ops_in second) q c)) names.taken;
   two = (
     (λ h. line_where_same initial (halves locks (nodes_of second)) (halves locks full_nodes) (λ n. (halves_within locks (nodes_of second) full_nodes (λ m. (same m).0) n, halves_within locks full_nodes (nodes_of second) (λ m. (same m).1) n)) (of_second.0 h)),
     (λ l. of_second.1 (line_where_same initial (halves locks full_nodes) (halves locks (nodes_of second)) (λ n. (halves_within locks full_nodes (nodes_of second) (λ m. (same m).1) n, halves_within locks (nodes_of second) full_nodes (λ m. (same m).0) n)) l)),
@@ -423,10 +423,10 @@ lines keeper first second locks o names p = record {
     whole_is = ap (λ l. halves locks (nodes_of first) ++ l) (halves_unshifted locks cut both (placed_second keeper first second o p)) ∙ sym (flat_map-append (both_nodes locks) (nodes_of first) (map (unshift cut) both))
 
     of_run : HasSnapshotOrder run ↔ HasLine initial (halves locks (nodes_of run))
-    of_run = snapshot_line locks run p.seam.sound (join_each IsLearnt run p.learnt) (fresh_where locks all run names (run_ops keeper first second))
+    of_run = snapshot_line locks run p.seam.sound (join_each IsLearnt run p.learnt) (fresh_where locks all run names (run_ops keeper first second)) names.taken
 
     of_second : HasSnapshotOrder second ↔ HasLine initial (halves locks (nodes_of second))
-    of_second = snapshot_line locks second p.seam.sound_second p.seam.learnt_second (fresh_where locks all second names (λ q c. Contains-append_right (ops_in first) (ops_in second) q c))
+    of_second = snapshot_line locks second p.seam.sound_second p.seam.learnt_second (fresh_where locks all second names (λ q c. Contains-append_right (ops_in first) (ops_in second) q c)) names.taken
 
 half_times : (locks : Locks) (a c x y : Committed) → Contains (both_nodes locks a) x → Contains (both_nodes locks c) y → is_earlier c.ended a.begun ≡ false → is_earlier y.ended x.begun ≡ false
 half_times locks a c x y d e time = elim (which_half locks c y e) [
