@@ -19,4 +19,4 @@ mod search;
 mod solver;
 
 pub use found::Found;
-pub use solver::search_clauses;
+pub use solver::{search_clauses, search_used};

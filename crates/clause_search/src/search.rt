@@ -124,6 +124,11 @@ impl Search {
         Ok(values)
     }
 
+    /// Which of the given clauses, so many, the last step rests on, as far as it is known.
+    pub(crate) fn used(&self, given: usize) -> Result<Vec<usize>, AllocError> {
+        self.clauses.grounds.of_last(self.alloc, given)
+    }
+
     /// Finds what the clauses alone force, and forgets clauses where it is time.
     fn settle(&mut self, checker: &mut Checker, given: usize) -> Result<(), AllocError>
         ensures extends { Extends given checker.old.clauses checker.new.clauses }
@@ -164,7 +169,10 @@ impl Search {
         ensures extends { (n : ℕ) → Extends n checker.old.clauses checker.new.clauses }
     {
         self.analysis.hint_contradiction(&self.clauses, number)?;
-        take_hinted(checker, &[], &self.analysis.hints)?;
+        let step = checker.len();
+        if take_hinted(checker, &[], &self.analysis.hints)? {
+            self.clauses.grounds.put(step, &self.analysis.hints)?;
+        }
         Ok(Some(Round::Closed))
     }
 
@@ -175,6 +183,7 @@ impl Search {
         self.analyse(conflict)?;
         let number = checker.len();
         if take_hinted(checker, &self.literals, &self.analysis.hints)? {
+            self.clauses.grounds.put(number, &self.analysis.hints)?;
             self.keep(number)?;
         } else {
             self.go_back_to(0)?;

@@ -91,11 +91,27 @@ pub fn search_clauses(
 ) -> Result<Found, AllocError>
     ensures found { IfOk result (IsFound variables checker.old.clauses) }
 {
+    let mut used = Vec::new(alloc);
+    search_used(alloc, checker, variables, budget, &mut used)
+}
+
+/// The same; and where they are refuted, the numbers of those on which that rests, as far as it is
+/// known.
+pub fn search_used(
+    alloc: Global,
+    checker: &mut Checker,
+    variables: u32,
+    budget: u32,
+    used: &mut Vec<usize>,
+) -> Result<Found, AllocError>
+    ensures found { IfOk result (IsFound variables checker.old.clauses) }
+{
     let given = checker.len();
     let mut search = Search::new(alloc, checker, variables)?;
     for _ in 0..budget {
         let round = search.round(checker, given)?;
         if let Some(found) = conclude(&search, checker, variables, given, round)? {
+            *used = search.used(given)?;
             return Ok(found);
         }
     }

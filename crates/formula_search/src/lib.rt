@@ -6,6 +6,7 @@
 #![tactic(auto)]
 
 mod given;
+mod nodes;
 mod searching;
 
 pub use clause_search::Found;

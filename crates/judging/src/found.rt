@@ -17,13 +17,14 @@ use crate::level::{Level, LevelLog, log_at};
 use crate::limits::size_limit;
 use crate::means::JudgeMeans;
 use deciding::{Decision, decide};
+use decision_nodes::nodes_of;
 use desk::gate::OpenGate;
 use log_parts::copy_log;
 use order_cnf::CnfFault;
 use polygraph::PolyFault;
-use session_history::{Anomaly, History, NodeIx, NodeLine};
+use session_history::{History, NodeIx, NodeLine};
 use session_log::{Limit, LogFault, Session, Version};
-use solving::{Solution, solve_history};
+use solving::{Solution, solve_nodes};
 use std::alloc::{AllocError, Global};
 use std::sync::Wait;
 use std::thread::Threads;
@@ -63,28 +64,6 @@ pub struct Seen {
     pub nodes: Vec<NodeIx>,
 }
 
-/// The nodes of an anomaly.
-fn anomaly_nodes(alloc: Global, anomaly: Anomaly) -> Result<Vec<NodeIx>, AllocError> {
-    let mut nodes = Vec::new(alloc);
-    match anomaly {
-        Anomaly::Read { node, .. } => nodes.push(node)?,
-        Anomaly::LostUpdate { first, second, .. } => {
-            nodes.push(first)?;
-            nodes.push(second)?;
-        }
-    }
-    Ok(nodes)
-}
-
-/// The nodes that show that there is no order, where some few do.
-fn nodes_of(alloc: Global, decision: &Decision) -> Result<Vec<NodeIx>, AllocError> {
-    match decision {
-        Decision::Anomalous(anomaly) => anomaly_nodes(alloc, *anomaly),
-        Decision::Cyclic(line) => line.to_vec(alloc),
-        _ => Ok(Vec::new(alloc)),
-    }
-}
-
 /// What is decided of a history.
 fn decided<R: Threads + Wait + Clock + Sync>(
     rt: &R,
@@ -96,7 +75,7 @@ fn decided<R: Threads + Wait + Clock + Sync>(
 {
     match decide(rt, alloc, history, &means.deciding, &OpenGate) {
         Ok(decision) => {
-            let nodes = nodes_of(alloc, &decision)?;
+            let nodes = nodes_of(alloc, history, &decision)?;
             let found = found_by(decision);
             Ok(Seen { found, nodes })
         }
@@ -112,19 +91,22 @@ fn is_spent(found: &Found) -> bool
     matches!(found, Found::Undecided(Why::Spent { .. }))
 }
 
-/// What a search that learns finds of a history, where it finds something.
+/// What a search that learns finds of a history, where it finds something, and nodes that show it.
 fn learnt<R: Threads + Wait + Clock + Sync>(
     rt: &R,
     alloc: Global,
     history: &History,
     means: &JudgeMeans,
+    nodes: &mut Vec<NodeIx>,
 ) -> Result<Option<Found>, AllocError>
     requires left { IsLeftOpen history.now }
     ensures found { IfOk result (λ found. IfSome found (IsFound (of_serial means.now) history.now)) }
 {
     let conflicts = means.deciding.budget.get() as u32;
     let workers = means.deciding.workers;
-    match solve_history(rt, alloc, history, false, conflicts, workers, &OpenGate) {
+    match solve_nodes(
+        rt, alloc, history, false, conflicts, workers, &OpenGate, nodes,
+    ) {
         Ok(Solution::Serial(order)) => Ok(Some(Found::Serial(order))),
         Ok(Solution::Refuted) => Ok(Some(Found::Refuted(Finding::Formula))),
         Ok(Solution::Spent) => Ok(None),
@@ -147,8 +129,8 @@ fn seen_further<R: Threads + Wait + Clock + Sync>(
     if means.is_over(rt) {
         return Ok(undecided(alloc, Why::NotBegun));
     }
-    if let Some(found) = learnt(rt, alloc, history, means)? {
-        let nodes = Vec::new(alloc);
+    let mut nodes = Vec::new(alloc);
+    if let Some(found) = learnt(rt, alloc, history, means, &mut nodes)? {
         return Ok(Seen { found, nodes });
     }
     if means.is_over(rt) {

@@ -21,7 +21,8 @@ use std::sync::Wait;
 use std::thread::Threads;
 use std::time::Clock;
 
-/// So much work is done: a decision of so many transactions is so much and `DECISION` more.
+/// So much work is done to go on to what decided it, and so much to leave out transactions: a
+/// decision of so many transactions is so much and `DECISION` more.
 const WORK: usize = 40_000;
 
 const DECISION: usize = 100;
@@ -52,7 +53,28 @@ fn nodes_against<R: Threads + Wait + Clock + Sync>(
     }
 }
 
-/// The transactions of these nodes, or these and whom they read from, where they have no order.
+/// These transactions, where they are fewer than so many and have no order, and their nodes that
+/// show it.
+fn fewer_against<R: Threads + Wait + Clock + Sync>(
+    rt: &R,
+    alloc: Global,
+    log: &[Session],
+    few: Flags,
+    count: usize,
+    means: &JudgeMeans,
+    work: &mut usize,
+) -> Result<Option<(Flags, Vec<NodeIx>)>, AllocError>
+    requires log { IsLog (map view log.now) }
+{
+    if count_flags(&few) >= count {
+        return Ok(None);
+    }
+    let found = nodes_against(rt, alloc, log, &few, means, work)?;
+    Ok(found.map(|found| (few, found)))
+}
+
+/// The transactions of these nodes, or these and whom they read from, where they are fewer and have
+/// no order.
 fn narrowed<R: Threads + Wait + Clock + Sync>(
     rt: &R,
     alloc: Global,
@@ -64,13 +86,13 @@ fn narrowed<R: Threads + Wait + Clock + Sync>(
 ) -> Result<Option<(Flags, Vec<NodeIx>)>, AllocError>
     requires log { IsLog (map view log.now) }
 {
+    let count = count_flags(flags);
     let few = flags_of_nodes(alloc, log, flags, nodes)?;
-    if let Some(found) = nodes_against(rt, alloc, log, &few, means, work)? {
-        return Ok(Some((few, found)));
-    }
     let more = with_writers(alloc, log, &few)?;
-    let found = nodes_against(rt, alloc, log, &more, means, work)?;
-    Ok(found.map(|found| (more, found)))
+    if let Some(found) = fewer_against(rt, alloc, log, few, count, means, work)? {
+        return Ok(Some(found));
+    }
+    fewer_against(rt, alloc, log, more, count, means, work)
 }
 
 /// Goes on to the transactions that decided it, as long as they are fewer.
@@ -93,11 +115,44 @@ fn narrow<R: Threads + Wait + Clock + Sync>(
         let Some((few, next)) = narrowed(rt, alloc, log, flags, &nodes, means, work)? else {
             break;
         };
-        if count_flags(&few) >= count_flags(flags) {
-            break;
-        }
         *flags = few;
         nodes = next;
+    }
+    Ok(())
+}
+
+/// These flags without those of some transactions, where they are more.
+fn without(
+    alloc: Global,
+    flags: &[Vec<bool>],
+    places: &[(usize, usize)],
+) -> Result<Option<Flags>, AllocError> {
+    let mut less = copy_flags(alloc, flags)?;
+    for place in places {
+        set_flag(&mut less, *place, false);
+    }
+    let is_less = count_flags(&less) < count_flags(flags);
+    Ok(is_less.then_some(less))
+}
+
+/// Leaves out these transactions, where the others have no order, and all but those that show it.
+fn leave_out_some<R: Threads + Wait + Clock + Sync>(
+    rt: &R,
+    alloc: Global,
+    log: &[Session],
+    flags: &mut Flags,
+    places: &[(usize, usize)],
+    means: &JudgeMeans,
+    work: &mut usize,
+) -> Result<(), AllocError>
+    requires log { IsLog (map view log.now) }
+{
+    let Some(less) = without(alloc, flags, places)? else {
+        return Ok(());
+    };
+    if let Some(nodes) = nodes_against(rt, alloc, log, &less, means, work)? {
+        *flags = less;
+        narrow(rt, alloc, log, flags, &nodes, means, work)?;
     }
     Ok(())
 }
@@ -117,16 +172,14 @@ fn leave_out_chunks<R: Threads + Wait + Clock + Sync>(
     let places = places_of(alloc, flags)?;
     for i in 0..places.len() {
         let start = i.saturating_mul(size);
-        if start >= places.len() {
+        let end = start.saturating_add(size).min(places.len());
+        let Some(chunk) = places.as_slice().get(start..end) else {
+            break;
+        };
+        if chunk.is_empty() {
             break;
         }
-        let mut less = copy_flags(alloc, flags)?;
-        for place in places.iter().skip(start).take(size) {
-            set_flag(&mut less, *place, false);
-        }
-        if nodes_against(rt, alloc, log, &less, means, work)?.is_some() {
-            *flags = less;
-        }
+        leave_out_some(rt, alloc, log, flags, chunk, means, work)?;
     }
     Ok(())
 }
@@ -167,6 +220,7 @@ fn shrink<R: Threads + Wait + Clock + Sync>(
     let mut work = WORK;
     let mut flags = all_flags(alloc, log, true)?;
     narrow(rt, alloc, log, &mut flags, nodes, &means, &mut work)?;
+    work = WORK;
     leave_out(rt, alloc, log, &mut flags, &means, &mut work)?;
     Ok(flags)
 }

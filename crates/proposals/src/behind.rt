@@ -1,7 +1,7 @@
 //! What stands behind points.
 
-use crate::known::Graph;
-use crate::lists::{Chains, Lists, lists_of};
+use crate::hops::Hops;
+use crate::lists::Chains;
 use std::alloc::{AllocError, Global};
 
 /// Two nodes, the first of which is to come before the second.
@@ -13,28 +13,29 @@ pub struct Pair {
 
 /// What stands behind points: by edges, by what was supposed, and by holding back.
 #[derive(Drop)]
-pub struct Behind {
-    known: Lists<u32>,
+pub struct Behind<'a> {
+    hops: &'a Hops,
     supposed: Chains,
     held: Chains,
     holds: Vec<Pair>,
 }
 
-impl Behind {
-    /// By the edges of a graph.
-    pub fn of(alloc: Global, graph: &Graph) -> Result<Behind, AllocError> {
-        Ok(Behind {
-            known: lists_of(alloc, graph.count(), &graph.hops(alloc)?)?,
-            supposed: Chains::new(alloc, graph.count())?,
-            held: Chains::new(alloc, graph.count())?,
+impl<'a> Behind<'a> {
+    /// By the edges of a graph of so many points.
+    pub fn of(alloc: Global, hops: &'a Hops, points: u32) -> Behind<'a> {
+        Behind {
+            hops,
+            supposed: Chains::new(alloc, points),
+            held: Chains::new(alloc, points),
             holds: Vec::new(alloc),
-        })
+        }
     }
 
     /// Puts what comes behind a point, by edges and by what was supposed, in the place of these.
     pub fn find(&self, point: u32, targets: &mut Vec<u32>) -> Result<(), AllocError> {
         targets.clear();
-        targets.extend_from_slice(self.known.list(point))?;
+        targets.extend_from_slice(self.hops.known(point))?;
+        targets.extend_from_slice(self.hops.found(point))?;
         self.supposed.add_to(point, targets)
     }
 

@@ -1,26 +1,18 @@
 //! The versions of keys and their readers, by lane.
 
 use crate::known::{Graph, Point};
-use crate::lists::{Lists, number};
+use crate::lists::{Lists, at, number, put};
 use crate::versions::Versions;
 use std::alloc::{AllocError, Global};
 
-/// The last reader of a version in a lane, and its place there.
+/// The last reader of a version in a lane: its place there.
 #[derive(Clone, Copy)]
 pub struct Reader {
     pub lane: u32,
     pub place: u32,
-    pub node: u32,
 }
 
-/// A version, and the place of its writer in its lane.
-#[derive(Clone, Copy)]
-pub struct Written {
-    pub place: u32,
-    pub version: u32,
-}
-
-/// The versions of a key that a lane wrote: from one place to another among those of all keys.
+/// The versions of a key that a lane wrote: from one to another.
 #[derive(Clone, Copy)]
 pub struct Group {
     pub lane: u32,
@@ -35,8 +27,10 @@ pub struct ByLane {
     pub last_readers: Lists<Reader>,
     /// Of each key the lanes that write it.
     pub groups: Lists<Group>,
-    /// The versions of each key, by lane and place.
-    written: Vec<Written>,
+    /// Of each lane its first node.
+    starts: Vec<u32>,
+    /// Of each version the place of its writer.
+    places: Vec<u32>,
 }
 
 /// Adds the last of some readers, in the order of nodes, in each lane.
@@ -49,11 +43,7 @@ fn push_last(last: &mut Lists<Reader>, graph: &Graph, readers: &[u32]) -> Result
         {
             last.push(reader)?;
         }
-        before = Some(Reader {
-            lane,
-            place,
-            node: *node,
-        });
+        before = Some(Reader { lane, place });
     }
     if let Some(reader) = before {
         last.push(reader)?;
@@ -61,40 +51,72 @@ fn push_last(last: &mut Lists<Reader>, graph: &Graph, readers: &[u32]) -> Result
     last.close()
 }
 
+/// Of each version the last reader of each lane.
+fn last_readers_of(
+    alloc: Global,
+    versions: &Versions,
+    graph: &Graph,
+) -> Result<Lists<Reader>, AllocError> {
+    let count = versions.initial(0);
+    let most = versions.readers.span(0, count).len();
+    let mut last = Lists::with_room(alloc, count as usize, most)?;
+    for version in 0..count {
+        push_last(&mut last, graph, versions.readers.list(version))?;
+    }
+    Ok(last)
+}
+
+/// Of each lane its first node.
+fn starts_of(alloc: Global, graph: &Graph) -> Result<Vec<u32>, AllocError> {
+    let mut starts = vec![in alloc; 0; graph.lanes as usize]?;
+    for node in 0..graph.nodes {
+        let Point { lane, place } = graph.point(node);
+        if place == 1 {
+            put(starts.as_mut_slice(), lane, node);
+        }
+    }
+    Ok(starts)
+}
+
 impl ByLane {
     /// Puts versions by lane.
     pub fn of(alloc: Global, versions: &Versions, graph: &Graph) -> Result<ByLane, AllocError> {
         let mut by_lane = ByLane {
-            last_readers: Lists::new(alloc),
+            last_readers: last_readers_of(alloc, versions, graph)?,
             groups: Lists::new(alloc),
-            written: Vec::new(alloc),
+            starts: starts_of(alloc, graph)?,
+            places: Vec::with_capacity(alloc, versions.writers.len())?,
         };
-        for version in 0..versions.initial(versions.keys) {
-            let readers = versions.readers.list(version);
-            push_last(&mut by_lane.last_readers, graph, readers)?;
+        for writer in &versions.writers {
+            by_lane.places.push(graph.point(*writer).place)?;
         }
-        let by_key = versions.by_key(alloc)?;
         for key in 0..versions.keys {
-            by_lane.add_key(versions, graph, by_key.list(key))?;
+            by_lane.add_groups(versions, graph, key)?;
         }
         Ok(by_lane)
     }
 
-    /// Adds the versions of a key.
-    fn add_key(
+    /// Adds the groups of a key.
+    fn add_groups(
         &mut self,
         versions: &Versions,
         graph: &Graph,
-        of_key: &[u32],
+        key: u32,
     ) -> Result<(), AllocError> {
-        let mut group = None;
-        for version in of_key {
-            let Point { lane, place } = graph.point(versions.writer(*version));
-            let written = Written {
-                place,
-                version: *version,
+        let (first, _) = versions.of_key(key);
+        let mut group: Option<Group> = None;
+        for (i, writer) in versions.writers_of(key).iter().enumerate() {
+            let start = first.saturating_add(number(i));
+            let end = start.saturating_add(1);
+            let lane = graph.point(*writer).lane;
+            group = match group {
+                Some(group) if group.lane == lane => Some(Group { end, ..group }),
+                Some(group) => {
+                    self.groups.push(group)?;
+                    Some(Group { lane, start, end })
+                }
+                None => Some(Group { lane, start, end }),
             };
-            group = self.add(group, lane, written)?;
         }
         if let Some(group) = group {
             self.groups.push(group)?;
@@ -102,33 +124,23 @@ impl ByLane {
         self.groups.close()
     }
 
-    /// Adds a version of the key that is not closed; gives its group, where the one before is of
-    /// another lane.
-    fn add(
-        &mut self,
-        group: Option<Group>,
-        lane: u32,
-        written: Written,
-    ) -> Result<Option<Group>, AllocError> {
-        let start = number(self.written.len());
-        self.written.push(written)?;
-        let end = start.saturating_add(1);
-        match group {
-            Some(group) if group.lane == lane => Ok(Some(Group { end, ..group })),
-            Some(group) => {
-                self.groups.push(group)?;
-                Ok(Some(Group { lane, start, end }))
-            }
-            None => Ok(Some(Group { lane, start, end })),
+    /// The node of a reader.
+    pub fn node(&self, reader: Reader) -> u32 {
+        at(&self.starts, reader.lane)
+            .saturating_add(reader.place)
+            .saturating_sub(1)
+    }
+
+    /// The places of the writers of these versions.
+    pub fn places(&self, start: u32, end: u32) -> &[u32] {
+        match self.places.as_slice().get(start as usize..end as usize) {
+            Some(places) => places,
+            None => &[],
         }
     }
 
-    /// The versions of a group.
-    pub fn written_in(&self, group: Group) -> &[Written] {
-        let range = group.start as usize..group.end as usize;
-        match self.written.as_slice().get(range) {
-            Some(written) => written,
-            None => &[],
-        }
+    /// The place of the writer of a version.
+    pub fn place(&self, version: u32) -> u32 {
+        at(&self.places, version)
     }
 }

@@ -1,6 +1,5 @@
 //! Strongly connected components of the points at which a sweep is stuck.
 
-use crate::circles::edge_at;
 use crate::known::Graph;
 use crate::lists::{Lists, NONE, at, number, put};
 use std::alloc::{AllocError, Global};
@@ -118,7 +117,7 @@ impl Descent<'_> {
                 Some(edge) => {
                     let next = next.saturating_add(1);
                     self.calls.push(Call { point, next })?;
-                    self.look(point, edge_at(self.graph, *edge).from)?;
+                    self.look(point, self.graph.edge(*edge).from)?;
                 }
                 None => self.leave(point)?,
             }

@@ -1,6 +1,6 @@
 //! Lanes: which sessions follow each other, by what is known, and share one.
 
-use crate::clocks::{Swept, grow, start_of};
+use crate::clocks::{Swept, grow, start_of, waits_of};
 use crate::known::{Graph, NOWHERE, Point};
 use crate::lists::{Entry, Lists, NONE, add, at, lists_of, number, put};
 use crate::rearranged::{rearrange_graph, rearrange_versions};
@@ -162,12 +162,10 @@ impl Sharing {
 
 /// The sources of edges by their targets.
 fn points_before(alloc: Global, graph: &Graph) -> Result<Lists<u32>, AllocError> {
-    let mut entries = Vec::with_capacity(alloc, graph.edges.len())?;
-    for edge in &graph.edges {
-        entries.push(Entry {
-            list: edge.to,
-            item: edge.from,
-        })?;
+    let mut entries = Vec::with_capacity(alloc, graph.known.len())?;
+    for pair in &graph.known {
+        let (list, item) = (pair.item, pair.list);
+        entries.push(Entry { list, item })?;
     }
     lists_of(alloc, graph.count(), &entries)
 }
@@ -197,8 +195,8 @@ enum Shared {
 /// Gives lanes to sessions: one that begins behind the end of another takes over its lane.
 fn share(alloc: Global, graph: &Graph, spans: Vec<Span>) -> Result<Shared, AllocError> {
     let before = points_before(alloc, graph)?;
-    let targets = lists_of(alloc, graph.count(), &graph.hops(alloc)?)?;
-    let mut swept = start_of(alloc, graph)?;
+    let targets = lists_of(alloc, graph.count(), &graph.known)?;
+    let mut swept = start_of(alloc, waits_of(alloc, graph)?)?;
     let mut sharing = Sharing {
         of_nodes: spans_of_nodes(alloc, graph.nodes, &spans)?,
         spans,
@@ -223,7 +221,7 @@ fn share(alloc: Global, graph: &Graph, spans: Vec<Span>) -> Result<Shared, Alloc
 }
 
 impl Graph {
-    /// Puts nodes and times where they stand, where nodes are by lane.
+    /// Puts nodes where they stand, where they are by lane.
     fn place_points(&mut self, alloc: Global, spans: &[Span]) -> Result<(), AllocError> {
         let mut points = Vec::with_capacity(alloc, self.points.len())?;
         for span in spans {
@@ -235,14 +233,6 @@ impl Graph {
                     place: place.saturating_add(1),
                 })?;
             }
-        }
-        let lane = self.lanes;
-        for time in 0..self.times {
-            let place = time.saturating_add(1);
-            points.push(Point { lane, place })?;
-        }
-        if self.times > 0 {
-            self.lanes = lane.saturating_add(1);
         }
         for _ in points.len()..self.points.len() {
             points.push(NOWHERE)?;

@@ -78,13 +78,13 @@ pub fn rearrange_graph(alloc: Global, graph: &mut Graph, order: &[u32]) -> Resul
     for (i, node) in order.iter().enumerate() {
         put(numbers.as_mut_slice(), *node, number(i));
     }
-    for edge in graph.edges.iter_mut() {
-        let (from, to) = (at(&numbers, edge.from), at(&numbers, edge.to));
+    for pair in graph.known.iter_mut() {
+        let (from, to) = (at(&numbers, pair.list), at(&numbers, pair.item));
         if from != NONE {
-            edge.from = from;
+            pair.list = from;
         }
         if to != NONE {
-            edge.to = to;
+            pair.item = to;
         }
     }
     Ok(())

@@ -1,10 +1,12 @@
 //! Rules are applied until nothing comes of them.
 
 use crate::by_lane::ByLane;
-use crate::clocks::{Clocks, copy_row, sweep};
+use crate::clocks::{Clocks, copy_row, sweep, waits_of};
+use crate::hops::Hops;
 use crate::known::{Edge, Graph};
-use crate::lists::{Entry, at, lists_of, number, put};
-use crate::rules::{Facts, Share, found_in};
+use crate::lists::{Entry, add, at, lists_of, number, put};
+use crate::rules::Facts;
+use crate::scanning::{Share, found_in, shares};
 use crate::versions::Versions;
 use crate::watch::Watch;
 use progress::{Progress, Stage};
@@ -18,8 +20,13 @@ use std::time::Clock;
 #[derive(Drop)]
 pub struct Known {
     pub graph: Graph,
+    pub hops: Hops,
+    /// Of each point how many edges lead to it.
+    pub degrees: Vec<u32>,
     pub clocks: Clocks,
     pub order: Vec<u32>,
+    /// How many edges had been found when the points were put in this order.
+    swept: usize,
 }
 
 /// What comes of the rules.
@@ -32,32 +39,23 @@ pub enum Saturated {
     TimeIsUp,
 }
 
-/// The nodes by lane, in so many shares or fewer.
-fn shares(alloc: Global, graph: &Graph, workers: u8) -> Result<Vec<Share>, AllocError> {
-    let size = graph.nodes / u32::from(workers.max(1));
-    let mut shares = Vec::new(alloc);
-    let mut start = 0;
-    for node in 1..graph.nodes {
-        let is_first = graph.point(node).place == 1;
-        if is_first && node.saturating_sub(start) >= size {
-            shares.push(Share { start, end: node })?;
-            start = node;
-        }
-    }
-    let end = graph.nodes;
-    shares.push(Share { start, end })?;
-    Ok(shares)
-}
+/// One edge in so many nodes, or fewer, are few.
+const NODES_TO_ONE: usize = 128;
+/// So many passes at most are made in the order of the last sweep.
+const PASSES: usize = 8;
 
 impl Known {
-    /// What a graph shows.
-    pub fn new(alloc: Global, graph: Graph) -> Result<Known, AllocError> {
-        let clocks = Clocks::new(alloc, &graph)?;
-        let order = Vec::new(alloc);
+    /// What a graph shows. Its edges by number go: there are many, and `hops` has them by source.
+    pub fn new(alloc: Global, mut graph: Graph, hops: Hops) -> Result<Known, AllocError> {
+        let degrees = waits_of(alloc, &graph)?;
+        graph.known = Vec::new(alloc);
         Ok(Known {
+            hops,
+            degrees,
+            clocks: Clocks::new(alloc, &graph)?,
+            order: Vec::new(alloc),
+            swept: 0,
             graph,
-            clocks,
-            order,
         })
     }
 
@@ -69,8 +67,74 @@ impl Known {
         }
         copy_row(row, self.clocks.row(edge.from));
         self.clocks.raise_by(edge.to, row);
-        self.graph.edges.push(edge)?;
+        add(self.degrees.as_mut_slice(), edge.to, 1);
+        self.graph.found.push(edge)?;
         Ok(())
+    }
+
+    /// Tells those behind points of their rows, where these grew, in the order of the last sweep.
+    fn pass(&mut self, row: &mut [u32]) {
+        for point in &self.order {
+            if self.clocks.take_fresh(*point) {
+                copy_row(row, self.clocks.row(*point));
+                self.clocks.tell(self.hops.known(*point), row);
+                self.clocks.tell(self.hops.found(*point), row);
+            }
+        }
+    }
+
+    /// Brings clocks up to date in few passes, where that can be.
+    fn spread(&mut self, alloc: Global) -> Result<bool, AllocError> {
+        let mut row = vec![in alloc; 0; self.clocks.lanes()]?;
+        for _ in 0..PASSES {
+            self.pass(row.as_mut_slice());
+            if !self.clocks.is_one_fresh() {
+                return Ok(true);
+            }
+        }
+        Ok(false)
+    }
+
+    /// Whether one of the edges from one on is on a circle, where clocks are up to date.
+    fn is_circular(&self, first: usize) -> bool {
+        for edge in self.graph.found.iter().skip(first) {
+            let to = self.graph.point(edge.to);
+            if self.clocks.is_behind(edge.from, to) {
+                return true;
+            }
+        }
+        false
+    }
+
+    /// Brings clocks up to date by all points. Gives the waits of points where there is a circle.
+    fn sweep_all(&mut self, alloc: Global) -> Result<Option<Vec<u32>>, AllocError> {
+        let swept = sweep(alloc, &self.hops, &self.degrees, &mut self.clocks)?;
+        if swept.order.len() < self.graph.points.len() {
+            return Ok(Some(swept.waits));
+        }
+        self.order = swept.order;
+        self.swept = self.graph.found.len();
+        Ok(None)
+    }
+
+    /// Puts points in topological order once more, where edges were found since the last sweep. There
+    /// is no circle.
+    fn renew_order(&mut self, alloc: Global) -> Result<(), AllocError> {
+        if self.swept < self.graph.found.len() {
+            self.sweep_all(alloc)?;
+        }
+        Ok(())
+    }
+
+    /// Brings clocks up to date, where the edges from one on are new: in the order of the last sweep
+    /// where they are few, else by another one. Gives the waits of points where there is a circle.
+    fn update(&mut self, alloc: Global, first: usize) -> Result<Option<Vec<u32>>, AllocError> {
+        let added = self.graph.found.len().saturating_sub(first);
+        let is_few = added > 0 && added <= self.graph.points.len() / NODES_TO_ONE;
+        if is_few && self.spread(alloc)? && !self.is_circular(first) {
+            return Ok(None);
+        }
+        self.sweep_all(alloc)
     }
 
     /// Adds what was found: edges from points that come late first, since others often follow.
@@ -91,14 +155,14 @@ impl Known {
         Ok(())
     }
 
-    /// A round: what the rules say of each node whose row grew, each share in a thread of its own.
-    fn apply_rules<R: Threads + Sync>(
+    /// A round: what the rules say of each node whose row grew, each share of the keys in a thread of
+    /// its own.
+    fn apply_rules<R: Threads + Clock + Eprint + Sync, P: Progress>(
         &mut self,
-        rt: &R,
+        watch: &Watch<'_, R, P>,
         alloc: Global,
         versions: &Versions,
         by_lane: &ByLane,
-        shares: &[Share],
     ) -> Result<(), AllocError> {
         let facts = Facts {
             versions,
@@ -106,7 +170,8 @@ impl Known {
             graph: &self.graph,
             clocks: &self.clocks,
         };
-        let found = found_by_all(rt, alloc, facts, shares)?;
+        let shares = shares(alloc, facts, watch.workers.get())?;
+        let found = found_by_all(watch.rt, alloc, facts, &shares)?;
         self.clocks.clear_grown();
         self.add_found(alloc, &joined(alloc, found)?)
     }
@@ -119,23 +184,25 @@ impl Known {
         versions: &Versions,
         by_lane: &ByLane,
     ) -> Result<Saturated, AllocError> {
-        let shares = shares(alloc, &self.graph, watch.workers.get())?;
+        let mut first = 0;
         for round in 1..usize::MAX {
             if watch.is_over() {
                 return Ok(Saturated::TimeIsUp);
             }
             watch.tell(Stage::Round(round));
-            let swept = sweep(alloc, &self.graph, &mut self.clocks)?;
-            if swept.order.len() < self.graph.points.len() {
-                return Ok(Saturated::Circle(swept.waits));
+            if let Some(waits) = self.update(alloc, first)? {
+                return Ok(Saturated::Circle(waits));
             }
-            self.order = swept.order;
-            let stood = self.graph.edges.len();
-            self.apply_rules(watch.rt, alloc, versions, by_lane, &shares)?;
-            if self.graph.edges.len() == stood {
+            let found = self.graph.found.len();
+            self.graph.rounds.push(number(found))?;
+            self.apply_rules(watch, alloc, versions, by_lane)?;
+            if self.graph.found.len() == found {
                 break;
             }
+            self.hops.renew(alloc, &self.graph)?;
+            first = found;
         }
+        self.renew_order(alloc)?;
         Ok(Saturated::Whole)
     }
 }
@@ -157,12 +224,16 @@ fn joined(
     let mut all = Vec::new(alloc);
     for part in found {
         let mut part = part?;
-        all.append(&mut part)?;
+        if all.is_empty() {
+            all = part;
+        } else {
+            all.append(&mut part)?;
+        }
     }
     Ok(all)
 }
 
-/// What the rules say of the nodes of each share.
+/// What the rules say of the keys of each share.
 fn found_by_all<R: Threads + Sync>(
     rt: &R,
     alloc: Global,

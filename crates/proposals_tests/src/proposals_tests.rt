@@ -133,6 +133,70 @@ fn lost_update(rt: &impl Abort, alloc: Global) -> Vec<Session> {
     both(rt, alloc, one, other)
 }
 
+/// Adds a transaction alone in its session.
+fn add(rt: &impl Abort, alloc: Global, all: &mut Vec<Session>, number: u16, one: Op, other: Op) {
+    let new = txn(rt, alloc, one, other, Outcome::Commit);
+    all.push(session(rt, alloc, number, new))
+        .expect(rt, "memory");
+}
+
+/// Adds one that writes a key.
+fn add_writer(
+    rt: &impl Abort,
+    alloc: Global,
+    all: &mut Vec<Session>,
+    number: u16,
+    name: &str,
+    wid: u64,
+) {
+    let (one, other) = (write(rt, alloc, name, wid), read(rt, alloc, "z", 0));
+    add(rt, alloc, all, number, one, other);
+}
+
+/// Adds one that reads x and y.
+fn add_reader(rt: &impl Abort, alloc: Global, all: &mut Vec<Session>, number: u16, x: u64, y: u64) {
+    let (one, other) = (read(rt, alloc, "x", x), read(rt, alloc, "y", y));
+    add(rt, alloc, all, number, one, other);
+}
+
+/// Four that read all four pairs of two versions of x and two of y, behind one that writes another
+/// key.
+fn crossed(rt: &impl Abort, alloc: Global) -> Vec<Session> {
+    let mut all = Vec::new(alloc);
+    add_writer(rt, alloc, &mut all, 1, "w", 5);
+    add_writer(rt, alloc, &mut all, 2, "x", 1);
+    add_writer(rt, alloc, &mut all, 3, "x", 2);
+    add_writer(rt, alloc, &mut all, 4, "y", 3);
+    add_writer(rt, alloc, &mut all, 5, "y", 4);
+    add_reader(rt, alloc, &mut all, 6, 1, 3);
+    add_reader(rt, alloc, &mut all, 7, 1, 4);
+    add_reader(rt, alloc, &mut all, 8, 2, 3);
+    add_reader(rt, alloc, &mut all, 9, 2, 4);
+    all
+}
+
+/// Whether this is the part of all transactions but the first.
+fn is_all_but_first(proposal: &Proposal) -> bool {
+    match proposal {
+        Proposal::Part(flags) => {
+            flags.len() == 9
+                && flags[0].as_slice() == [false].as_slice()
+                && flags[1..]
+                    .iter()
+                    .all(|list| list.as_slice() == [true].as_slice())
+        }
+        _ => false,
+    }
+}
+
+#[test]
+fn crossed_reads_are_a_part(rt: HostRuntime) {
+    let alloc = rt.alloc();
+    let all = crossed(&rt, alloc);
+    let proposal = proposed(&rt, alloc, &all, &none(alloc));
+    assert!(rt; is_all_but_first(&proposal));
+}
+
 #[test]
 fn an_order_is_found(rt: HostRuntime) {
     let alloc = rt.alloc();

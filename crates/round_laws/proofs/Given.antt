@@ -24,7 +24,7 @@ use Rattle.log_laws.proofs.Identities.{ops_of_nodes, committed_within, one_write
 use Rattle.log_laws.proofs.Txns.{AreLearnt, numbers_of, split}
 use Rattle.level_laws.specs.Snapshot.{snapshot_reads, snapshot_reads_behind, is_in}
 use Rattle.round_laws.specs.Rounds.{Keeper, Leads, itself, by_session, by_read, is_fence, is_value, bare, bare_node, map_behind, values}
-use Rattle.round_laws.proofs.Comes.{Comes, Carries, carried, wider, comes_trans, LeftAs}
+use Rattle.round_laws.proofs.Comes.{Comes}
 use Rattle.round_laws.proofs.Comes as comes
 use Rattle.round_laws.proofs.Joined.{placed, opens_at, bare_at, bare_nodes, one_at, not_true}
 

@@ -1,14 +1,18 @@
--- The laws of runs of many rounds, by repetition.
-use Rattle.std.proofs.Common.{ℕ, List, [], ◌∷◌, inl, inr}
+-- The laws of runs of many rounds, by repetition. They hold of each kind of order that those of two hold of.
+use Rattle.std.proofs.Common.{◌≡◌, ℕ, Bool, List, [], ◌∷◌, inl, inr, subst}
 use Rattle.std.specs.List.{AllByRecursion}
 use Rattle.log_definitions.specs.Serial.{committed_in}
+use Rattle.log_definitions.proofs.Renumbered.{Orders}
 use Rattle.log_definitions.proofs.Settled.{IsLearnt}
-use Rattle.log_laws.specs.Logs.{IsSoundLog, IsLearntLog}
+use Rattle.log_definitions.proofs.OnlyTaken.{orders_from_serial, serial_from_orders}
+use Rattle.log_laws.specs.Logs.{IsSoundLog, IsLearntLog, HasOrder}
 use Rattle.log_laws.proofs.Txns.{joined as join_each}
-use Rattle.round_laws.specs.Rounds.{Keeper, run_of_two, IsClosed, IsLeft, values, IsSeam, IsInTime}
-use Rattle.round_laws.specs.Runs.{Round, run_of, IsRound, IsHeld, first_leaves, newest_leaves, others_leave, AreRounds, OrdersOfRun, OrderOfRounds, SnapshotsOfRun, SnapshotOfRounds}
+use Rattle.level_laws.specs.Snapshot.{HasPointOrder}
+use Rattle.level_laws.proofs.Resolved.{of_same_nodes}
+use Rattle.round_laws.specs.Rounds.{Keeper, run_of_two, IsClosed, IsLeft, values, IsSeam, IsInTime, BothOfRun, RunOfBoth}
+use Rattle.round_laws.specs.Runs.{Round, run_of, IsRound, IsHeld, first_leaves, newest_leaves, others_leave, AreRounds, EachOfRun, RunOfEach}
 use Rattle.round_laws.proofs.Serial.{pair_of, orders_of_rounds, order_of_run}
-use Rattle.round_laws.proofs.Snapshots.{snapshots_of_rounds, snapshot_of_run}
+use Rattle.round_laws.proofs.Snapshots.{points_of_rounds, points_of_run}
 use Rattle.round_laws.proofs.Steps.{closed_run, still_left, newly_left, in_time_run}
 
 -- ---- what holds of a run
@@ -70,29 +74,31 @@ in_time : (keeper : Keeper) (r e third : Round) (earlier : List Round) → AreRo
 in_time keeper r e third [] h t = t.0
 in_time keeper r e third (x ∷ earlier) h t = in_time_run keeper (run_of keeper (x ∷ earlier)) e third (seam_of keeper e x earlier h) (in_time keeper r x third earlier h.0 t.1) t.0
 
+-- ---- kinds of order
+pub record IsKind (P : Round → Type 0) : Type 0 where
+  pub both : BothOfRun P
+  pub run : RunOfBoth P
+  pub same : (one two : Round) → committed_in one ≡ committed_in two → P one → P two
+
+serial_same : (one two : Round) → committed_in one ≡ committed_in two → HasOrder one → HasOrder two
+serial_same one two e h = (h.0, serial_from_orders two h.0 (subst (λ nodes. Orders nodes h.0) e (orders_from_serial one h.0 h.1)))
+
+pub serial : IsKind HasOrder
+serial = record { both = orders_of_rounds; run = order_of_run; same = serial_same }
+
+pub points : (locked : Bool) → IsKind (HasPointOrder locked)
+points locked = record { both = points_of_rounds locked; run = points_of_run locked; same = of_same_nodes }
+
 -- ---- the laws
-pub orders_of_run : OrdersOfRun
-orders_of_run keeper [] h o = absurd h
-orders_of_run keeper (r ∷ []) h o = (o, tt)
-orders_of_run keeper (r ∷ e ∷ earlier) h o =
-    let two = orders_of_rounds keeper (run_of keeper (e ∷ earlier)) r (seam_of keeper r e earlier h) o in
-    (two.1, orders_of_run keeper (e ∷ earlier) h.0 two.0)
+pub each_of_run : {P : Round → Type 0} → IsKind P → EachOfRun P
+each_of_run kind keeper [] h o = absurd h
+each_of_run kind keeper (r ∷ []) h o = (o, tt)
+each_of_run kind keeper (r ∷ e ∷ earlier) h o =
+    let two = kind.both keeper (run_of keeper (e ∷ earlier)) r (seam_of keeper r e earlier h) o in
+    (two.1, each_of_run kind keeper (e ∷ earlier) h.0 two.0)
 
-pub snapshots_of_run : SnapshotsOfRun
-snapshots_of_run keeper [] h o = absurd h
-snapshots_of_run keeper (r ∷ []) h o = (o, tt)
-snapshots_of_run keeper (r ∷ e ∷ earlier) h o =
-    let two = snapshots_of_rounds keeper (run_of keeper (e ∷ earlier)) r (seam_of keeper r e earlier h) o in
-    (two.1, snapshots_of_run keeper (e ∷ earlier) h.0 two.0)
-
-pub order_of_rounds : OrderOfRounds
-order_of_rounds keeper [] h t o = absurd h
-order_of_rounds keeper (r ∷ []) h t o = o.0
-order_of_rounds keeper (r ∷ e ∷ earlier) h t o =
-    order_of_run keeper (run_of keeper (e ∷ earlier)) r (seam_of keeper r e earlier h) (in_time keeper r e r earlier h.0 t.0) (order_of_rounds keeper (e ∷ earlier) h.0 t.1 o.1) o.0
-
-pub snapshot_of_rounds : SnapshotOfRounds
-snapshot_of_rounds keeper [] h t o = absurd h
-snapshot_of_rounds keeper (r ∷ []) h t o = o.0
-snapshot_of_rounds keeper (r ∷ e ∷ earlier) h t o =
-    snapshot_of_run keeper (run_of keeper (e ∷ earlier)) r (seam_of keeper r e earlier h) (in_time keeper r e r earlier h.0 t.0) (snapshot_of_rounds keeper (e ∷ earlier) h.0 t.1 o.1) o.0
+pub run_of_each : {P : Round → Type 0} → IsKind P → RunOfEach P
+run_of_each kind keeper [] h t o = absurd h
+run_of_each kind keeper (r ∷ []) h t o = o.0
+run_of_each kind keeper (r ∷ e ∷ earlier) h t o =
+    kind.run keeper (run_of keeper (e ∷ earlier)) r (seam_of keeper r e earlier h) (in_time keeper r e r earlier h.0 t.0) (run_of_each kind keeper (e ∷ earlier) h.0 t.1 o.1) o.0

@@ -1,5 +1,5 @@
 -- The nodes of split logs: names of locks, what the two halves of a node do, and what comes before what.
-use Rattle.std.proofs.Common.{◌≡◌, ◌≢◌, ◌⊎◌, ℕ, ◌<◌, true, false, List, [], ◌∷◌, ◌++◌, map, None, refl, sym, ap, ◌∙◌, subst, inl, inr, arith}
+use Rattle.std.proofs.Common.{◌≡◌, ◌≢◌, ◌⊎◌, ℕ, ◌<◌, Bool, true, false, List, [], ◌∷◌, ◌++◌, map, None, refl, sym, ap, ◌∙◌, subst, inl, inr, arith}
 use Rattle.std.specs.List.{flat_map, AllByRecursion, Contains}
 use Rattle.std.specs.Str.{bytes_eq}
 use Rattle.std.proofs.lemmas.Bool.{cases_Bool, false≢true}
@@ -34,7 +34,6 @@ use Rattle.round_laws.proofs.Given.{writes_replay}
 
 -- ---- names that are new to all these operations
 pub record Names (locks : Locks) (all : List Op) : Type 0 where
-  pub taken : locks.taken ≡ true
   pub new_key : (o p : Op) → Contains all o → Contains all p → locks.key (key_of o) ≢ key_of p
   pub one_key : (o p : Op) → Contains all o → Contains all p → locks.key (key_of o) ≡ locks.key (key_of p) → key_of o ≡ key_of p
   pub new_identity : (k l : List ℕ) (v w : ℕ) → Contains all (Write k v) → Contains all (Write l w) → locks.identity v ≢ w
@@ -65,11 +64,11 @@ zero_log = record { number = 0; txns = record { ops = Write [] 0 ∷ []; outcome
 pub ops_append : (xs ys : List ClientSession) → ops_in (xs ++ ys) ≡ ops_in xs ++ ops_in ys
 ops_append xs ys = ap (flat_map (λ (t : Transaction). t.ops)) (flat_map-append (λ (s : ClientSession). s.txns) xs ys) ∙ flat_map-append (λ (t : Transaction). t.ops) (txns_in xs) (txns_in ys)
 
-pub some_names : (first second : List ClientSession) → (locks : Locks) × Names locks (ops_in first ++ ops_in second)
-some_names first second = (
+pub some_names : (taken : Bool) (first second : List ClientSession) → (locks : Locks) × (locks.taken ≡ taken) × Names locks (ops_in first ++ ops_in second)
+some_names taken first second = (
   locks,
+  (some_are_fresh big taken).1,
   record {
-    taken = (some_are_fresh big true).1;
     new_key = λ o p c d. fresh.new_key (key_of o) (key_of p) (has_key big o (within o c)) (has_key big p (within p d));
     one_key = λ o p c d. fresh.one_key (key_of o) (key_of p) (has_key big o (within o c)) (has_key big p (within p d));
     new_identity = λ k l v w c d. fresh.new_identity v w (has_written big k v (within (Write k v) c)) (has_written big l w (within (Write l w) d));
@@ -94,10 +93,10 @@ some_names first second = (
     zero = subst (λ l. Contains l (Write [] 0)) (sym is) (Contains-append_right (ops_in first ++ ops_in second) (Write [] 0 ∷ []) (Write [] 0) (0, omega arith, refl))
 
     locks : Locks
-    locks = (some_are_fresh big true).0
+    locks = (some_are_fresh big taken).0
 
     fresh : AreFresh locks big
-    fresh = (some_are_fresh big true).2
+    fresh = (some_are_fresh big taken).2
 
 -- ---- what the two halves do
 no_writes : (ops : List Op) (key : List ℕ) (wid : ℕ) → Contains (snapshot_reads ops) (Write key wid) → ⊥
@@ -109,8 +108,8 @@ snapshot_within ops o c = member (Contains ops) (snapshot_reads ops) o (each_sna
 rest_within : (ops : List Op) (o : Op) → Contains (rest ops) o → Contains ops o
 rest_within ops o c = member (Contains ops) (rest ops) o (each_rest (Contains ops) ops (themselves ops)) c
 
-lock_within : (locks : Locks) (ops : List Op) (q : List ℕ × ℕ) → Contains (locked_writes locks ops) q → Contains ops (Write q.0 q.1)
-lock_within locks ops q c = member (λ (q : List ℕ × ℕ). Contains ops (Write q.0 q.1)) (locked_writes locks ops) q (each_locked (Contains ops) locks ops (themselves ops)) c
+locked_within : (locks : Locks) (ops : List Op) (q : List ℕ × ℕ) → Contains (locked_writes locks ops) q → Contains ops (Write q.0 q.1)
+locked_within locks ops q c = member (λ (q : List ℕ × ℕ). Contains ops (Write q.0 q.1)) (locked_writes locks ops) q (each_locked (Contains ops) locks ops (themselves ops)) c
 
 -- a lock is taken
 pub record Takes (locks : Locks) (ops : List Op) (key : List ℕ) (wid : ℕ) : Type 0 where
@@ -138,7 +137,7 @@ start_writes locks ops key wid c = elim (Contains-append_cases (snapshot_reads o
   | inr d ↦
       let q = of_mapped (take_lock locks) (locked_writes locks ops) (Write key wid) d in
       let is = taken_key locks q.0 key wid q.2 in
-      record { named = q.0.0; own = q.0.1; has = lock_within locks ops q.0 q.1; key_is = is.0; identity_is = is.1 }
+      record { named = q.0.0; own = q.0.1; has = locked_within locks ops q.0 q.1; key_is = is.0; identity_is = is.1 }
 ]
 
 pub start_reads : (locks : Locks) (ops : List Op) (key : List ℕ) (wid : ℕ) → Contains (start_ops locks ops) (Read key wid) → Contains ops (Read key wid)
@@ -399,7 +398,7 @@ halves_replay locks all names m ops sub h =
     start = subst (Replays m) (sym start_is) (writes_replay m takes (takes_write qs))
 
     known : AllByRecursion (λ (q : List ℕ × ℕ). Contains all (Write q.0 q.1)) qs
-    known = each_member (λ (q : List ℕ × ℕ). Contains all (Write q.0 q.1)) qs (λ q c. sub (Write q.0 q.1) (lock_within locks ops q c))
+    known = each_member (λ (q : List ℕ × ℕ). Contains all (Write q.0 q.1)) qs (λ q c. sub (Write q.0 q.1) (locked_within locks ops q c))
 
     found : Replays behind_start finds
     found = subst (λ l. Replays (after m l) finds) (sym start_is) (finds_replay locks qs (after m takes) (find_after locks qs m (pairs_where locks all names qs known (locked_once locks ops))))

@@ -1,5 +1,5 @@
--- The law of two rounds for snapshot orders: that for serial orders, of the halves of their nodes.
-use Rattle.std.proofs.Common.{◌≡◌, ◌≢◌, ◌⊎◌, ℕ, ◌+◌, ◌*◌, ◌-◌, ◌<◌, ◌≤◌, true, false, eqb, not, List, [], ◌∷◌, ◌++◌, map, refl, sym, ap, ◌∙◌, subst, inl, inr, arith, append-nil, eqb-true}
+-- The law of two rounds for snapshot and prefix orders: that for serial orders, of the halves of their nodes.
+use Rattle.std.proofs.Common.{◌≡◌, ◌≢◌, ◌⊎◌, ℕ, ◌+◌, ◌*◌, ◌-◌, ◌<◌, ◌≤◌, Bool, true, false, eqb, not, List, [], ◌∷◌, ◌++◌, map, refl, sym, ap, ◌∙◌, subst, inl, inr, arith, append-nil, eqb-true}
 use Rattle.std.specs.Prelude.{◌↔◌, nat_le}
 use Rattle.std.specs.List.{filter, AllByRecursion, Contains}
 use Rattle.std.proofs.lemmas.Bool.{cases_Bool, false≢true, and_parts}
@@ -16,7 +16,7 @@ use Rattle.log_definitions.specs.Serial.{Committed, Map, initial, Replays}
 use Rattle.log_definitions.proofs.Members.{member}
 use Rattle.log_definitions.proofs.Settled.{IsLearnt}
 use Rattle.log_laws.proofs.Sessions.{Firsts, nodes_of, unshift, early, early_is, late_is}
-use Rattle.log_laws.specs.Logs.{IsSoundLog, IsLearntLog, HasOrder}
+use Rattle.log_laws.specs.Logs.{IsSoundLog, IsLearntLog}
 use Rattle.log_laws.proofs.Lines.{MayPrecede, IsLine, ops_along}
 use Rattle.log_laws.proofs.Lists.{of_kept, of_mapped, of_flat, op_of_node, NodeWith, node_with, first_or_behind, test_le}
 use Rattle.log_laws.proofs.Replay.{after, had_or_written}
@@ -24,11 +24,11 @@ use Rattle.log_laws.proofs.Moments.{Alone}
 use Rattle.log_laws.proofs.Identities.{ops_of_nodes, committed_within, ordered_node}
 use Rattle.log_laws.proofs.Txns.{numbers_of, split as split_each, joined as join_each}
 use Rattle.log_laws.proofs.Shifted.{HasLine, line_where_same, line_where_order}
-use Rattle.level_laws.specs.Snapshot.{snapshot_reads, HasPointOrder, HasSnapshotOrder}
+use Rattle.level_laws.specs.Snapshot.{snapshot_reads, HasPointOrder}
 use Rattle.level_laws.specs.Split.{Locks, AreFresh, start_ops, end_ops, split}
 use Rattle.level_laws.proofs.Nodes.{start_node, end_node, both_nodes, split_nodes, split_learnt}
 use Rattle.level_laws.proofs.Orders.{snapshot_by_split, never_later}
-use Rattle.round_laws.specs.Rounds.{Keeper, Leads, is_fence, is_value, bare_node, run_of_two, values, IsInTime, SnapshotsOfRounds, SnapshotOfRun}
+use Rattle.round_laws.specs.Rounds.{Keeper, Leads, is_fence, is_value, bare_node, run_of_two, values, IsInTime, BothOfRun, RunOfBoth}
 use Rattle.round_laws.proofs.Comes.{Comes, by_session, itself, Carries, carried, wider, comes_trans, LeftAs}
 use Rattle.round_laws.proofs.Two.{IsAlike, Rounds, rounds_of_whole, whole_of_rounds}
 use Rattle.round_laws.proofs.Joined.{first_early, placed, cut_of, opens_at, not_true}
@@ -37,14 +37,14 @@ use Rattle.round_laws.proofs.Serial.{Pair, pair_of, placed_second, closing_in, c
 use Rattle.round_laws.proofs.Names.{Names, fresh_where, some_names, start_writes, start_reads, end_writes, end_reads, end_has, halves, which_half, has_start, has_end, half_in, halves_within, alone_halves, ArePlaced, from_start, across, left_halves, halves_replay, halves_leave}
 use Rattle.round_laws.proofs.Operations.{run_ops}
 
--- ---- a log has a snapshot order exactly where the halves of its nodes have a line
+-- ---- a log has an order of points exactly where the halves of its nodes have a line
 split_numbers : (locks : Locks) (ss : List ClientSession) → numbers_of (split locks ss) ≡ numbers_of ss
 split_numbers locks [] = refl
 split_numbers locks (s ∷ ss) = ap (λ l. s.number ∷ l) (split_numbers locks ss)
 
-snapshot_line : (locks : Locks) (ss : List ClientSession) → IsSoundLog ss → IsLearntLog ss → AreFresh locks ss → locks.taken ≡ true → (HasSnapshotOrder ss ↔ HasLine initial (halves locks (nodes_of ss)))
-snapshot_line locks ss sound learnt fresh taken =
-    let by_split = subst (λ b. HasPointOrder b ss ↔ HasOrder (split locks ss)) taken (snapshot_by_split ss locks sound learnt fresh) in
+snapshot_line : (locks : Locks) (ss : List ClientSession) → IsSoundLog ss → IsLearntLog ss → AreFresh locks ss → (HasPointOrder locks.taken ss ↔ HasLine initial (halves locks (nodes_of ss)))
+snapshot_line locks ss sound learnt fresh =
+    let by_split = snapshot_by_split ss locks sound learnt fresh in
     let lines = line_where_order (split locks ss) (split_each IsLearnt (split locks ss) (split_learnt locks ss learnt)) (subst Apart (sym (split_numbers locks ss)) (apart_of ss sound)) in
     ((λ h. subst (HasLine initial) (split_nodes locks ss) (lines.0 (by_split.0 h))), λ l. by_split.1 (lines.1 (subst (HasLine initial) (sym (split_nodes locks ss)) l)))
 
@@ -381,9 +381,9 @@ in_halves keeper first second locks o names p = record {
 
 -- ---- orders and lines
 record Lines (keeper : Keeper) (first second : List ClientSession) (locks : Locks) (o : Committed) : Type 0 where
-  pub run : HasSnapshotOrder (run_of_two keeper first second) ↔ HasLine initial (halves locks (nodes_of first) ++ map (unshift (twice (cut_of first))) (halves locks ((bare_node keeper o ∷ []) ++ rest_nodes keeper second)))
-  pub one : HasSnapshotOrder first ↔ HasLine initial (halves locks (nodes_of first))
-  pub two : HasSnapshotOrder second ↔ HasLine initial (halves locks ((o ∷ []) ++ rest_nodes keeper second))
+  pub run : HasPointOrder locks.taken (run_of_two keeper first second) ↔ HasLine initial (halves locks (nodes_of first) ++ map (unshift (twice (cut_of first))) (halves locks ((bare_node keeper o ∷ []) ++ rest_nodes keeper second)))
+  pub one : HasPointOrder locks.taken first ↔ HasLine initial (halves locks (nodes_of first))
+  pub two : HasPointOrder locks.taken second ↔ HasLine initial (halves locks ((o ∷ []) ++ rest_nodes keeper second))
 
 lines : (keeper : Keeper) (first second : List ClientSession) (locks : Locks) (o : Committed) → Names locks (whole_ops first second) → Pair keeper first second o → Lines keeper first second locks o
 lines keeper first second locks o names p = record {
@@ -391,7 +391,7 @@ lines keeper first second locks o names p = record {
     (λ h. subst (HasLine initial) (sym whole_is) (line_where_same initial (halves locks (nodes_of run)) (halves locks whole) (λ n. (halves_within locks (nodes_of run) whole (λ m. (p.whole m).0) n, halves_within locks whole (nodes_of run) (λ m. (p.whole m).1) n)) (of_run.0 h))),
     (λ l. of_run.1 (line_where_same initial (halves locks whole) (halves locks (nodes_of run)) (λ n. (halves_within locks whole (nodes_of run) (λ m. (p.whole m).1) n, halves_within locks (nodes_of run) whole (λ m. (p.whole m).0) n)) (subst (HasLine initial) whole_is l))),
   );
-  one = snapshot_line locks first p.seam.sound_first p.seam.learnt_first (fresh_where locks all first names (λ q c. Contains-append_left (ops_in first) (ops_in second) q c)) names.taken;
+  one = snapshot_line locks first p.seam.sound_first p.seam.learnt_first (fresh_where locks all first names (λ q c. Contains-append_left (ops_in first) (ops_in second) q c));
   two = (
     (λ h. line_where_same initial (halves locks (nodes_of second)) (halves locks full_nodes) (λ n. (halves_within locks (nodes_of second) full_nodes (λ m. (same m).0) n, halves_within locks full_nodes (nodes_of second) (λ m. (same m).1) n)) (of_second.0 h)),
     (λ l. of_second.1 (line_where_same initial (halves locks full_nodes) (halves locks (nodes_of second)) (λ n. (halves_within locks full_nodes (nodes_of second) (λ m. (same m).1) n, halves_within locks (nodes_of second) full_nodes (λ m. (same m).0) n)) l)),
@@ -422,11 +422,11 @@ lines keeper first second locks o names p = record {
     whole_is : halves locks (nodes_of first) ++ map (unshift (twice cut)) (halves locks both) ≡ halves locks whole
     whole_is = ap (λ l. halves locks (nodes_of first) ++ l) (halves_unshifted locks cut both (placed_second keeper first second o p)) ∙ sym (flat_map-append (both_nodes locks) (nodes_of first) (map (unshift cut) both))
 
-    of_run : HasSnapshotOrder run ↔ HasLine initial (halves locks (nodes_of run))
-    of_run = snapshot_line locks run p.seam.sound (join_each IsLearnt run p.learnt) (fresh_where locks all run names (run_ops keeper first second)) names.taken
+    of_run : HasPointOrder locks.taken run ↔ HasLine initial (halves locks (nodes_of run))
+    of_run = snapshot_line locks run p.seam.sound (join_each IsLearnt run p.learnt) (fresh_where locks all run names (run_ops keeper first second))
 
-    of_second : HasSnapshotOrder second ↔ HasLine initial (halves locks (nodes_of second))
-    of_second = snapshot_line locks second p.seam.sound_second p.seam.learnt_second (fresh_where locks all second names (λ q c. Contains-append_right (ops_in first) (ops_in second) q c)) names.taken
+    of_second : HasPointOrder locks.taken second ↔ HasLine initial (halves locks (nodes_of second))
+    of_second = snapshot_line locks second p.seam.sound_second p.seam.learnt_second (fresh_where locks all second names (λ q c. Contains-append_right (ops_in first) (ops_in second) q c))
 
 half_times : (locks : Locks) (a c x y : Committed) → Contains (both_nodes locks a) x → Contains (both_nodes locks c) y → is_earlier c.ended a.begun ≡ false → is_earlier y.ended x.begun ≡ false
 half_times locks a c x y d e time = elim (which_half locks c y e) [
@@ -455,23 +455,25 @@ apart keeper first second locks o p time x y c d =
       half_times locks a.0 e.0 x m.0 a.2 e.2 (may_precede keeper first second o p time a.0 e.0 a.1 e.1),
     )
 
-pub snapshots_of_rounds : SnapshotsOfRounds
-snapshots_of_rounds keeper first second s h =
+pub points_of_rounds : (locked : Bool) → BothOfRun (HasPointOrder locked)
+points_of_rounds locked keeper first second s =
     let o = s.opened.opening in
     let p = pair_of keeper first second s in
     let cut = cut_of first in
-    let named = some_names first second in
+    let named = some_names locked first second in
     let locks = named.0 in
-    let l = lines keeper first second locks o named.1 p in
-    let both = rounds_of_whole (halves locks (nodes_of first)) (halves locks (o ∷ [])) (halves locks (bare_node keeper o ∷ [])) (halves locks (rest_nodes keeper second)) (values keeper o) (twice cut) (early (twice cut)) (opens_at keeper 2) (in_halves keeper first second locks o named.1 p) (l.run.0 h) in
-    (l.one.1 both.0, l.two.1 both.1)
+    let l = lines keeper first second locks o named.2 p in
+    subst (λ b. HasPointOrder b (run_of_two keeper first second) → HasPointOrder b first × HasPointOrder b second) named.1 (λ h. (
+    let both = rounds_of_whole (halves locks (nodes_of first)) (halves locks (o ∷ [])) (halves locks (bare_node keeper o ∷ [])) (halves locks (rest_nodes keeper second)) (values keeper o) (twice cut) (early (twice cut)) (opens_at keeper 2) (in_halves keeper first second locks o named.2 p) (l.run.0 h) in
+    (l.one.1 both.0, l.two.1 both.1)))
 
-pub snapshot_of_run : SnapshotOfRun
-snapshot_of_run keeper first second s time h k =
+pub points_of_run : (locked : Bool) → RunOfBoth (HasPointOrder locked)
+points_of_run locked keeper first second s time =
     let o = s.opened.opening in
     let p = pair_of keeper first second s in
     let cut = cut_of first in
-    let named = some_names first second in
+    let named = some_names locked first second in
     let locks = named.0 in
-    let l = lines keeper first second locks o named.1 p in
-    l.run.1 (whole_of_rounds (halves locks (nodes_of first)) (halves locks (o ∷ [])) (halves locks (bare_node keeper o ∷ [])) (halves locks (rest_nodes keeper second)) (values keeper o) (twice cut) (early (twice cut)) (opens_at keeper 2) (in_halves keeper first second locks o named.1 p) (apart keeper first second locks o p time) (l.one.0 h) (l.two.0 k))
+    let l = lines keeper first second locks o named.2 p in
+    subst (λ b. HasPointOrder b first → HasPointOrder b second → HasPointOrder b (run_of_two keeper first second)) named.1
+    (λ h k. l.run.1 (whole_of_rounds (halves locks (nodes_of first)) (halves locks (o ∷ [])) (halves locks (bare_node keeper o ∷ [])) (halves locks (rest_nodes keeper second)) (values keeper o) (twice cut) (early (twice cut)) (opens_at keeper 2) (in_halves keeper first second locks o named.2 p) (apart keeper first second locks o p time) (l.one.0 h) (l.two.0 k)))

@@ -13,18 +13,17 @@ use Rattle.log_definitions.specs.WellFormed.{written}
 use Rattle.log_definitions.specs.Serial.{Committed, committed_of, committed_in}
 use Rattle.log_definitions.proofs.Members.{each_weaker, each_member}
 use Rattle.log_definitions.proofs.Settled.{IsLearnt}
-use Rattle.log_laws.specs.Logs.{IsSoundLog, IsLearntLog, HasOrder}
+use Rattle.log_laws.specs.Logs.{IsSoundLog, IsLearntLog}
 use Rattle.log_laws.proofs.Lists.{of_mapped}
 use Rattle.log_laws.proofs.Sessions.{nodes_from, nodes_of}
-use Rattle.level_laws.specs.Snapshot.{HasSnapshotOrder}
 use Rattle.level_laws.specs.Without.{without, session_without, without_moments}
 use Rattle.level_laws.proofs.Without.{resolved_without}
 use Rattle.round_laws.specs.Rounds.{Keeper, Leads, bare_txns, bare, bare_node, txns_at, has_number, joined, run_of_two, IsClosed, IsOpened, IsReadLast, IsLeft, values, IsInTime}
-use Rattle.round_laws.specs.Runs.{Round, run_of, IsRound, IsHeld, first_leaves, newest_leaves, others_leave, Fits, AreRounds, AreInTime, OrdersWithoutMoments, SnapshotsWithoutMoments}
+use Rattle.round_laws.specs.Runs.{Round, run_of, IsRound, IsHeld, first_leaves, newest_leaves, others_leave, Fits, AreRounds, AreInTime, RunAsEach}
 use Rattle.round_laws.proofs.Given.{Leading, leads_carried, learnt_of, bare_set}
 use Rattle.round_laws.proofs.Joined.{bare_learnt}
 use Rattle.log_laws.proofs.Shifted.{nodes_are}
-use Rattle.round_laws.proofs.Many.{orders_of_run, order_of_rounds, snapshots_of_run, snapshot_of_rounds}
+use Rattle.round_laws.proofs.Many.{IsKind, each_of_run, run_of_each}
 
 -- ---- transactions and nodes
 txns_without : (ss : List ClientSession) → txns_in (without_moments ss) ≡ map without (txns_in ss)
@@ -242,18 +241,10 @@ to_each : (P : Round → Type 0) (rounds : List Round) → AllByRecursion P (map
 to_each P [] h = tt
 to_each P (r ∷ rs) h = (h.0, to_each P rs h.1)
 
-pub orders_without_moments : OrdersWithoutMoments
-orders_without_moments keeper rounds h =
+pub run_as_each : {P : Round → Type 0} → IsKind P → RunAsEach P
+run_as_each {P = P} kind keeper rounds h =
     let timeless = map without_moments rounds in
     let are = rounds_without keeper rounds h in (
-      (λ o. to_each HasOrder rounds (orders_of_run keeper timeless are (subst HasOrder (sym (run_without keeper rounds)) o))),
-      λ o. subst HasOrder (run_without keeper rounds) (order_of_rounds keeper timeless are (all_in_time rounds) (each_from_map HasOrder without_moments rounds o)),
-    )
-
-pub snapshots_without_moments : SnapshotsWithoutMoments
-snapshots_without_moments keeper rounds h =
-    let timeless = map without_moments rounds in
-    let are = rounds_without keeper rounds h in (
-      (λ o. to_each HasSnapshotOrder rounds (snapshots_of_run keeper timeless are (subst HasSnapshotOrder (sym (run_without keeper rounds)) o))),
-      λ o. subst HasSnapshotOrder (run_without keeper rounds) (snapshot_of_rounds keeper timeless are (all_in_time rounds) (each_from_map HasSnapshotOrder without_moments rounds o)),
+      (λ o. to_each P rounds (each_of_run kind keeper timeless are (subst P (sym (run_without keeper rounds)) o))),
+      λ o. subst P (run_without keeper rounds) (run_of_each kind keeper timeless are (all_in_time rounds) (each_from_map P without_moments rounds o)),
     )

@@ -10,7 +10,7 @@ use Rattle.session_log.specs.declared.session.Op.TheVariants.{Read, Write}
 use Rattle.log_definitions.specs.Unknown.{committed_ops}
 use Rattle.log_definitions.specs.Serial.{Committed, committed_in, Map, initial, set}
 use Rattle.log_laws.specs.Logs.{IsSoundLog, IsLearntLog, HasOrder}
-use Rattle.level_laws.specs.Snapshot.{snapshot_reads, HasSnapshotOrder}
+use Rattle.level_laws.specs.Snapshot.{snapshot_reads, HasSnapshotOrder, HasPrefixOrder}
 
 -- the number of the keeper's session, and the key of its fence
 pub record Keeper : Type 0 where
@@ -154,27 +154,36 @@ abbrev pub IsInTime : List ClientSession → List ClientSession → Type 0
 IsInTime first second = (a b : Committed) → Contains (committed_in first) a
     → Contains (committed_in second) b → is_earlier b.ended a.begun ≡ false
 
--- ---- the laws
+-- ---- the laws, of a kind of order
 
--- where the run has a serial order, both rounds have one
-abbrev pub OrdersOfRounds : Type 0
-OrdersOfRounds = (keeper : Keeper) (first second : List ClientSession)
-    → IsSeam keeper first second → HasOrder (run_of_two keeper first second)
-    → HasOrder first × HasOrder second
+-- where the run has one, both rounds have one
+abbrev pub BothOfRun : (List ClientSession → Type 0) → Type 0
+BothOfRun HasOne = (keeper : Keeper) (first second : List ClientSession)
+    → IsSeam keeper first second → HasOne (run_of_two keeper first second)
+    → HasOne first × HasOne second
 
 -- and the other way round
-abbrev pub OrderOfRun : Type 0
-OrderOfRun = (keeper : Keeper) (first second : List ClientSession) → IsSeam keeper first second
-    → IsInTime first second → HasOrder first → HasOrder second
-    → HasOrder (run_of_two keeper first second)
+abbrev pub RunOfBoth : (List ClientSession → Type 0) → Type 0
+RunOfBoth HasOne = (keeper : Keeper) (first second : List ClientSession)
+    → IsSeam keeper first second → IsInTime first second → HasOne first → HasOne second
+    → HasOne (run_of_two keeper first second)
 
--- the same for snapshot orders
+-- ---- of serial, snapshot and prefix orders
+
+abbrev pub OrdersOfRounds : Type 0
+OrdersOfRounds = BothOfRun HasOrder
+
 abbrev pub SnapshotsOfRounds : Type 0
-SnapshotsOfRounds = (keeper : Keeper) (first second : List ClientSession)
-    → IsSeam keeper first second → HasSnapshotOrder (run_of_two keeper first second)
-    → HasSnapshotOrder first × HasSnapshotOrder second
+SnapshotsOfRounds = BothOfRun HasSnapshotOrder
+
+abbrev pub PrefixesOfRounds : Type 0
+PrefixesOfRounds = BothOfRun HasPrefixOrder
+
+abbrev pub OrderOfRun : Type 0
+OrderOfRun = RunOfBoth HasOrder
 
 abbrev pub SnapshotOfRun : Type 0
-SnapshotOfRun = (keeper : Keeper) (first second : List ClientSession) → IsSeam keeper first second
-    → IsInTime first second → HasSnapshotOrder first → HasSnapshotOrder second
-    → HasSnapshotOrder (run_of_two keeper first second)
+SnapshotOfRun = RunOfBoth HasSnapshotOrder
+
+abbrev pub PrefixOfRun : Type 0
+PrefixOfRun = RunOfBoth HasPrefixOrder

@@ -6,7 +6,7 @@ use Rattle.session_log.specs.declared.session.Op.TheVariants.{Read, Write}
 use Rattle.log_definitions.specs.Unknown.{committed_ops}
 use Rattle.log_definitions.specs.Serial.{committed_in}
 use Rattle.log_laws.specs.Logs.{IsSoundLog, IsLearntLog, HasOrder}
-use Rattle.level_laws.specs.Snapshot.{HasSnapshotOrder}
+use Rattle.level_laws.specs.Snapshot.{HasSnapshotOrder, HasPrefixOrder}
 use Rattle.level_laws.specs.Without.{without_moments}
 use Rattle.round_laws.specs.Rounds.{Keeper, bare, run_of_two, IsClosed, IsOpened}
 use Rattle.round_laws.specs.Rounds.{IsReadLast, IsLeft, values, IsInTime}
@@ -59,35 +59,50 @@ abbrev pub AreInTime : List Round → Type 0
 AreInTime [] = Unit {0}
 AreInTime (r ∷ earlier) = AllByRecursion (λ e. IsInTime e r) earlier × AreInTime earlier
 
--- ---- the laws
+-- ---- the laws, of a kind of order
 
--- where a run has a serial order, each of its rounds has one, and the other way round
+-- where the run has one, each of its rounds has one
+abbrev pub EachOfRun : (Round → Type 0) → Type 0
+EachOfRun HasOne = (keeper : Keeper) (rounds : List Round) → AreRounds keeper rounds
+    → HasOne (run_of keeper rounds) → AllByRecursion HasOne rounds
+
+-- and the other way round
+abbrev pub RunOfEach : (Round → Type 0) → Type 0
+RunOfEach HasOne = (keeper : Keeper) (rounds : List Round) → AreRounds keeper rounds
+    → AreInTime rounds → AllByRecursion HasOne rounds → HasOne (run_of keeper rounds)
+
+-- Without moments no more is asked than that they are rounds: the run has one exactly where each
+-- round has one.
+abbrev pub RunAsEach : (Round → Type 0) → Type 0
+RunAsEach HasOne = (keeper : Keeper) (rounds : List Round) → AreRounds keeper rounds →
+    (HasOne (without_moments (run_of keeper rounds))
+    ↔ AllByRecursion (λ r. HasOne (without_moments r)) rounds)
+
+-- ---- of serial, snapshot and prefix orders
+
 abbrev pub OrdersOfRun : Type 0
-OrdersOfRun = (keeper : Keeper) (rounds : List Round) → AreRounds keeper rounds
-    → HasOrder (run_of keeper rounds) → AllByRecursion HasOrder rounds
+OrdersOfRun = EachOfRun HasOrder
+
+abbrev pub SnapshotsOfRun : Type 0
+SnapshotsOfRun = EachOfRun HasSnapshotOrder
+
+abbrev pub PrefixesOfRun : Type 0
+PrefixesOfRun = EachOfRun HasPrefixOrder
 
 abbrev pub OrderOfRounds : Type 0
-OrderOfRounds = (keeper : Keeper) (rounds : List Round) → AreRounds keeper rounds
-    → AreInTime rounds → AllByRecursion HasOrder rounds → HasOrder (run_of keeper rounds)
-
--- the same for snapshot orders
-abbrev pub SnapshotsOfRun : Type 0
-SnapshotsOfRun = (keeper : Keeper) (rounds : List Round) → AreRounds keeper rounds
-    → HasSnapshotOrder (run_of keeper rounds) → AllByRecursion HasSnapshotOrder rounds
+OrderOfRounds = RunOfEach HasOrder
 
 abbrev pub SnapshotOfRounds : Type 0
-SnapshotOfRounds = (keeper : Keeper) (rounds : List Round) → AreRounds keeper rounds
-    → AreInTime rounds → AllByRecursion HasSnapshotOrder rounds
-    → HasSnapshotOrder (run_of keeper rounds)
+SnapshotOfRounds = RunOfEach HasSnapshotOrder
 
--- Without moments no more is asked than that they are rounds: the run has an order exactly where
--- each round has one.
+abbrev pub PrefixOfRounds : Type 0
+PrefixOfRounds = RunOfEach HasPrefixOrder
+
 abbrev pub OrdersWithoutMoments : Type 0
-OrdersWithoutMoments = (keeper : Keeper) (rounds : List Round) → AreRounds keeper rounds →
-    (HasOrder (without_moments (run_of keeper rounds))
-    ↔ AllByRecursion (λ r. HasOrder (without_moments r)) rounds)
+OrdersWithoutMoments = RunAsEach HasOrder
 
 abbrev pub SnapshotsWithoutMoments : Type 0
-SnapshotsWithoutMoments = (keeper : Keeper) (rounds : List Round) → AreRounds keeper rounds →
-    (HasSnapshotOrder (without_moments (run_of keeper rounds))
-    ↔ AllByRecursion (λ r. HasSnapshotOrder (without_moments r)) rounds)
+SnapshotsWithoutMoments = RunAsEach HasSnapshotOrder
+
+abbrev pub PrefixesWithoutMoments : Type 0
+PrefixesWithoutMoments = RunAsEach HasPrefixOrder

@@ -5,7 +5,7 @@ use Rattle.session_log.specs.Text.{ClientSession, Transaction, is_write}
 use Rattle.session_log.specs.declared.session.Outcome.TheVariants.{Commit}
 use Rattle.log_definitions.specs.Unknown.{is_unknown, taken, resolved}
 use Rattle.log_laws.specs.Logs.{HasOrder}
-use Rattle.level_laws.specs.Snapshot.{HasSnapshotOrder}
+use Rattle.level_laws.specs.Snapshot.{HasSnapshotOrder, HasPrefixOrder}
 use Rattle.level_laws.specs.Without.{without_moments}
 use Rattle.round_laws.specs.Rounds.{Keeper}
 use Rattle.round_laws.specs.Runs.{Round, run_of, AreRounds, AreInTime}
@@ -32,38 +32,50 @@ abbrev pub ResolvedRun : Type 0
 ResolvedRun = (keeper : Keeper) (rounds : List Round) → AllByRecursion (IsSettled keeper) rounds
     → resolved (run_of keeper rounds) ≡ run_of keeper (map resolved rounds)
 
--- so the laws hold of them
-abbrev pub OrdersOfUnknown : Type 0
-OrdersOfUnknown = (keeper : Keeper) (rounds : List Round)
+-- so the laws of a kind of order hold of them
+abbrev pub EachOfUnknown : (Round → Type 0) → Type 0
+EachOfUnknown HasOne = (keeper : Keeper) (rounds : List Round)
     → AllByRecursion (IsSettled keeper) rounds → AreRounds keeper (map resolved rounds)
-    → HasOrder (run_of keeper rounds) → AllByRecursion HasOrder rounds
+    → HasOne (run_of keeper rounds) → AllByRecursion HasOne rounds
 
-abbrev pub OrderOfUnknown : Type 0
-OrderOfUnknown = (keeper : Keeper) (rounds : List Round)
+abbrev pub RunOfUnknown : (Round → Type 0) → Type 0
+RunOfUnknown HasOne = (keeper : Keeper) (rounds : List Round)
     → AllByRecursion (IsSettled keeper) rounds → AreRounds keeper (map resolved rounds)
-    → AreInTime (map resolved rounds) → AllByRecursion HasOrder rounds
-    → HasOrder (run_of keeper rounds)
-
-abbrev pub SnapshotsOfUnknown : Type 0
-SnapshotsOfUnknown = (keeper : Keeper) (rounds : List Round)
-    → AllByRecursion (IsSettled keeper) rounds → AreRounds keeper (map resolved rounds)
-    → HasSnapshotOrder (run_of keeper rounds) → AllByRecursion HasSnapshotOrder rounds
-
-abbrev pub SnapshotOfUnknown : Type 0
-SnapshotOfUnknown = (keeper : Keeper) (rounds : List Round)
-    → AllByRecursion (IsSettled keeper) rounds → AreRounds keeper (map resolved rounds)
-    → AreInTime (map resolved rounds) → AllByRecursion HasSnapshotOrder rounds
-    → HasSnapshotOrder (run_of keeper rounds)
+    → AreInTime (map resolved rounds) → AllByRecursion HasOne rounds
+    → HasOne (run_of keeper rounds)
 
 -- and without moments
-abbrev pub OrdersOfUnknownWithout : Type 0
-OrdersOfUnknownWithout = (keeper : Keeper) (rounds : List Round)
+abbrev pub UnknownAsEach : (Round → Type 0) → Type 0
+UnknownAsEach HasOne = (keeper : Keeper) (rounds : List Round)
     → AllByRecursion (IsSettled keeper) rounds → AreRounds keeper (map resolved rounds) →
-    (HasOrder (without_moments (run_of keeper rounds))
-    ↔ AllByRecursion (λ r. HasOrder (without_moments r)) rounds)
+    (HasOne (without_moments (run_of keeper rounds))
+    ↔ AllByRecursion (λ r. HasOne (without_moments r)) rounds)
+
+-- ---- of serial, snapshot and prefix orders
+
+abbrev pub OrdersOfUnknown : Type 0
+OrdersOfUnknown = EachOfUnknown HasOrder
+
+abbrev pub SnapshotsOfUnknown : Type 0
+SnapshotsOfUnknown = EachOfUnknown HasSnapshotOrder
+
+abbrev pub PrefixesOfUnknown : Type 0
+PrefixesOfUnknown = EachOfUnknown HasPrefixOrder
+
+abbrev pub OrderOfUnknown : Type 0
+OrderOfUnknown = RunOfUnknown HasOrder
+
+abbrev pub SnapshotOfUnknown : Type 0
+SnapshotOfUnknown = RunOfUnknown HasSnapshotOrder
+
+abbrev pub PrefixOfUnknown : Type 0
+PrefixOfUnknown = RunOfUnknown HasPrefixOrder
+
+abbrev pub OrdersOfUnknownWithout : Type 0
+OrdersOfUnknownWithout = UnknownAsEach HasOrder
 
 abbrev pub SnapshotsOfUnknownWithout : Type 0
-SnapshotsOfUnknownWithout = (keeper : Keeper) (rounds : List Round)
-    → AllByRecursion (IsSettled keeper) rounds → AreRounds keeper (map resolved rounds) →
-    (HasSnapshotOrder (without_moments (run_of keeper rounds))
-    ↔ AllByRecursion (λ r. HasSnapshotOrder (without_moments r)) rounds)
+SnapshotsOfUnknownWithout = UnknownAsEach HasSnapshotOrder
+
+abbrev pub PrefixesOfUnknownWithout : Type 0
+PrefixesOfUnknownWithout = UnknownAsEach HasPrefixOrder

@@ -14,7 +14,7 @@ use desk::gate::Gate;
 use desk::seat_no::Workers;
 use formula_search::{Found, search_formula};
 use order_cnf::{CnfFault, Formula};
-use session_history::{History, NodeLine};
+use session_history::{History, NodeIx, NodeLine};
 use std::alloc::{AllocError, Global};
 use std::sync::Wait;
 use std::thread::Threads;
@@ -44,12 +44,13 @@ fn solve_formula(
     formula: &Formula,
     _plain: bool,
     budget: u32,
+    nodes: &mut Vec<NodeIx>,
 ) -> Result<Solution, AllocError>
     requires belongs { IsFormulaOf _plain _history.now (cnf_of formula.now) }
     requires faithful { IsFaithful _history.now (cnf_of formula.now) }
     ensures solves { IfOk result (Solves _plain _history.now) }
 {
-    match search_formula(alloc, formula, budget)? {
+    match search_formula(alloc, formula, budget, nodes)? {
         Found::Refuted => Ok(Solution::Refuted),
         Found::Satisfied(values) => Ok(Solution::Serial(order_of(alloc, formula, &values)?)),
         Found::Spent => Ok(Solution::Spent),
@@ -62,7 +63,6 @@ fn solve_formula(
 ///
 /// # Errors
 /// Those of the formula: a limit that it exceeds, or want of memory.
-#[tactic(auto, using(crate::proofs::Solving::belongs_so))]
 pub fn solve_history<R: Threads + Wait + Clock + Sync, G: Gate>(
     rt: &R,
     alloc: Global,
@@ -75,6 +75,28 @@ pub fn solve_history<R: Threads + Wait + Clock + Sync, G: Gate>(
     ensures solves { IfOk result (Solves plain history.now) }
     ensures fault { IfErr result (IsFormulaFault plain history.now) }
 {
+    let mut nodes = Vec::new(alloc);
+    solve_nodes(rt, alloc, history, plain, budget, workers, gate, &mut nodes)
+}
+
+/// The same; and where the formula is refuted, nodes that show it, as far as they are known.
+///
+/// # Errors
+/// Those of the formula: a limit that it exceeds, or want of memory.
+#[tactic(auto, using(crate::proofs::Solving::belongs_so))]
+pub fn solve_nodes<R: Threads + Wait + Clock + Sync, G: Gate>(
+    rt: &R,
+    alloc: Global,
+    history: &History,
+    plain: bool,
+    budget: u32,
+    workers: Workers,
+    gate: &G,
+    nodes: &mut Vec<NodeIx>,
+) -> Result<Solution, CnfFault>
+    ensures solves { IfOk result (Solves plain history.now) }
+    ensures fault { IfErr result (IsFormulaFault plain history.now) }
+{
     let belonging = formula_of(rt, alloc, history, plain, workers, gate)?;
-    Ok(solve_formula(alloc, history, &belonging.formula, plain, budget)?)
+    Ok(solve_formula(alloc, history, &belonging.formula, plain, budget, nodes)?)
 }

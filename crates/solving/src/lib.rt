@@ -6,5 +6,5 @@
 mod history;
 mod solution;
 
-pub use history::solve_history;
+pub use history::{solve_history, solve_nodes};
 pub use solution::Solution;

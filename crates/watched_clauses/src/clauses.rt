@@ -4,6 +4,7 @@ ghost use Rattle.std.specs.Prelude.{ℕ};
 ghost use Rattle.watched_clauses.specs.Extends.{Extends};
 
 use crate::code::Code;
+use crate::grounds::Grounds;
 use crate::steps::take_hinted;
 use crate::store::Store;
 use crate::trail::Trail;
@@ -17,6 +18,8 @@ use std::alloc::{AllocError, Global};
 pub struct WatchedClauses {
     pub store: Store,
     pub trail: Trail,
+    /// By which clauses the checker took its steps.
+    pub grounds: Grounds,
     watches: Watches,
     // a clause all of whose literals are false by the roots
     contradiction: Option<u32>,
@@ -39,6 +42,7 @@ impl WatchedClauses {
         Ok(WatchedClauses {
             store: Store::new(alloc),
             trail: Trail::new(alloc, variables)?,
+            grounds: Grounds::new(alloc),
             watches: Watches::new(alloc, variables)?,
             contradiction: None,
             settled: 0,
@@ -184,6 +188,7 @@ impl WatchedClauses {
         if take_hinted(checker, &[code.literal()], &self.hints)? {
             self.trail.set_reason(code, Some(number));
             self.skip()?;
+            self.grounds.put(number as usize, &self.hints)?;
         }
         Ok(())
     }

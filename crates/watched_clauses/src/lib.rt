@@ -12,6 +12,7 @@
 
 mod clauses;
 mod code;
+mod grounds;
 mod steps;
 mod store;
 mod trail;
@@ -19,6 +20,7 @@ mod watches;
 
 pub use clauses::WatchedClauses;
 pub use code::{Code, places};
+pub use grounds::Grounds;
 pub use steps::take_hinted;
 pub use store::Store;
 pub use trail::Trail;
