@@ -234,7 +234,7 @@ public final class Recorder implements AutoCloseable {
     private final Set<Session> sessions = new HashSet<>();
     private Set<Integer> taken = new HashSet<>();
     private final List<Part> late = new ArrayList<>();
-    private final List<String> told = new ArrayList<>();
+    private final List<String> dropped = new ArrayList<>();
     private Part fences;
     private Thread keeper;
     private Throwable fault;
@@ -365,7 +365,15 @@ public final class Recorder implements AutoCloseable {
         if (count("waited for") > 0)
             found.add(count("waited for") + " times a client did not come to the end of a round within " + options.patience
                     + " seconds, and the recorder wrote its fence");
-        found.addAll(told);
+        String unread = "what %d transactions of unknown outcome wrote was read by nobody%s: %s";
+        if (count("dropped") > 0)
+            found.add(String.format(unread, count("dropped"), " in " + CARRIED + " rounds, so they are carried no more", String.join(", ", dropped)));
+        if (!carried.isEmpty()) {
+            List<String> names = new ArrayList<>();
+            for (Unlearnt it : carried.subList(0, Math.min(10, carried.size())))
+                names.add(it.name);
+            found.add(String.format(unread, carried.size(), "", String.join(", ", names)));
+        }
         if (!leftOpen.isEmpty())
             found.add("transactions were open when their thread or the run ended, and are unknown: "
                     + String.join(", ", leftOpen.subList(0, Math.min(10, leftOpen.size()))));
@@ -571,8 +579,6 @@ public final class Recorder implements AutoCloseable {
         if (fault instanceof IOException)
             throw (IOException) fault;
         checkFault();
-        for (Unlearnt it : carried)
-            told.add("nobody read what " + it.name + " wrote, whose outcome is unknown");
         Files.write(path.resolve("end"), (lastRound + "\n").getBytes(StandardCharsets.US_ASCII));
     }
 
@@ -628,7 +634,7 @@ public final class Recorder implements AutoCloseable {
                     rest(left);
                 pause = Math.min(2 * pause, 1000);
                 double passed = (System.nanoTime() - began) / 1e9;
-                if (passed > options.patience * (closed ? 1 : PATIENCE))
+                if (passed > (closed ? Math.max(options.patience, 10) : options.patience * PATIENCE))
                     throw new Unseen(what + ", for " + (long) passed + " seconds");
             }
         }
@@ -894,9 +900,11 @@ public final class Recorder implements AutoCloseable {
         synchronized (this) {
             carried = new ArrayList<>();
             for (Unlearnt it : unknown) {
-                if (!took.contains(it) && it.round <= its.number - CARRIED)
-                    told.add("nobody read what " + it.name + " wrote, whose outcome is unknown, in " + CARRIED + " rounds: it is carried no more");
-                else if (!took.contains(it))
+                if (!took.contains(it) && it.round <= its.number - CARRIED) {
+                    add("dropped", 1);
+                    if (dropped.size() < 10)
+                        dropped.add(it.name);
+                } else if (!took.contains(it))
                     carried.add(it);
                 else if (it.round == its.number)
                     for (String line : it.lines)

@@ -152,7 +152,7 @@ type Recorder struct {
 	sessions  map[*Session]bool
 	taken     map[int]bool
 	late      []*part
-	told      []string
+	dropped   []string
 	fences    *part
 	fault     error
 	ended     chan bool
@@ -373,7 +373,17 @@ func (run *Recorder) worthLittle() []string {
 	if counts["waited for"] > 0 {
 		warn("%d times a client did not come to the end of a round within %g seconds, and the recorder wrote its fence", counts["waited for"], run.options.Patience.Seconds())
 	}
-	found = append(found, run.told...)
+	unread := "what %d transactions of unknown outcome wrote was read by nobody%s: %s"
+	if counts["dropped"] > 0 {
+		warn(unread, counts["dropped"], fmt.Sprintf(" in %d rounds, so they are carried no more", mostCarried), strings.Join(run.dropped, ", "))
+	}
+	if len(run.carried) > 0 {
+		names := []string{}
+		for _, it := range run.carried[:min(10, len(run.carried))] {
+			names = append(names, it.name)
+		}
+		warn(unread, len(run.carried), "", strings.Join(names, ", "))
+	}
 	if len(run.leftOpen) > 0 {
 		warn("transactions were open when their thread or the run ended, and are unknown: %s", strings.Join(run.leftOpen[:min(10, len(run.leftOpen))], ", "))
 	}
@@ -642,9 +652,6 @@ func (run *Recorder) endRounds() error {
 	if run.fault != nil {
 		return run.fault
 	}
-	for _, it := range run.carried {
-		run.told = append(run.told, fmt.Sprintf("nobody read what %s wrote, whose outcome is unknown", it.name))
-	}
 	return os.WriteFile(filepath.Join(run.path, "end"), []byte(fmt.Sprintf("%d\n", run.lastRound)), 0o666)
 }
 
@@ -688,6 +695,8 @@ func (run *Recorder) tries(form string, words ...any) func() {
 		most := run.options.Patience
 		if !run.closed {
 			most *= mostPatience
+		} else if most < 10*time.Second {
+			most = 10 * time.Second
 		}
 		if time.Since(began) > most {
 			panic(Unseen(fmt.Sprintf(form, words...) + fmt.Sprintf(", for %d seconds", int(time.Since(began).Seconds()))))
@@ -954,7 +963,8 @@ func (run *Recorder) writeRound(its *round, folder string, paths []string, closi
 	run.carried = nil
 	for _, it := range unknown {
 		if !taken[it] && it.round <= its.number-mostCarried {
-			run.told = append(run.told, fmt.Sprintf("nobody read what %s wrote, whose outcome is unknown, in %d rounds: it is carried no more", it.name, mostCarried))
+			run.counts["dropped"]++
+			run.dropped = append(run.dropped, it.name)[:min(10, len(run.dropped)+1)]
 		} else if !taken[it] {
 			run.carried = append(run.carried, it)
 		}

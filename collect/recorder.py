@@ -22,8 +22,9 @@ BUFFER = 4096
 KEEPER, FENCE = MAX_SESSION, 'fence/'
 # So many rounds a transaction of unknown outcome is carried into, as long as nobody reads what it wrote.
 CARRIED = 10
-# What the store did not do at once is asked for again after so many seconds, and for so many times a client's patience.
-AGAIN, PATIENCE = 0.02, 30
+# What the store did not do at once is asked for again after so many seconds, and for so many times a client's patience; once the recorder is
+# closed, for so many seconds at least.
+AGAIN, PATIENCE, LATE = 0.02, 30, 10
 PLAIN_KEY = re.compile(rb'(?!hex:|sha:)[A-Za-z0-9_.:/-]{1,64}\Z')
 
 
@@ -202,8 +203,8 @@ class Recorder:
         self._turn = threading.Condition()
         self._numbers, self._parts, self._idle = itertools.count(*self._share), [], []
         self._open, self._taken = {}, set()
-        self._counts, self._strange, self._left_open, self._told, self._warnings = collections.Counter(), None, [], [], None
-        self._sessions, self._late, self._last_round = [], [], 0
+        self._counts, self._strange, self._left_open, self._warnings = collections.Counter(), None, [], None
+        self._carried, self._dropped, self._sessions, self._late, self._last_round, self._labels = [], [], [], [], 0, []
         self._closed, self._process = False, os.getpid()
         self._durable, self._rounds, self._transact, self._patience, self._bound = durable, rounds, transact, patience, bound
         if rounds:
@@ -291,6 +292,11 @@ class Recorder:
         atexit.unregister(self._at_exit)
         self._check_free_path('; this run is in ' + new)
         os.replace(new, self.path)
+        if self._labels:
+            with open(self.path + '.labels', 'w', encoding='utf-8', newline='\n') as out:
+                out.writelines(self._labels)
+        elif self._may_replace and os.path.exists(self.path + '.labels'):
+            os.remove(self.path + '.labels')  # of the log that stood there
         shutil.rmtree(self._folder, ignore_errors=True)
 
     def _worth_little(self):
@@ -320,7 +326,10 @@ class Recorder:
         if counts['waited for']:
             yield '%d times a client did not come to the end of a round within %g seconds, and the recorder wrote its fence' % (
                 counts['waited for'], self._patience)
-        yield from self._told
+        for count, names, more in (counts['dropped'], self._dropped, ' in %d rounds, so they are carried no more' % CARRIED), (
+                len(self._carried), [it.name for it in self._carried[:10]], ''):
+            if count:
+                yield 'what %d transactions of unknown outcome wrote was read by nobody%s: %s' % (count, more, ', '.join(names))
         if self._left_open:
             yield 'transactions were open when their thread or the run ended, and are unknown: ' + ', '.join(self._left_open[:10])
 
@@ -399,7 +408,7 @@ class Recorder:
                 its = os.path.join(self.path, name)
                 shutil.rmtree(its) if os.path.isdir(its) else os.remove(its)
         # what keys hold behind the last closing; transactions of unknown outcome that nobody read yet; by how much fences have other keys
-        self._held, self._carried, self._worn, self._fault, self._fences = {}, [], {}, None, _Part(0, self.path, self._share)
+        self._held, self._worn, self._fault, self._fences = {}, {}, None, _Part(0, self.path, self._share)
         self._begin_round(1)
         self._keeper = threading.Thread(target=self._keep, name='keeper of rounds', daemon=True)
         self._keeper.start()
@@ -414,8 +423,8 @@ class Recorder:
 
     def _keep(self):
         try:
+            self._open_round()
             while True:
-                self._open_round()
                 with self._turn:
                     self._turn.wait_for(lambda: self._round.is_due or self._closed)
                     round, folder = self._round, self._folder
@@ -428,8 +437,12 @@ class Recorder:
                         part.flush()
                     if not self._closed:
                         self._begin_round(round.number + 1)
+                is_last = self._round is round
+                if not is_last:
+                    self._open_round()
+                # what became known of the round is written while the next one goes on
                 self._write_round(round, folder, closings, unknown)
-                if self._round is round:
+                if is_last:
                     return
         except BaseException as fault:
             with self._turn:
@@ -448,8 +461,6 @@ class Recorder:
             raise self._fault
         with open(os.path.join(self.path, 'end'), 'w') as file:
             file.write('%d\n' % self._last_round)
-        for it in self._carried:
-            self._told.append('nobody read what %s wrote, whose outcome is unknown' % it.name)
 
     def _enter(self, txn):
         """Begins a transaction; in rounds when its client has come into one that is open."""
@@ -497,7 +508,7 @@ class Recorder:
         while not is_late:
             yield
             time.sleep(pause)
-            pause, is_late = min(2 * pause, 1), time.monotonic() - began > self._patience * (1 if self._closed else PATIENCE)
+            pause, is_late = min(2 * pause, 1), time.monotonic() - began > (max(self._patience, LATE) if self._closed else self._patience * PATIENCE)
         raise Unseen('%s, for %d seconds' % (what, time.monotonic() - began))
 
     def _put_fence(self, number, part, transact, is_over=lambda: False):
@@ -660,7 +671,8 @@ class Recorder:
         taken = self._taken_in(paths, [line for lines, _ in closings for line in lines], round, unknown)
         self._carried = [it for it in unknown if it not in taken]
         for it in [it for it in self._carried if it.round <= round.number - CARRIED]:
-            self._told.append('nobody read what %s wrote, whose outcome is unknown, in %d rounds: it is carried no more' % (it.name, CARRIED))
+            self._counts['dropped'] += 1
+            self._dropped = (self._dropped + [it.name])[:10]
             self._carried.remove(it)
         if closings:
             seen = round.seen.union(reads, *({line.split(' ')[1] for line in it.lines if line[0] == 'r'} for it in taken if it.round == round.number))
@@ -723,10 +735,17 @@ class Session:
         # another client may have had this part before
         self._first_write = part.writes + 1
 
-    def transaction(self, commit=None):
+    def transaction(self, commit=None, label=None):
         """Begins a transaction: before its first statement is sent. Where `commit` is given, leaving its block calls it, and where it gives
-        back False the transaction was aborted; without it the block itself commits in the store, as its last statement."""
-        return Transaction(self, commit)
+        back False the transaction was aborted; without it the block itself commits in the store, as its last statement. `label` says on a
+        line what it is for: PATH.labels has that, but for a log in rounds."""
+        if label is not None and not (label.strip() and label.isprintable()):
+            raise Misuse('a label is printable and on one line, and not %r' % (label,))
+        txn = Transaction(self, commit)
+        if label is not None and not self._run._rounds:
+            with self._run._turn:
+                self._run._labels.append('%s %s\n' % (txn.name.replace('.', ' '), label))
+        return txn
 
     def close(self):
         """Leaves; a transaction that is open ends as unknown."""

@@ -1,10 +1,10 @@
 #!/usr/bin/env python3
 """collecting.py PROGRAM: logs that collect/sqlite.py collects from real SQLite databases, as docs/COLLECTING.md says.
 
-Logs of the sound store, without moments and with all of them, must be serializable where `check` can tell, also where the
-outcome of each session's last committed transaction is said to be unknown, and `verify` must accept the order; of the logs of the store that
-is broken on purpose one at least must be refused. `audit` must say so too, also without moments. A
-connection that was cut is used no more. Where this Python has no sqlite3 nothing is run, and a line says so. Last line: 'collecting: N passed, M failed'."""
+Logs of the sound store, without moments and with all of them, must be serializable where `check` can tell, also where the outcome of each
+session's last committed transaction is said to be unknown, and `verify` must accept the order; of the logs of the store that is broken on
+purpose one at least must be refused. `audit` must say so too, also without moments; and tools/follow.py of runs in rounds. A connection
+that was cut is used no more. Where this Python has no sqlite3 nothing is run, and a line says so. Last line: 'collecting: N passed, M failed'."""
 import argparse, os, re, subprocess, sys, tempfile
 
 TOP = os.path.dirname(os.path.dirname(os.path.abspath(__file__)))
@@ -70,6 +70,16 @@ def misfits(checks, folder):
         checks.expect(ran.returncode == status and re.fullmatch(told, ran.stderr) and not os.path.exists(path), '%s: %s' % (words, ran))
 
 
+def in_rounds(checks, folder):
+    """Rounds of the sound store are kept, and of the weak one some is not."""
+    run = os.path.join(folder, 'run')
+    for level, wanted in (('serializable', 0), ('weak', 1)):
+        subprocess.run([sys.executable, COLLECTOR, '--overwrite', *SIZE, '--rounds', '80', '--level', level, run], check=True, timeout=600)
+        words = [sys.executable, os.path.join(TOP, 'tools', 'follow.py'), run, '--level', 'serializable', '--program', checks.program]
+        ran = subprocess.run(words, stdout=subprocess.PIPE, stderr=subprocess.PIPE, timeout=600)
+        checks.expect(ran.returncode == wanted and (wanted or ran.stdout.count(b'\n') >= 4), 'rounds of %s: %s' % (level, ran))
+
+
 def left_when_cut(checks, folder):
     """A connection that was cut is used no more, also where its commit is answered."""
     sys.path.insert(0, os.path.dirname(COLLECTOR))
@@ -125,6 +135,7 @@ def main():
         with open(path, 'rb') as file:
             checks.expect(again.returncode == 2 and b'--overwrite' in again.stderr and file.read() == log, 'a log that is there is replaced')
         misfits(checks, folder)
+        in_rounds(checks, folder)
         left_when_cut(checks, folder)
         checks.expect(refused > 0, 'no log of the weak store was refused')
         print('collecting: SQLite %s, %d of %d logs of the weak store were refused' % (sqlite3.sqlite_version, refused, RUNS))

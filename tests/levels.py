@@ -229,9 +229,10 @@ def wrong_rows():
 
 
 def logs(cases, seed, once):
-    yield from generate.examples((1, 2, 3))
+    if cases:
+        yield from generate.examples((1, 2, 3))
+        yield from (('larger log %d' % number, larger(number)) for number in range(LARGER))
     yield from (('made log %d' % number, level_model.made_text(number)) for number in range(seed, seed + cases))
-    yield from (('larger log %d' % number, larger(number)) for number in range(seed, seed + LARGER))
     for number in range(seed, seed + once):
         name = 'made log %d' if number % SAMPLE == 0 else 'asked once: made log %d'
         yield name % number, level_model.made_text(number)
@@ -240,7 +241,7 @@ def logs(cases, seed, once):
 def main():
     words = argparse.ArgumentParser(description=__doc__, formatter_class=argparse.RawDescriptionHelpFormatter)
     words.add_argument('program', metavar='PROGRAM', help='the program, cobra_poly')
-    words.add_argument('number', metavar='CASES', type=int, nargs='?', default=CASES, help='how many made logs (%(default)s)')
+    words.add_argument('number', metavar='CASES', type=int, nargs='?', default=CASES, help='how many made logs, and if not 0 the examples and the larger ones (%(default)s)')
     words.add_argument('--seed', type=int, default=SEED, help='from which number they are made (%(default)s)')
     words.add_argument('--cases', type=int, default=0, help='how many more made logs are asked once (%(default)s)')
     words.add_argument('--lanes', type=int, default=min(4, os.cpu_count()), help='how many logs are judged at a time (%(default)s)')

@@ -736,7 +736,33 @@ def quiet():
         yield told
 
 
-PARTS = (page, names, misuse, kept, outcomes, stuck, memory, worth, processes, sound_runs, broken_runs, real_time)
+def labels(checks):
+    """Labels stand beside the log, and go with the log that they are of; none stands in rounds."""
+    path = checks.path('labels.log')
+    for number, wanted in enumerate(('1 1 transfer, thread 4\n2 1 ö\n', None)):
+        run = Recorder(path, overwrite=True)
+        for label in ('transfer, thread 4', 'ö'):
+            with run.session() as session:
+                with session.transaction(label=None if number else label) as txn:
+                    txn.write('x')
+                with session.transaction() as txn:
+                    txn.read('x', None)
+                for wrong in ('', ' ', 'a\nb', '\x1b[1m'):
+                    try:
+                        session.transaction(label=wrong)
+                    except Misuse:
+                        continue
+                    checks.expect(False, 'a label %r is taken' % wrong)
+        with contextlib.redirect_stderr(io.StringIO()):
+            run.close()
+        there = os.path.exists(path + '.labels')
+        checks.expect(there == bool(wanted), 'labels are there: %s' % there)
+        if there:
+            with open(path + '.labels', encoding='utf-8') as file:
+                checks.expect(file.read() == wanted, 'other labels')
+
+
+PARTS = (page, names, labels, misuse, kept, outcomes, stuck, memory, worth, processes, sound_runs, broken_runs, real_time)
 
 
 def main():

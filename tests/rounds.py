@@ -455,7 +455,7 @@ def misuse(checks):
 def followed(checks):
     """What follow.py refuses, and what it keeps and removes."""
     folder = checks.path('run')
-    made(folder, 5, losses=0.05, deaths=0)
+    made(folder, 5, count=EVERY * 12, losses=0.05, deaths=0)
     copy, names = checks.path('copy'), [os.path.basename(path) for path in logs_of(folder)]
 
     def changed(number, change, wanted, level='serializable', status=2):
@@ -528,7 +528,7 @@ def alongside(checks):
 def main():
     words = argparse.ArgumentParser(description=__doc__, formatter_class=argparse.RawDescriptionHelpFormatter)
     words.add_argument('program')
-    words.add_argument('--runs', type=int, default=18, help='how many runs of twenty rounds (18)')
+    words.add_argument('--runs', type=int, default=12, help='how many runs of twenty rounds (12)')
     words.add_argument('--seed', type=int, default=1)
     words = words.parse_args()
     with tempfile.TemporaryDirectory() as folder:

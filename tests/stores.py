@@ -1,18 +1,20 @@
 #!/usr/bin/env python3
 """stores.py PROGRAM [LARGE]: logs of real stores, by the collectors in collect/, against what the stores promise.
 
-PostgreSQL, MariaDB, Redis and etcd are started here, as a user that is not root, with all that they have in a temporary folder and on
+H2, HSQLDB and Derby run in the process of their clients, by JDBC. PostgreSQL, MariaDB, Redis and etcd are started here, as a user that is not root, with all that they have in a temporary folder and on
 sockets in it, etcd on ports of this machine; where a package of Debian's is missing it is installed, and what cannot be had is passed over,
 with a note. Each way of a store promises a level, or none: each of its logs must keep that level, also where connections are cut, and some
-log must break the level above it, or where nothing is promised snapshot isolation. Logs are judged by `audit --level`, and a long one of
+log must break a level above it, or where nothing is promised one of the weaker levels. Logs are judged by `audit --level`, and a long one of
 each sound way is too, of LARGE transactions; each must be decided. For each way a line says how many transactions and seconds there were.
 Last line: 'stores: N passed, M failed'."""
 import argparse, contextlib, functools, http.client, os, pwd, re, shutil, socket, subprocess, sys, tempfile, time
+import jdbc
 from levels import LEVELS
 
 TOP = os.path.dirname(os.path.dirname(os.path.abspath(__file__)))
 PACKAGES = {'initdb': 'postgresql-15', 'psycopg2': 'python3-psycopg2', 'mariadbd': 'mariadb-server', 'pymysql': 'python3-pymysql',
-            'redis-server': 'redis-server', 'etcd': 'etcd-server'}
+            'redis-server': 'redis-server', 'etcd': 'etcd-server', 'javac': 'default-jdk-headless', 'h2.jar': 'libh2-java',
+            'hsqldb.jar': 'libhsqldb-java', 'derby.jar': 'libderby-java'}
 # Another test installs what it needs meanwhile, and of two that read the lists of packages at once one would fail.
 ALONE = 'flock', '--no-fork', '/var/lib/apt'
 # PostgreSQL starts for no root; nobody is somebody everywhere.
@@ -190,6 +192,22 @@ def sqlite():
     yield [sys.executable, 'sqlite.py']
 
 
+@contextlib.contextmanager
+def embedded(jar, url):
+    """What calls the load of tests/jdbc, with the words of a way: a level, and what else that load knows."""
+    server('javac')
+    installed(lambda: os.path.exists(os.path.join(jdbc.JARS, jar)) or None, jar)
+    with tempfile.TemporaryDirectory() as folder:
+        jdbc.compiled(folder)
+
+        def collector(words, seed, transactions, keys, log):
+            size = ['transactions=%d' % transactions, 'keys=%d' % keys, 'pause=%d' % (transactions < 1000), 'seed=%d' % seed]
+            ran = jdbc.java(folder, 'Load', url + ''.join(it for it in words if it[0] == ';'), words[0], log, *size, *(it for it in words[1:] if it[0] != ';'), jar=jar)
+            ran.stdout = ran.stderr
+            return ran
+        yield collector
+
+
 class Way:
     """Words for a collector; the level that each log must keep, or None; and the level that some log must break, or None."""
 
@@ -202,20 +220,35 @@ class Way:
 STORES = {
     'SQLite': (sqlite, [
         Way('', 'serializable'), Way('--level weak', None, 'snapshot')]),
+    'H2': (lambda: embedded('h2.jar', 'jdbc:h2:mem:stores;DB_CLOSE_DELAY=-1;LOCK_TIMEOUT=5000'), [
+        Way('serializable', 'snapshot', 'serializable'), Way('serializable kill=20', 'snapshot'), Way('serializable moments=1', 'strict-snapshot'),
+        Way('snapshot', 'snapshot', 'serializable'), Way('repeatable-read', 'snapshot', 'serializable'),
+        Way('read-committed', 'monotonic-atomic-view', 'read-atomic'), Way('read-uncommitted', None, 'read-committed')]),
+    'HSQLDB': (lambda: embedded('hsqldb.jar', 'jdbc:hsqldb:mem:stores'), [
+        Way('serializable ;hsqldb.tx=locks', 'serializable', part=5), Way('serializable ;hsqldb.tx=mvlocks kill=20', 'serializable', part=5),
+        Way('serializable ;hsqldb.tx=locks moments=1', 'strict-serializable'), Way('repeatable-read ;hsqldb.tx=locks', 'serializable', part=5),
+        Way('serializable ;hsqldb.tx=mvcc', 'snapshot', 'serializable'), Way('repeatable-read ;hsqldb.tx=mvcc', 'snapshot', 'serializable'),
+        Way('read-committed ;hsqldb.tx=locks', 'monotonic-atomic-view', 'read-atomic', part=5),
+        Way('read-committed ;hsqldb.tx=mvcc', 'monotonic-atomic-view', 'read-atomic'),
+        Way('read-uncommitted ;hsqldb.tx=mvcc', 'monotonic-atomic-view', 'read-atomic')]),
+    'Derby': (lambda: embedded('derby.jar', 'jdbc:derby:memory:stores;create=true'), [
+        Way('serializable', 'serializable', part=5), Way('serializable kill=20', 'serializable', part=5),
+        Way('serializable moments=1', 'strict-serializable'), Way('repeatable-read', 'serializable', part=5),
+        Way('read-committed', 'read-committed', 'read-atomic', part=5), Way('read-uncommitted', None, 'read-committed')]),
     'PostgreSQL': (postgresql, [
         Way('', 'serializable'), Way('--kill 20', 'serializable'), Way('--moments all', 'strict-serializable'),
         Way('--level repeatable-read', 'snapshot', 'serializable'), Way('--level repeatable-read --moments all', 'strict-snapshot'),
-        Way('--level read-committed', None, 'snapshot')]),
+        Way('--level read-committed', 'monotonic-atomic-view', 'read-atomic')]),
     'MariaDB': (mariadb, [
         Way('', 'serializable'), Way('--kill 20', 'serializable'), Way('--moments all', 'strict-serializable'),
         Way('--level repeatable-read --snapshot-isolation on', 'snapshot', 'serializable'),
         Way('--level repeatable-read --snapshot-isolation on --kill 20', 'snapshot'),
         Way('--level repeatable-read --snapshot-isolation on --moments all', 'strict-snapshot'),
-        Way('--level repeatable-read --snapshot-isolation off', None, 'snapshot'),
-        Way('--level read-committed', None, 'snapshot'), Way('--level read-uncommitted', None, 'snapshot')]),
+        Way('--level repeatable-read --snapshot-isolation off', 'prefix', 'snapshot'),
+        Way('--level read-committed', 'monotonic-atomic-view', 'read-atomic'), Way('--level read-uncommitted', None, 'read-committed')]),
     'Redis': (redis, [
         Way('', 'serializable'), Way('--kill 20', 'serializable'), Way('--moments all', 'strict-serializable'),
-        Way('--level multi', None, 'snapshot')]),
+        Way('--level multi', 'monotonic-atomic-view', 'read-atomic')]),
     'etcd': (etcd, [
         Way('', 'serializable', part=2), Way('--kill 20', 'serializable', part=2), Way('--moments all', 'strict-serializable'),
         Way('--level snapshot', 'snapshot', 'serializable', part=2), Way('--level snapshot --moments all', 'strict-snapshot'),
@@ -235,8 +268,10 @@ class Checks:
             print('FAILED', name)
 
     def collect(self, collector, words, seed, transactions):
-        python, name, *address = collector
         keys = 40 if transactions < 1000 else 300
+        if callable(collector):
+            return collector(words, seed, transactions, keys, self.log)
+        python, name, *address = collector
         pause = '0.3' if transactions < 1000 else '0'
         size = ['--transactions', str(transactions), '--keys', str(keys), '--pause', pause, '--seed', str(seed), '--overwrite']
         return run([python, os.path.join(TOP, 'collect', name), *address, *size, *words, self.log], timeout=600)
@@ -257,7 +292,7 @@ class Checks:
         """Runs of one way: where it promises a level small ones and a large one; then, until one breaks the level that some must break."""
         name, answers, is_broken = ' '.join([store, *way.words]), [], False
         sizes = [SMALL] * RUNS if way.kept else []
-        if way.kept and '--moments' not in way.words:
+        if way.kept and not {'--moments', 'moments=1'} & {*way.words}:
             sizes.insert(1, max(SMALL, self.large // way.part))
         for seed in range(TRIES):
             is_late = answers and self.late and time.monotonic() > self.late

@@ -1,7 +1,7 @@
 #!/usr/bin/env python3
 """told_points.py PROGRAM [CASES] [--seed N]: what `audit --explain` tells at levels of snapshots, line by line, against the log.
 
-Each log of examples/ and some hundred made ones, as tests/levels.py has them, are asked for both levels of snapshots. Of each refuted one
+Each log of examples/ and some hundred made ones, as tests/level_model.py has them, are asked for both levels of snapshots. Of each refuted one
 each told line must be so in the log: the transactions, lines, keys, identities and moments that it names, and that it follows from them that
 the one point stands before the other. Each step must follow from lines and from earlier steps, and each must be named; first stands a
 circle, or two that write a key of which neither can commit first, and behind it the steps. So no order is left. Nothing that is told may
@@ -10,7 +10,7 @@ import argparse, collections, concurrent.futures, itertools, os, re, sys
 
 HERE = os.path.dirname(os.path.abspath(__file__))
 sys.path.insert(0, HERE)
-import generate, levels, reference
+import generate, level_model, reference
 from certificates import Part, call, must
 
 CASES, SEED, SHOWN = 600, 1, 20
@@ -313,7 +313,7 @@ def main():
     words.add_argument('--seed', type=int, default=SEED, help='from which number they are made (%(default)s)')
     words = words.parse_args()
     texts = list(generate.examples((1, 2, 3))) + [('two writers', TWO_WRITERS)]
-    texts += [('made log %d' % seed, levels.made_text(seed)) for seed in range(words.seed, words.seed + words.cases)]
+    texts += [('made log %d' % seed, level_model.points_text(seed)) for seed in range(words.seed, words.seed + words.cases)]
     program, faults, met = os.path.abspath(words.program), [], collections.Counter()
     with concurrent.futures.ProcessPoolExecutor(LANES) as pool:
         for fault, what in pool.map(judged, [(program, name, text) for name, text in texts], chunksize=10):

@@ -367,11 +367,11 @@ def scene_of_side(history, side, title, is_supposed=True):
     return scene
 
 
-def scene_of_part(history, names):
-    """Transactions of which nothing is told that has a form: what each read of another one."""
-    scene = Scene(history, 'These transactions')
+def scene_of_part(history, names, lines):
+    """Transactions of which these lines are told in no form that has edges: what each read of another one."""
+    scene, named = Scene(history, 'These transactions'), {int(number) for said in lines for number in told.LINE.findall(said)}
     for name in names:
-        scene.tell(name)
+        scene.tell(name, *history.lines_of(name, named))
     for it in [history.named[name] for name in names]:
         for number, _, key, wid in it.operations('r'):
             writer, written = history.wrote.get((key, wid), (None, None))
@@ -522,8 +522,8 @@ class Page:
         if it.code == told.TWO_WRITERS:
             return self.sides_section()
         if it.code == told.PART:
-            lines = '<ul class="lines">%s</ul>' % ''.join(map(self.line, range(2, len(it.lines) + 1)))
-            return element('section', self.with_lines(self.picture(scene_of_part(history, [it.name for it in history.all][:MOST_EDGES])), lines))
+            lines = '<ul class="lines">%s</ul>' % ''.join(map(self.line, range(it.behind, len(it.lines) + 1)))
+            return element('section', self.with_lines(self.picture(scene_of_part(history, [it.name for it in history.all][:MOST_EDGES], it.lines)), lines))
         if it.code in ('A8', 'A9', told.CIRCLE):
             scenes = scenes_of_cycle(history, it.cycle.edges, 'The circle', it.steps)
             lines = self.edges(it.cycle.edges)

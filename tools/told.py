@@ -400,11 +400,17 @@ def of_part(report):
         it = read('\n'.join([verdict, *lines]))
     else:
         found = read_level(verdict, lines)
-        it = found or Explanation([verdict, *lines], PART)
+        it = found or of_lines(verdict, lines)
         it.known_as = it.known_as or report['known_as']
         it.lines[0] = '%s: %s' % (level, report['verdict']) + (': ' + it.known_as if it.known_as else '')
     it.is_serial_apart = report['without_sessions'] is not None
     return it
+
+
+def of_lines(verdict, lines):
+    """Lines of another form, as those of levels below snapshots: what they say in short, and the others as they are."""
+    short = SHORT.fullmatch(lines[0]) if lines else None
+    return Explanation([verdict, *lines], PART, behind=3 if short else 2, short=short and short[1])
 
 
 def read_level(verdict, lines):

@@ -5,7 +5,7 @@ mod Doubles
 mod Points
 mod Resolved
 mod Weaker
-mod Lower
+mod Lowest
 mod Searched
 mod Singles
 mod Decided

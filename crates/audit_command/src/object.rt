@@ -429,7 +429,6 @@ fn put_shown(out: &mut Vec<u8>, explain: bool, shown: &Option<ToldPart>) -> Resu
 }
 
 /// Appends whether levels below snapshot isolation were kept.
-#[tactic(auto, unfolding(crate::specs::Objects::lower_values))]
 fn put_lower(out: &mut Vec<u8>, lower: &Lower) -> Result<(), AllocError>
     ensures put { OnOk result (out.new.items ≡ out.old.items ++ lower_values lower.now) }
 {

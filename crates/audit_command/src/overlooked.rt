@@ -20,11 +20,7 @@ use std::alloc::{AllocError, Global};
 use tell_evidence::{evidence_name, evidence_text};
 
 /// What the field calls what evidence shows, where it has a name.
-fn name_of(
-    alloc: Global,
-    below: Level,
-    evidence: &Evidence,
-) -> Result<Option<String>, AllocError>
+fn name_of(alloc: Global, below: Level, evidence: &Evidence) -> Result<Option<String>, AllocError>
     ensures name { IfOk result (λ told. option_map string_bytes told
         ≡ evidence_name below evidence.now) }
 {

@@ -17,7 +17,6 @@ use crate::level::{Level, LevelLog, log_at};
 use crate::limits::size_limit;
 use crate::means::JudgeMeans;
 use deciding::{Decision, decide};
-use decision_nodes::nodes_of;
 use desk::gate::OpenGate;
 use log_parts::copy_log;
 use order_cnf::CnfFault;
@@ -29,6 +28,7 @@ use std::alloc::{AllocError, Global};
 use std::sync::Wait;
 use std::thread::Threads;
 use std::time::Clock;
+use tell_decision::nodes_of;
 
 /// What is found of a log.
 #[derive(Drop)]

@@ -6,6 +6,7 @@ ghost use Rattle.log_laws.specs.Logs.{IsLearntLog, IsSoundLog};
 ghost use Rattle.seen_laws.specs.Seen.{IsLevelOrder};
 ghost use Rattle.level_checks.specs.Chains.{links_of};
 ghost use Rattle.level_checks.specs.Nodes.{brief_of};
+ghost use Rattle.level_checks.specs.Spots.{AreNoted};
 ghost use Rattle.level_checks.specs.Walk.{IsFollowed, Walked, IsWalk};
 
 use crate::node::{Node, indices_of, nodes_of};
@@ -15,13 +16,10 @@ use crate::trail::Passed;
 use seen_laws::Level;
 use session_log::{Key, Session};
 use std::alloc::{AllocError, Global};
-use std::collections::BTreeMap;
+use std::collections::{BTreeMap, BTreeSet};
 
 /// How many numbers the rows may have in all.
 const MOST_REACHES: usize = 0x1000_0000;
-
-/// How many writes may be passed for each operation, on the whole way.
-const MOST_PASSED: usize = 4096;
 
 /// The last node of a session that was taken: its number and its position, or 0.
 #[derive(Clone, Copy)]
@@ -30,19 +28,19 @@ pub struct Last {
     pub position: usize,
 }
 
-/// What was passed on the way: where the look back for each key begins, the writes, the position at
-/// which each identity was written, how far each node sees, marks, a row of zeros, the last node of each session, and how
-/// many writes may still be passed.
+/// What was passed on the way: where the look back for each key begins, the writes, where each key
+/// was written, the position at which each identity was written, how far each node sees, marks, a
+/// row of zeros, and the last node of each session.
 #[derive(Drop)]
 struct Way<'a> {
     table: BTreeMap<(u64, &'a Key), u64>,
     entries: Vec<Passed>,
+    spots: BTreeSet<(usize, usize, usize)>,
     sources: BTreeMap<u64, usize>,
     rows: Vec<Row>,
     marks: Vec<usize>,
     own: Vec<usize>,
     last: Vec<Last>,
-    steps: usize,
 }
 
 /// The position of the last node of the session, where this one comes behind it there.
@@ -70,8 +68,10 @@ fn take<'a>(
     position: usize,
     number: usize,
 ) -> Result<bool, AllocError>
-    ensures { IfOk result (λ is. IsTrue is → (order : List ℕ) (i : ℕ)
-        → position ≡ i + 1 → number ≡ slice_index order i
+    ensures noted { IfOk result (λ is. IsTrue is → AreNoted way.old.entries.items way.old.spots
+        → AreNoted way.new.entries.items way.new.spots) }
+    ensures walked { IfOk result (λ is. IsTrue is → AreNoted way.old.entries.items way.old.spots
+        → (order : List ℕ) (i : ℕ) → position ≡ i + 1 → number ≡ slice_index order i
         → Walked level indices.now (map brief_of nodes.now) order i (links_of way.old.table)
         way.old.entries.items way.old.rows.items way.old.last.items
         → Walked level indices.now (map brief_of nodes.now) order (i + 1) (links_of way.new.table)
@@ -93,6 +93,7 @@ fn take<'a>(
         alloc,
         &mut way.table,
         &mut way.entries,
+        &mut way.spots,
         &mut way.sources,
         position,
         session,
@@ -105,6 +106,7 @@ fn take<'a>(
         alloc,
         level,
         &way.entries,
+        &way.spots,
         &looks,
         &mut way.rows,
         way.marks.as_mut_slice(),
@@ -112,18 +114,8 @@ fn take<'a>(
         before,
         session,
         position,
-        &mut way.steps,
     )?;
     Ok(kept)
-}
-
-/// How many writes may be passed on the whole way, so that the time is linear.
-fn most_passed(nodes: &[Node]) -> usize {
-    let mut count: usize = 1024;
-    for node in nodes {
-        count = count.saturating_add(node.ops.len());
-    }
-    count.saturating_mul(MOST_PASSED)
 }
 
 /// Whether the rows of so many nodes, for so many sessions, have few enough numbers.
@@ -152,6 +144,7 @@ fn walk(
     let mut way = Way {
         table: BTreeMap::new(alloc),
         entries: Vec::new(alloc),
+        spots: BTreeSet::new(alloc),
         sources: BTreeMap::new(alloc),
         rows: Vec::new(alloc),
         marks: vec![in alloc; 0; order.len() + 1]?,
@@ -160,7 +153,6 @@ fn walk(
             number: 0,
             position: 0
         }; width]?,
-        steps: most_passed(nodes),
     };
     for (i, number) in order.iter().enumerate() {
         if !take(alloc, level, nodes, indices, &mut way, i + 1, *number)? {

@@ -1,9 +1,11 @@
 -- How evidence against a level is told: in a sentence, and then each edge with its lines.
-use Rattle.std.specs.Prelude.{ℕ, Bool, true, false, List, [], ◌∷◌, ◌++◌, codes, decimal, find}
-use Rattle.std.specs.Prelude.{Option, None, Some}
-use Rattle.std.specs.List.{flat_map}
+use Rattle.std.specs.Prelude.{ℕ, Bool, true, false, List, [], ◌∷◌, ◌++◌, codes, decimal}
+use Rattle.std.specs.Prelude.{Option, None, Some, if◌then◌else◌}
 use Rattle.session_log.specs.Text.{ClientSession}
+use Rattle.session_log.specs.declared.session.Outcome.{Outcome}
+use Rattle.session_log.specs.declared.session.Outcome.TheVariants.{Commit, Abort, Unknown}
 use Rattle.log_lines.specs.Rows.{Table}
+use Rattle.level_refutations.specs.declared.evidence.TxnAt.{TxnAt}
 use Rattle.level_refutations.specs.declared.evidence.OpAt.{OpAt}
 use Rattle.level_refutations.specs.declared.evidence.Overlooked.{Overlooked}
 use Rattle.level_refutations.specs.declared.evidence.Edge.{Edge}
@@ -14,50 +16,51 @@ use Rattle.level_refutations.specs.declared.evidence.Why.TheVariants as why
 use Rattle.level_refutations.specs.declared.evidence.Evidence.{Evidence}
 use Rattle.level_refutations.specs.declared.evidence.Evidence.TheVariants as evidence
 use Rattle.level_refutations.specs.Edges.{op_of, edge_from, edge_to}
-use Rattle.tell_evidence.specs.Rows.{outcome_at, line_of, key_at, wid_at}
+use Rattle.tell_evidence.specs.Rows.{end_of, outcome_at, line_of, key_at, wid_at}
 use Rattle.tell_evidence.specs.Sentences.{name_text, in_line, version_text, does_text, wrote_text}
-use Rattle.tell_evidence.specs.Sentences.{reads_text, outcome_text, hop_text, path_text}
+use Rattle.tell_evidence.specs.Sentences.{hop_text, path_text}
 
 -- ---- reads that overlook a write
 
 abbrev pub sight_text : Table → List ClientSession → Overlooked → List ℕ
 sight_text table ss o = path_text table ss o.read o.write o.path.items
 
+-- what the read names, by which path it sees the other write, and which of the two is the earlier:
 -- `so the x of 1.3 stands before the x of 1.2`
-unfoldable pub stands_text : Table → List ClientSession → OpAt → OpAt → List ℕ
-stands_text table ss write found = codes "so " ++ version_text table ss write
-    ++ codes " stands before " ++ version_text table ss found ++ codes "\n"
-
--- what the read names, by which path it sees the other write, and which of the two is the earlier
 unfoldable pub forced_text : Table → List ClientSession → Overlooked → OpAt → List ℕ
-forced_text table ss o found = reads_text table ss (codes " reads ") o.read found ++ codes "\n"
-    ++ sight_text table ss o ++ stands_text table ss o.write found
-
--- `2.7 sees 1.3, which wrote x too` behind what it reads
-unfoldable pub sees_text : Table → List ClientSession → OpAt → List ℕ
-sees_text table ss write = codes " and sees " ++ name_text table ss write.txn
-    ++ codes ", which wrote " ++ key_at ss write
+forced_text table ss o found =
+    does_text table ss (codes " reads ") o.read ++ (wrote_text table ss found ++ (codes "\n"
+    ++ (sight_text table ss o ++ (codes "so " ++ (version_text table ss o.write
+    ++ (codes " stands before " ++ (version_text table ss found ++ codes "\n")))))))
 
 -- `in short: 2.7 reads the x of 1.2 and sees 1.3, which wrote x too and comes after 1.2`
 unfoldable pub short_forced : Table → List ClientSession → Overlooked → OpAt → List ℕ
-short_forced table ss o found = codes "in short: " ++ name_text table ss o.read.txn
-    ++ codes " reads " ++ version_text table ss found ++ sees_text table ss o.write
-    ++ codes " too and comes after " ++ name_text table ss found.txn ++ codes "\n"
+short_forced table ss o found =
+    codes "in short: " ++ (name_text table ss o.read.txn ++ (codes " reads "
+    ++ (version_text table ss found ++ (codes " and sees " ++ (name_text table ss o.write.txn
+    ++ (codes ", which wrote " ++ (key_at ss o.write ++ (codes " too and comes after "
+    ++ (name_text table ss found.txn ++ codes "\n")))))))))
 
 -- ---- a read of the initial value that overlooks a write
 
+-- `in short: 2.7 reads the initial value of x and sees 1.3, which wrote x`
 unfoldable pub short_initial : Table → List ClientSession → Overlooked → List ℕ
-short_initial table ss o = codes "in short: " ++ name_text table ss o.read.txn
-    ++ codes " reads the initial value of " ++ key_at ss o.read ++ sees_text table ss o.write
-    ++ codes "\n"
+short_initial table ss o =
+    codes "in short: " ++ (name_text table ss o.read.txn ++ (codes " reads the initial value of "
+    ++ (key_at ss o.read ++ (codes " and sees " ++ (name_text table ss o.write.txn
+    ++ (codes ", which wrote " ++ (key_at ss o.write ++ codes "\n")))))))
 
-unfoldable pub should_text : Table → List ClientSession → Overlooked → List ℕ
-should_text table ss o = codes "so " ++ name_text table ss o.read.txn
-    ++ codes " should read " ++ version_text table ss o.write ++ codes " or a later one\n"
+-- what it names, by which path it sees the write, and what it should name:
+-- `so 2.7 should read the x of 1.3 or a later one`
+unfoldable pub lines_initial : Table → List ClientSession → Overlooked → List ℕ
+lines_initial table ss o =
+    does_text table ss (codes " reads ") o.read ++ (codes ", the initial value\n"
+    ++ (sight_text table ss o ++ (codes "so " ++ (name_text table ss o.read.txn
+    ++ (codes " should read " ++ (version_text table ss o.write
+    ++ codes " or a later one\n"))))))
 
-unfoldable pub initial_text : Table → List ClientSession → Overlooked → List ℕ
-initial_text table ss o = short_initial table ss o ++ does_text table ss (codes " reads ") o.read
-    ++ codes ", the initial value\n" ++ sight_text table ss o ++ should_text table ss o
+abbrev pub initial_text : Table → List ClientSession → Overlooked → List ℕ
+initial_text table ss o = short_initial table ss o ++ lines_initial table ss o
 
 -- ---- circles
 
@@ -66,33 +69,42 @@ edge_text table ss (edge.Known hop) = hop_text table ss (codes " reads ") hop ++
 edge_text table ss (edge.Forced o found) = forced_text table ss o found
 
 abbrev pub edges_text : Table → List ClientSession → List Edge → List ℕ
-edges_text table ss edges = flat_map (edge_text table ss) edges
+edges_text table ss [] = []
+edges_text table ss (e ∷ edges) = edge_text table ss e ++ edges_text table ss edges
+
+-- these words, and `1.3 comes before 1.2`
+unfoldable pub before_text : Table → List ClientSession → List ℕ → Edge → List ℕ
+before_text table ss words e = words ++ (name_text table ss (edge_from e)
+    ++ (codes " comes before " ++ name_text table ss (edge_to e)))
+
+abbrev pub behind_and : Table → List ClientSession → List Edge → List ℕ
+behind_and table ss [] = []
+behind_and table ss (e ∷ edges) = before_text table ss (codes ", and ") e
+    ++ behind_and table ss edges
+
+-- the clash: `so 1.3 comes before 1.2, and 1.2 comes before 1.3`
+abbrev pub clash_text : Table → List ClientSession → List Edge → List ℕ
+clash_text table ss [] = []
+clash_text table ss (e ∷ edges) = before_text table ss (codes "so ") e ++ behind_and table ss edges
+    ++ codes "\n"
+
+-- where no edge is forced
+unfoldable pub short_hops : Table → List ClientSession → Edge → List ℕ
+short_hops table ss e = codes "in short: by sessions and reads alone "
+    ++ (name_text table ss (edge_from e) ++ codes " comes before itself\n")
+
+abbrev pub short_known : Table → List ClientSession → List Edge → List ℕ
+short_known table ss [] = []
+short_known table ss (e ∷ edges) = short_hops table ss e
 
 abbrev pub is_forced_edge : Edge → Bool
 is_forced_edge (edge.Known hop) = false
 is_forced_edge (edge.Forced o found) = true
 
--- `1.3 comes before 1.2`
-unfoldable pub before_text : Table → List ClientSession → Edge → List ℕ
-before_text table ss e = name_text table ss (edge_from e) ++ codes " comes before "
-    ++ name_text table ss (edge_to e)
+abbrev pub first_forced : List Edge → Option Edge
+first_forced [] = None
+first_forced (e ∷ edges) = if is_forced_edge e then Some e else first_forced edges
 
-abbrev pub behind_and : Table → List ClientSession → List Edge → List ℕ
-behind_and table ss edges = flat_map (λ e. codes ", and " ++ before_text table ss e) edges
-
--- the clash: `so 1.3 comes before 1.2, and 1.2 comes before 1.3`
-abbrev pub clash_text : Table → List ClientSession → List Edge → List ℕ
-clash_text table ss [] = []
-clash_text table ss (e ∷ edges) = codes "so " ++ before_text table ss e
-    ++ behind_and table ss edges ++ codes "\n"
-
--- where no edge is forced
-abbrev pub short_known : Table → List ClientSession → List Edge → List ℕ
-short_known table ss [] = []
-short_known table ss (e ∷ edges) = codes "in short: by sessions and reads alone "
-    ++ name_text table ss (edge_from e) ++ codes " comes before itself\n"
-
--- by the first edge that is forced
 abbrev pub short_edge : Table → List ClientSession → Edge → List ℕ
 short_edge table ss (edge.Known hop) = []
 short_edge table ss (edge.Forced o found) = short_forced table ss o found
@@ -101,12 +113,13 @@ abbrev pub short_by : Table → List ClientSession → List Edge → Option Edge
 short_by table ss edges None = short_known table ss edges
 short_by table ss edges (Some e) = short_edge table ss e
 
+-- in a sentence: by the first edge that is forced
 abbrev pub short_circle : Table → List ClientSession → List Edge → List ℕ
-short_circle table ss edges = short_by table ss edges (find is_forced_edge edges)
+short_circle table ss edges = short_by table ss edges (first_forced edges)
 
-unfoldable pub circle_text : Table → List ClientSession → List Edge → List ℕ
-circle_text table ss edges = short_circle table ss edges
-    ++ edges_text table ss edges ++ clash_text table ss edges
+abbrev pub circle_text : Table → List ClientSession → List Edge → List ℕ
+circle_text table ss edges = short_circle table ss edges ++ edges_text table ss edges
+    ++ clash_text table ss edges
 
 -- ---- faults
 
@@ -121,18 +134,39 @@ short_why (why.OwnLater write) = codes " reads what it writes itself only later\
 
 -- `, but wrote x 7 before (line 8)`
 unfoldable pub missed_text : Table → List ClientSession → OpAt → List ℕ
-missed_text table ss write = codes ", but wrote " ++ key_at ss write ++ codes " "
-    ++ decimal (wid_at ss write) ++ codes " before" ++ in_line (line_of table write)
+missed_text table ss write =
+    codes ", but wrote " ++ (key_at ss write ++ (codes " " ++ (decimal (wid_at ss write)
+    ++ (codes " before" ++ in_line (line_of table write)))))
+
+-- `, and 2.1 was aborted (line 5)`
+unfoldable pub abort_text : Table → List ClientSession → TxnAt → List ℕ
+abort_text table ss at = codes ", and " ++ (name_text table ss at ++ (codes " was aborted"
+    ++ in_line (end_of table at)))
+
+unfoldable pub unknown_text : Table → List ClientSession → TxnAt → List ℕ
+unknown_text table ss at = codes ", and the outcome of " ++ (name_text table ss at
+    ++ (codes " is unknown" ++ in_line (end_of table at)))
+
+abbrev pub outcome_text : Table → List ClientSession → TxnAt → Outcome → List ℕ
+outcome_text table ss at Commit = []
+outcome_text table ss at Abort = abort_text table ss at
+outcome_text table ss at Unknown = unknown_text table ss at
 
 -- `, which 2.1 wrote (line 4), and 2.1 was aborted (line 5)`
-unfoldable pub aborted_text : Table → List ClientSession → OpAt → List ℕ
+abbrev pub aborted_text : Table → List ClientSession → OpAt → List ℕ
 aborted_text table ss write = wrote_text table ss write
     ++ outcome_text table ss write.txn (outcome_at ss write.txn)
 
 -- `, which 2.1 wrote (line 4) and overwrote with 6 (line 5)`
 unfoldable pub overwritten_text : Table → List ClientSession → OpAt → OpAt → List ℕ
-overwritten_text table ss write later = wrote_text table ss write ++ codes " and overwrote with "
-    ++ decimal (wid_at ss later) ++ in_line (line_of table later)
+overwritten_text table ss write later =
+    wrote_text table ss write ++ (codes " and overwrote with " ++ (decimal (wid_at ss later)
+    ++ in_line (line_of table later)))
+
+-- `, which it writes itself only later (line 10)`
+unfoldable pub later_text : Table → List ClientSession → OpAt → List ℕ
+later_text table ss write = codes ", which it writes itself only later"
+    ++ in_line (line_of table write)
 
 -- what is wrong with the read
 abbrev pub why_text : Table → List ClientSession → OpAt → Why → List ℕ
@@ -141,12 +175,14 @@ why_text table ss read why.Unwritten = codes ", which nobody wrote"
 why_text table ss read (why.Aborted write) = aborted_text table ss write
 why_text table ss read (why.Overwritten write later) = overwritten_text table ss write
     (op_of write.txn later)
-why_text table ss read (why.OwnLater write) = codes ", which it writes itself only later"
-    ++ in_line (line_of table (op_of read.txn write))
+why_text table ss read (why.OwnLater write) = later_text table ss (op_of read.txn write)
 
-unfoldable pub fault_text : Table → List ClientSession → Fault → List ℕ
-fault_text table ss fault = codes "in short: " ++ name_text table ss fault.read.txn
-    ++ short_why fault.why ++ does_text table ss (codes " reads ") fault.read
+unfoldable pub short_fault : Table → List ClientSession → OpAt → List ℕ → List ℕ
+short_fault table ss read words = codes "in short: " ++ (name_text table ss read.txn ++ (words
+    ++ does_text table ss (codes " reads ") read))
+
+abbrev pub fault_text : Table → List ClientSession → Fault → List ℕ
+fault_text table ss fault = short_fault table ss fault.read (short_why fault.why)
     ++ why_text table ss fault.read fault.why ++ codes "\n"
 
 -- ---- the whole

@@ -1,4 +1,5 @@
 pub mod Rows
 pub mod Sentences
+pub mod Words
 pub mod Evidence
 pub mod Names

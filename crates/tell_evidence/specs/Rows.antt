@@ -29,6 +29,10 @@ outcome_in ts i = option_map_or (λ t. t.outcome) (slice_get ts i) Abort
 abbrev pub outcome_at : List ClientSession → TxnAt → Outcome
 outcome_at ss at = option_map_or (λ s. outcome_in s.txns at.txn) (slice_get ss at.session) Abort
 
+-- the line that ends it
+abbrev pub end_of : Table → TxnAt → ℕ
+end_of table at = (row_of table at).end
+
 -- the line of the operation
 abbrev pub line_of : Table → OpAt → ℕ
 line_of table at = line_at (row_of table at.txn) at.op

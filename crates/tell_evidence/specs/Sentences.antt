@@ -2,10 +2,7 @@
 -- the session, and the place there. Operations stand with their lines.
 use Rattle.std.specs.Prelude.{ℕ, ◌==◌, Bool, false, if◌then◌else◌, List, [], ◌∷◌, ◌++◌}
 use Rattle.std.specs.Prelude.{codes, decimal}
-use Rattle.std.specs.List.{flat_map}
 use Rattle.session_log.specs.Text.{ClientSession}
-use Rattle.session_log.specs.declared.session.Outcome.{Outcome}
-use Rattle.session_log.specs.declared.session.Outcome.TheVariants.{Commit, Abort, Unknown}
 use Rattle.log_lines.specs.Rows.{Table}
 use Rattle.level_refutations.specs.declared.evidence.TxnAt.{TxnAt}
 use Rattle.level_refutations.specs.declared.evidence.OpAt.{OpAt}
@@ -14,7 +11,7 @@ use Rattle.level_refutations.specs.declared.evidence.Step.{Step}
 use Rattle.level_refutations.specs.declared.evidence.Step.TheVariants as step
 use Rattle.level_refutations.specs.Places.{is_same}
 use Rattle.level_refutations.specs.Edges.{op_of}
-use Rattle.tell_evidence.specs.Rows.{number_at, row_of, outcome_at, line_of, key_at, wid_at}
+use Rattle.tell_evidence.specs.Rows.{number_at, row_of, line_of, key_at, wid_at}
 
 -- ---- places
 
@@ -53,14 +50,6 @@ unfoldable pub too_text : Table → List ClientSession → OpAt → List ℕ
 too_text table ss write = name_text table ss write.txn ++ codes " wrote " ++ key_at ss write
     ++ codes " too" ++ in_line (line_of table write)
 
--- `, and 2.1 was aborted (line 5)`
-unfoldable pub outcome_text : Table → List ClientSession → TxnAt → Outcome → List ℕ
-outcome_text table ss at Commit = []
-outcome_text table ss at Abort = codes ", and " ++ name_text table ss at ++ codes " was aborted"
-    ++ in_line (row_of table at).end
-outcome_text table ss at Unknown = codes ", and the outcome of " ++ name_text table ss at
-    ++ codes " is unknown" ++ in_line (row_of table at).end
-
 -- ---- hops
 
 -- `1.3 comes after 1.2 in session 1`
@@ -87,7 +76,9 @@ abbrev pub part_text : Table → List ClientSession → TxnAt → Hop → List �
 part_text table ss reader hop = hop_text table ss (reading_words reader hop) hop
 
 abbrev pub behind_text : Table → List ClientSession → TxnAt → List Hop → List ℕ
-behind_text table ss reader hops = flat_map (λ hop. codes "; " ++ part_text table ss reader hop) hops
+behind_text table ss reader [] = []
+behind_text table ss reader (hop ∷ hops) = codes "; " ++ part_text table ss reader hop
+    ++ behind_text table ss reader hops
 
 -- the hops of a path, from the write to the transaction that overlooks it
 abbrev pub hops_text : Table → List ClientSession → TxnAt → List Hop → List ℕ

@@ -3,13 +3,16 @@
 ghost use Rattle.std.specs.Prelude.{◌≡◌, ◌++◌, map, OnOk};
 ghost use Rattle.session_log.specs.Text.{view};
 ghost use Rattle.log_lines.specs.Rows.{rows_of};
-ghost use Rattle.tell_evidence.specs.Evidence.{short_why, missed_text, aborted_text};
-ghost use Rattle.tell_evidence.specs.Evidence.{overwritten_text, why_text, fault_text};
+ghost use Rattle.tell_evidence.specs.Evidence.{short_why, missed_text, abort_text, unknown_text};
+ghost use Rattle.tell_evidence.specs.Evidence.{outcome_text, aborted_text, overwritten_text};
+ghost use Rattle.tell_evidence.specs.Evidence.{later_text, why_text, short_fault, fault_text};
 
 use crate::paths::op_of;
-use crate::places::{key_at, line_of, outcome_at, wid_at};
-use crate::words::{Log, put, put_does, put_in_line, put_name, put_number, put_outcome, put_wrote};
-use level_refutations::{Fault, OpAt, Why};
+use crate::phrases::{Log, put, put_wrote};
+use crate::places::outcome_at;
+use crate::tell;
+use level_refutations::{Fault, OpAt, TxnAt, Why};
+use session_log::Outcome;
 use std::alloc::AllocError;
 
 /// What is wrong with a read, in short.
@@ -31,22 +34,54 @@ fn put_missed(out: &mut Vec<u8>, log: &Log<'_>, write: OpAt) -> Result<(), Alloc
     ensures put { OnOk result (out.new.items ≡ out.old.items
         ++ missed_text (rows_of log.now.places.now) (map view log.now.sessions.now) write) }
 {
-    put(out, b", but wrote ")?;
-    put(out, key_at(log.sessions, write))?;
-    put(out, b" ")?;
-    put_number(out, wid_at(log.sessions, write))?;
-    put(out, b" before")?;
-    put_in_line(out, line_of(log.places, write))
+    tell!(out, log;
+        Text(b", but wrote "), Key(write), Text(b" "), Wid(write), Text(b" before"),
+        AtLine(write))
+}
+
+/// Appends that a transaction was aborted.
+#[tactic(auto, unfolding(crate::specs::Evidence::abort_text))]
+fn put_abort(out: &mut Vec<u8>, log: &Log<'_>, at: TxnAt) -> Result<(), AllocError>
+    ensures put { OnOk result (out.new.items ≡ out.old.items
+        ++ abort_text (rows_of log.now.places.now) (map view log.now.sessions.now) at) }
+{
+    tell!(out, log; Text(b", and "), Name(at), Text(b" was aborted"), AtEnd(at))
+}
+
+/// Appends that it is not known how it ended.
+#[tactic(auto, unfolding(crate::specs::Evidence::unknown_text))]
+fn put_unknown(out: &mut Vec<u8>, log: &Log<'_>, at: TxnAt) -> Result<(), AllocError>
+    ensures put { OnOk result (out.new.items ≡ out.old.items
+        ++ unknown_text (rows_of log.now.places.now) (map view log.now.sessions.now) at) }
+{
+    tell!(out, log; Text(b", and the outcome of "), Name(at), Text(b" is unknown"), AtEnd(at))
+}
+
+/// Appends how a transaction ended, where it did not commit.
+fn put_outcome(
+    out: &mut Vec<u8>,
+    log: &Log<'_>,
+    at: TxnAt,
+    outcome: Outcome,
+) -> Result<(), AllocError>
+    ensures put { OnOk result (out.new.items ≡ out.old.items ++ outcome_text
+        (rows_of log.now.places.now) (map view log.now.sessions.now) at outcome) }
+{
+    match outcome {
+        Outcome::Commit => Ok(()),
+        Outcome::Abort => put_abort(out, log, at),
+        Outcome::Unknown => put_unknown(out, log, at),
+    }
 }
 
 /// Appends who wrote what a read names, and did not commit.
-#[tactic(auto, unfolding(crate::specs::Evidence::aborted_text))]
 fn put_aborted(out: &mut Vec<u8>, log: &Log<'_>, write: OpAt) -> Result<(), AllocError>
     ensures put { OnOk result (out.new.items ≡ out.old.items
         ++ aborted_text (rows_of log.now.places.now) (map view log.now.sessions.now) write) }
 {
+    let outcome = outcome_at(log.sessions, write.txn);
     put_wrote(out, log, write)?;
-    put_outcome(out, log, write.txn, outcome_at(log.sessions, write.txn))
+    put_outcome(out, log, write.txn, outcome)
 }
 
 /// Appends who wrote what a read names, and wrote over it.
@@ -60,10 +95,16 @@ fn put_overwritten(
     ensures put { OnOk result (out.new.items ≡ out.old.items ++ overwritten_text
         (rows_of log.now.places.now) (map view log.now.sessions.now) write later) }
 {
-    put_wrote(out, log, write)?;
-    put(out, b" and overwrote with ")?;
-    put_number(out, wid_at(log.sessions, later))?;
-    put_in_line(out, line_of(log.places, later))
+    tell!(out, log; Wrote(write), Text(b" and overwrote with "), Wid(later), AtLine(later))
+}
+
+/// Appends that the own transaction writes what a read names only later.
+#[tactic(auto, unfolding(crate::specs::Evidence::later_text))]
+fn put_later(out: &mut Vec<u8>, log: &Log<'_>, write: OpAt) -> Result<(), AllocError>
+    ensures put { OnOk result (out.new.items ≡ out.old.items
+        ++ later_text (rows_of log.now.places.now) (map view log.now.sessions.now) write) }
+{
+    tell!(out, log; Text(b", which it writes itself only later"), AtLine(write))
 }
 
 /// Appends what is wrong with a read.
@@ -78,23 +119,25 @@ fn put_why(out: &mut Vec<u8>, log: &Log<'_>, read: OpAt, why: Why) -> Result<(),
         Why::Overwritten { write, later } => {
             put_overwritten(out, log, write, op_of(write.txn, later))
         }
-        Why::OwnLater { write } => {
-            put(out, b", which it writes itself only later")?;
-            put_in_line(out, line_of(log.places, op_of(read.txn, write)))
-        }
+        Why::OwnLater { write } => put_later(out, log, op_of(read.txn, write)),
     }
 }
 
+/// Appends a read in a sentence with these words, and what it names.
+#[tactic(auto, unfolding(crate::specs::Evidence::short_fault))]
+fn put_short(out: &mut Vec<u8>, log: &Log<'_>, read: OpAt, words: &[u8]) -> Result<(), AllocError>
+    ensures put { OnOk result (out.new.items ≡ out.old.items ++ short_fault
+        (rows_of log.now.places.now) (map view log.now.sessions.now) read words.now) }
+{
+    tell!(out, log; Text(b"in short: "), Name(read.txn), Text(words), Does(b" reads ", read))
+}
+
 /// Appends a read that no level allows.
-#[tactic(auto, unfolding(crate::specs::Evidence::fault_text))]
 pub fn put_fault(out: &mut Vec<u8>, log: &Log<'_>, fault: &Fault) -> Result<(), AllocError>
     ensures put { OnOk result (out.new.items ≡ out.old.items
         ++ fault_text (rows_of log.now.places.now) (map view log.now.sessions.now) fault.now) }
 {
-    put(out, b"in short: ")?;
-    put_name(out, log, fault.read.txn)?;
-    put(out, short_why(fault.why))?;
-    put_does(out, log, b" reads ", fault.read)?;
+    put_short(out, log, fault.read, short_why(fault.why))?;
     put_why(out, log, fault.read, fault.why)?;
     put(out, b"\n")
 }

@@ -24,6 +24,7 @@ mod edges;
 mod faults;
 mod names;
 mod paths;
+mod phrases;
 mod places;
 mod telling;
 mod words;

@@ -1,7 +1,9 @@
 //! What the field calls a fault.
 
 ghost use Rattle.std.specs.Prelude.{◌≡◌};
+ghost use Rattle.std.specs.List.{list_any};
 ghost use Rattle.std.specs.Option.{option_copied};
+ghost use Rattle.tell_evidence.specs.Evidence.{is_forced_edge};
 ghost use Rattle.tell_evidence.specs.Names as spec;
 
 use crate::edges::is_forced_edge;
@@ -152,11 +154,46 @@ fn seen_name(
     }
 }
 
+/// Whether one of these edges is forced.
+fn some_forced(edges: &[Edge]) -> bool
+    ensures { result ≡ list_any is_forced_edge edges.now }
+{
+    edges.iter().any(|edge| is_forced_edge(edge))
+}
+
+/// Whether one of these edges is forced, and its read sees far.
+fn some_far(edges: &[Edge]) -> bool
+    ensures { result ≡ list_any spec.is_far_edge edges.now }
+{
+    edges.iter().any(|edge| is_far_edge(edge))
+}
+
+/// Whether one of these edges is forced by a session.
+fn some_by_session(edges: &[Edge]) -> bool
+    ensures { result ≡ list_any spec.is_session_edge edges.now }
+{
+    edges.iter().any(|edge| is_session_edge(edge))
+}
+
+/// Whether one of these edges is forced by a read of something else.
+fn some_by_other(edges: &[Edge]) -> bool
+    ensures { result ≡ list_any spec.is_other_edge edges.now }
+{
+    edges.iter().any(|edge| is_other_edge(edge))
+}
+
+/// Whether one of these edges is known by a session.
+fn some_known_session(edges: &[Edge]) -> bool
+    ensures { result ≡ list_any spec.is_known_session edges.now }
+{
+    edges.iter().any(|edge| is_known_session(edge))
+}
+
 /// The name of edges of which none is forced.
 fn known_name(edges: &[Edge]) -> &'static str
     ensures { result.now ≡ spec.known_name edges.now }
 {
-    if edges.iter().any(|edge| is_known_session(edge)) {
+    if some_known_session(edges) {
         "circular information flow (G1c-process)"
     } else {
         "circular information flow (G1c)"
@@ -167,16 +204,14 @@ fn known_name(edges: &[Edge]) -> &'static str
 fn forced_name(level: Level, edges: &[Edge]) -> Option<&'static str>
     ensures { option_copied result ≡ spec.forced_name level edges.now }
 {
-    let far = edges.iter().any(|edge| is_far_edge(edge));
-    let session = edges.iter().any(|edge| is_session_edge(edge));
-    let other = edges.iter().any(|edge| is_other_edge(edge));
-    seen_name(level, far, session, other, "read skew")
+    let (far, session) = (some_far(edges), some_by_session(edges));
+    seen_name(level, far, session, some_by_other(edges), "read skew")
 }
 
 fn circle_name(level: Level, edges: &[Edge]) -> Option<&'static str>
     ensures { option_copied result ≡ spec.circle_name level edges.now }
 {
-    if edges.iter().any(|edge| is_forced_edge(edge)) {
+    if some_forced(edges) {
         forced_name(level, edges)
     } else {
         Some(known_name(edges))

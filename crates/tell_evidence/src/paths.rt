@@ -9,7 +9,7 @@ ghost use Rattle.tell_evidence.specs.Sentences.{step_text, hop_text, reading_wor
 ghost use Rattle.tell_evidence.specs.Sentences.{behind_text, hops_text, is_of_write, reads_it};
 ghost use Rattle.tell_evidence.specs.Sentences.{link_behind, link_of, write_text, path_text};
 
-use crate::words::{Log, put, put_after, put_reads, put_too};
+use crate::phrases::{Log, put, put_after, put_reads, put_too};
 use level_refutations::{Hop, OpAt, Step, TxnAt};
 use std::alloc::AllocError;
 
@@ -48,12 +48,7 @@ fn put_step(
 }
 
 /// Appends a hop, with these words for a read.
-pub fn put_hop(
-    out: &mut Vec<u8>,
-    log: &Log<'_>,
-    words: &[u8],
-    hop: &Hop,
-) -> Result<(), AllocError>
+pub fn put_hop(out: &mut Vec<u8>, log: &Log<'_>, words: &[u8], hop: &Hop) -> Result<(), AllocError>
     ensures put { OnOk result (out.new.items ≡ out.old.items ++ hop_text
         (rows_of log.now.places.now) (map view log.now.sessions.now) words.now hop.now) }
 {
@@ -72,12 +67,7 @@ fn reading_words(reader: TxnAt, hop: &Hop) -> &'static [u8]
 }
 
 /// Appends a hop of a path to this transaction.
-fn put_part(
-    out: &mut Vec<u8>,
-    log: &Log<'_>,
-    reader: TxnAt,
-    hop: &Hop,
-) -> Result<(), AllocError>
+fn put_part(out: &mut Vec<u8>, log: &Log<'_>, reader: TxnAt, hop: &Hop) -> Result<(), AllocError>
     ensures put { OnOk result (out.new.items ≡ out.old.items ++ part_text
         (rows_of log.now.places.now) (map view log.now.sessions.now) reader hop.now) }
 {
@@ -102,12 +92,7 @@ fn put_behind(
 }
 
 /// Appends the hops of a path.
-fn put_hops(
-    out: &mut Vec<u8>,
-    log: &Log<'_>,
-    reader: TxnAt,
-    hops: &[Hop],
-) -> Result<(), AllocError>
+fn put_hops(out: &mut Vec<u8>, log: &Log<'_>, reader: TxnAt, hops: &[Hop]) -> Result<(), AllocError>
     ensures put { OnOk result (out.new.items ≡ out.old.items ++ hops_text
         (rows_of log.now.places.now) (map view log.now.sessions.now) reader hops.now) }
 {
@@ -161,12 +146,7 @@ fn link_of(path: &[Hop]) -> &'static [u8]
 
 /// Appends that the write is of the key too, where its path does not tell it.
 #[tactic(auto, unfolding(crate::specs::Sentences::write_text))]
-fn put_write(
-    out: &mut Vec<u8>,
-    log: &Log<'_>,
-    write: OpAt,
-    path: &[Hop],
-) -> Result<(), AllocError>
+fn put_write(out: &mut Vec<u8>, log: &Log<'_>, write: OpAt, path: &[Hop]) -> Result<(), AllocError>
     ensures put { OnOk result (out.new.items ≡ out.old.items ++ write_text
         (rows_of log.now.places.now) (map view log.now.sessions.now) write path.now) }
 {

@@ -75,7 +75,7 @@ pub fn place_at(places: &LogPlaces, at: TxnAt) -> usize
 
 /// The line that ends it.
 pub fn end_at(places: &LogPlaces, at: TxnAt) -> usize
-    ensures { result ≡ (spec.row_of (rows_of places.now) at).end }
+    ensures { result ≡ spec.end_of (rows_of places.now) at }
 {
     match row_at(places, at) {
         Some(row) => row.end,

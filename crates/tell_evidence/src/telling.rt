@@ -7,7 +7,7 @@ ghost use Rattle.tell_evidence.specs.Evidence as spec;
 
 use crate::edges::{put_circle, put_initial};
 use crate::faults::put_fault;
-use crate::words::Log;
+use crate::phrases::Log;
 use level_refutations::Evidence;
 use log_lines::LogPlaces;
 use session_log::Session;

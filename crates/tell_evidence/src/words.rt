@@ -1,176 +1,77 @@
-//! Sentences of what evidence names.
+//! What a line says, as a list of words.
 
-ghost use Rattle.std.specs.Prelude.{◌≡◌, ◌++◌, map, codes, decimal, OnOk};
+ghost use Rattle.std.specs.Prelude.{◌≡◌, ◌++◌, map, OnOk};
 ghost use Rattle.session_log.specs.Text.{view};
 ghost use Rattle.log_lines.specs.Rows.{rows_of};
-ghost use Rattle.tell_evidence.specs.Sentences.{name_text, in_line, version_text, does_text};
-ghost use Rattle.tell_evidence.specs.Sentences.{wrote_text, reads_text, too_text, outcome_text};
-ghost use Rattle.tell_evidence.specs.Sentences.{after_text};
+ghost use Rattle.tell_evidence.specs.Words.{word_text, words_text};
 
-use crate::places::{end_at, key_at, line_of, number_at, place_at, wid_at};
-use itoa::Buffer;
-use level_refutations::{OpAt, TxnAt};
-use log_lines::LogPlaces;
-use session_log::{Outcome, Session};
+use crate::paths::put_path;
+use crate::phrases::{
+    Log, put, put_does, put_in_line, put_name, put_number, put_version, put_wrote,
+};
+use crate::places::{end_at, key_at, line_of, wid_at};
+use level_refutations::{OpAt, Overlooked, TxnAt};
 use std::alloc::AllocError;
 
-/// The sessions of a log, or of a part of it, and where their transactions stand in the log.
+/// A part of what a line says.
 #[derive(Clone, Copy)]
-pub struct Log<'a> {
-    pub sessions: &'a [Session],
-    pub places: &'a LogPlaces,
+pub enum Word<'a> {
+    Text(&'a [u8]),
+    /// The name of a transaction, as `2.7`.
+    Name(TxnAt),
+    /// The key of an operation.
+    Key(OpAt),
+    /// The identity that it names.
+    Wid(OpAt),
+    /// Its line, as ` (line 12)`.
+    AtLine(OpAt),
+    /// The line that ends a transaction, as ` (line 12)`.
+    AtEnd(TxnAt),
+    /// What a transaction wrote of a key, as `the x of 1.3`.
+    Version(OpAt),
+    /// What a transaction does by an operation, as `2.7 reads x 4 (line 90)`.
+    Does(&'a [u8], OpAt),
+    /// That a transaction wrote what was told, as `, which 1.2 wrote (line 12)`.
+    Wrote(OpAt),
+    /// The line of a path, from a write to the transaction that overlooks it.
+    Path(&'a Overlooked),
 }
 
-/// Appends bytes.
-pub fn put(out: &mut Vec<u8>, bytes: &[u8]) -> Result<(), AllocError>
-    ensures put { OnOk result (out.new.items ≡ out.old.items ++ bytes.now) }
-{
-    out.extend_from_slice(bytes)
+/// Appends words: `tell!(out, log; Name(from), Text(b" comes before "), Name(to))`.
+#[macro_export]
+macro_rules! tell {
+    ($out:expr, $log:expr; $($kind:ident $parts:tt),+) => {
+        $crate::words::put_words($out, $log, &[$($crate::words::Word::$kind $parts),+])
+    };
 }
 
-/// Appends a number.
-pub fn put_number(out: &mut Vec<u8>, number: u64) -> Result<(), AllocError>
-    ensures put { OnOk result (out.new.items ≡ out.old.items ++ decimal number) }
+/// Appends a word.
+fn put_word(out: &mut Vec<u8>, log: &Log<'_>, word: &Word<'_>) -> Result<(), AllocError>
+    ensures text { OnOk result (out.new.items ≡ out.old.items
+        ++ word_text (rows_of log.now.places.now) (map view log.now.sessions.now) word.now) }
 {
-    let mut digits = Buffer::new();
-    out.extend_from_slice(digits.format(number).as_bytes())
-}
-
-/// Appends the name of a transaction.
-#[tactic(auto, unfolding(crate::specs::Sentences::name_text))]
-pub fn put_name(out: &mut Vec<u8>, log: &Log<'_>, at: TxnAt) -> Result<(), AllocError>
-    ensures put { OnOk result (out.new.items ≡ out.old.items
-        ++ name_text (rows_of log.now.places.now) (map view log.now.sessions.now) at) }
-{
-    put_number(out, number_at(log.sessions, at.session) as u64)?;
-    put(out, b".")?;
-    put_number(out, place_at(log.places, at) as u64)
-}
-
-/// Appends a line of the log.
-#[tactic(auto, unfolding(crate::specs::Sentences::in_line))]
-pub fn put_in_line(out: &mut Vec<u8>, line: usize) -> Result<(), AllocError>
-    ensures put { OnOk result (out.new.items ≡ out.old.items ++ in_line line) }
-{
-    put(out, b" (line ")?;
-    put_number(out, line as u64)?;
-    put(out, b")")
-}
-
-/// Appends what a transaction wrote of a key.
-#[tactic(auto, unfolding(crate::specs::Sentences::version_text))]
-pub fn put_version(out: &mut Vec<u8>, log: &Log<'_>, write: OpAt) -> Result<(), AllocError>
-    ensures put { OnOk result (out.new.items ≡ out.old.items
-        ++ version_text (rows_of log.now.places.now) (map view log.now.sessions.now) write) }
-{
-    put(out, b"the ")?;
-    put(out, key_at(log.sessions, write))?;
-    put(out, b" of ")?;
-    put_name(out, log, write.txn)
-}
-
-/// Appends an operation, with these words for what it does.
-#[tactic(auto, unfolding(crate::specs::Sentences::does_text))]
-pub fn put_does(
-    out: &mut Vec<u8>,
-    log: &Log<'_>,
-    words: &[u8],
-    at: OpAt,
-) -> Result<(), AllocError>
-    ensures put { OnOk result (out.new.items ≡ out.old.items
-        ++ does_text (rows_of log.now.places.now) (map view log.now.sessions.now) words.now at) }
-{
-    put_name(out, log, at.txn)?;
-    put(out, words)?;
-    put(out, key_at(log.sessions, at))?;
-    put(out, b" ")?;
-    put_number(out, wid_at(log.sessions, at))?;
-    put_in_line(out, line_of(log.places, at))
-}
-
-/// Appends who wrote it, behind what a read names.
-#[tactic(auto, unfolding(crate::specs::Sentences::wrote_text))]
-pub fn put_wrote(out: &mut Vec<u8>, log: &Log<'_>, write: OpAt) -> Result<(), AllocError>
-    ensures put { OnOk result (out.new.items ≡ out.old.items
-        ++ wrote_text (rows_of log.now.places.now) (map view log.now.sessions.now) write) }
-{
-    put(out, b", which ")?;
-    put_name(out, log, write.txn)?;
-    put(out, b" wrote")?;
-    put_in_line(out, line_of(log.places, write))
-}
-
-/// Appends a read, and who wrote what it names.
-#[tactic(auto, unfolding(crate::specs::Sentences::reads_text))]
-pub fn put_reads(
-    out: &mut Vec<u8>,
-    log: &Log<'_>,
-    words: &[u8],
-    read: OpAt,
-    write: OpAt,
-) -> Result<(), AllocError>
-    ensures put { OnOk result (out.new.items ≡ out.old.items ++ reads_text
-        (rows_of log.now.places.now) (map view log.now.sessions.now) words.now read write) }
-{
-    put_does(out, log, words, read)?;
-    put_wrote(out, log, write)
-}
-
-/// Appends that a transaction wrote a key too.
-#[tactic(auto, unfolding(crate::specs::Sentences::too_text))]
-pub fn put_too(out: &mut Vec<u8>, log: &Log<'_>, write: OpAt) -> Result<(), AllocError>
-    ensures put { OnOk result (out.new.items ≡ out.old.items
-        ++ too_text (rows_of log.now.places.now) (map view log.now.sessions.now) write) }
-{
-    put_name(out, log, write.txn)?;
-    put(out, b" wrote ")?;
-    put(out, key_at(log.sessions, write))?;
-    put(out, b" too")?;
-    put_in_line(out, line_of(log.places, write))
-}
-
-/// Appends how a transaction ended that did not commit.
-#[tactic(auto, unfolding(crate::specs::Sentences::outcome_text))]
-pub fn put_outcome(
-    out: &mut Vec<u8>,
-    log: &Log<'_>,
-    at: TxnAt,
-    outcome: Outcome,
-) -> Result<(), AllocError>
-    ensures put { OnOk result (out.new.items ≡ out.old.items ++ outcome_text
-        (rows_of log.now.places.now) (map view log.now.sessions.now) at outcome) }
-{
-    match outcome {
-        Outcome::Commit => Ok(()),
-        Outcome::Abort => {
-            put(out, b", and ")?;
-            put_name(out, log, at)?;
-            put(out, b" was aborted")?;
-            put_in_line(out, end_at(log.places, at))
-        }
-        Outcome::Unknown => {
-            put(out, b", and the outcome of ")?;
-            put_name(out, log, at)?;
-            put(out, b" is unknown")?;
-            put_in_line(out, end_at(log.places, at))
-        }
+    match word {
+        Word::Text(text) => put(out, text),
+        Word::Name(at) => put_name(out, log, *at),
+        Word::Key(at) => put(out, key_at(log.sessions, *at)),
+        Word::Wid(at) => put_number(out, wid_at(log.sessions, *at)),
+        Word::AtLine(at) => put_in_line(out, line_of(log.places, *at)),
+        Word::AtEnd(at) => put_in_line(out, end_at(log.places, *at)),
+        Word::Version(at) => put_version(out, log, *at),
+        Word::Does(does, at) => put_does(out, log, does, *at),
+        Word::Wrote(at) => put_wrote(out, log, *at),
+        Word::Path(it) => put_path(out, log, it.read, it.write, &it.path),
     }
 }
 
-/// Appends that a transaction comes after another one of its session.
-#[tactic(auto, unfolding(crate::specs::Sentences::after_text))]
-pub fn put_after(
-    out: &mut Vec<u8>,
-    log: &Log<'_>,
-    from: TxnAt,
-    to: TxnAt,
-) -> Result<(), AllocError>
-    ensures put { OnOk result (out.new.items ≡ out.old.items
-        ++ after_text (rows_of log.now.places.now) (map view log.now.sessions.now) from to) }
+/// Appends what words say, one behind the other.
+#[tactic(auto, using(crate::proofs::Joined::words_next))]
+pub fn put_words(out: &mut Vec<u8>, log: &Log<'_>, words: &[Word<'_>]) -> Result<(), AllocError>
+    ensures text { OnOk result (out.new.items ≡ out.old.items
+        ++ words_text (rows_of log.now.places.now) (map view log.now.sessions.now) words.now) }
 {
-    put_name(out, log, to)?;
-    put(out, b" comes after ")?;
-    put_name(out, log, from)?;
-    put(out, b" in session ")?;
-    put_number(out, number_at(log.sessions, from.session) as u64)
+    for word in words {
+        put_word(out, log, word)?;
+    }
+    Ok(())
 }

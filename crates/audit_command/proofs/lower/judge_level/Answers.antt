@@ -1,13 +1,14 @@
 use Rattle.std.proofs.Common.{map, Some, refl, sym, subst}
+use Rattle.std.specs.Prelude.{IfSome}
 use Rattle.session_log.specs.Text.{view}
 use Rattle.judging.specs.Judges.{IsVerdict}
 use Rattle.judging.specs.Made.{IsMade}
 use Rattle.judging.specs.declared.means.JudgeMeans.{JudgeMeans}
 use Rattle.judging.proofs.Resolved.{known}
 use Rattle.audit_command.specs.Audited.{at_level, refuted_of, IsRefutedWhere}
-use Rattle.audit_command.specs.Resolved.{IsResolved}
+use Rattle.audit_command.specs.Resolved.{IsResolved, IsPartOf}
 use Rattle.audit_command.proofs.Resolved.{verdict_part}
-use Rattle.audit_command.proofs.Lower.{refuted_where, part_where}
+use Rattle.audit_command.proofs.Lowest.{refuted_where, part_where}
 use Rattle.audit_command.proofs.lower.judge_level.Goals as goal
 
 pub returns : goal.returns
