@@ -1,5 +1,11 @@
 //! The commands, each with its options and what it answers.
 
+ghost use Rattle.std.specs.Prelude.{IfOk};
+ghost use Rattle.clap.specs.Simple.{App};
+ghost use Rattle.cobra_words.specs.Commands.{verify_app, encode_app, decode_app, refute_app};
+ghost use Rattle.cobra_words.specs.Commands.{solve_app, stats_app, split_app, with_workers};
+ghost use Rattle.cobra_words.specs.Commands.{with_formula, HasApp};
+
 use crate::{answers, options};
 use call_options::{AUDIT_DEFAULTS, CHECK_DEFAULTS, SearchDefaults};
 use clap::Command;
@@ -10,14 +16,18 @@ use std::alloc::{AllocError, Global};
 pub const VERSION: &str = "1.0.0 (commit unknown, not stamped)";
 
 /// A command that several workers take part in, with the log as its last word.
-fn with_workers<'a>(alloc: Global, command: Command<'a>) -> Result<Command<'a>, AllocError> {
+fn with_workers<'a>(alloc: Global, command: Command<'a>) -> Result<Command<'a>, AllocError>
+    ensures app { (a : App) → HasApp a command.entry → IfOk result (HasApp (with_workers a)) }
+{
     command
         .arg(options::workers(alloc))?
         .arg(options::log_file(alloc))
 }
 
 /// Such a command that works on a formula.
-fn with_formula<'a>(alloc: Global, command: Command<'a>) -> Result<Command<'a>, AllocError> {
+fn with_formula<'a>(alloc: Global, command: Command<'a>) -> Result<Command<'a>, AllocError>
+    ensures app { (a : App) → HasApp a command.entry → IfOk result (HasApp (with_formula a)) }
+{
     with_workers(alloc, command.arg(options::plain(alloc))?)
 }
 
@@ -41,14 +51,18 @@ fn with_search<'a>(
     with_workers(alloc, command)
 }
 
-fn encode<'a>(alloc: Global) -> Result<Command<'a>, AllocError> {
+fn encode<'a>(alloc: Global) -> Result<Command<'a>, AllocError>
+    ensures app { IfOk result (HasApp encode_app) }
+{
     let command = Command::new(alloc, "encode")
         .about("Write the formula of a log as DIMACS text")
         .after_help(answers::ENCODE);
     with_formula(alloc, command)
 }
 
-fn decode<'a>(alloc: Global) -> Result<Command<'a>, AllocError> {
+fn decode<'a>(alloc: Global) -> Result<Command<'a>, AllocError>
+    ensures app { IfOk result (HasApp decode_app) }
+{
     let command = Command::new(alloc, "decode")
         .about("Turn a solver's answer into a serial order")
         .after_help(answers::DECODE)
@@ -56,7 +70,9 @@ fn decode<'a>(alloc: Global) -> Result<Command<'a>, AllocError> {
     with_formula(alloc, command)
 }
 
-fn refute<'a>(alloc: Global) -> Result<Command<'a>, AllocError> {
+fn refute<'a>(alloc: Global) -> Result<Command<'a>, AllocError>
+    ensures app { IfOk result (HasApp refute_app) }
+{
     let command = Command::new(alloc, "refute")
         .about("Check a solver's proof that no serial order explains a log")
         .after_help(answers::REFUTE)
@@ -64,7 +80,9 @@ fn refute<'a>(alloc: Global) -> Result<Command<'a>, AllocError> {
     with_formula(alloc, command)
 }
 
-fn solve<'a>(alloc: Global) -> Result<Command<'a>, AllocError> {
+fn solve<'a>(alloc: Global) -> Result<Command<'a>, AllocError>
+    ensures app { IfOk result (HasApp solve_app) }
+{
     let command = Command::new(alloc, "solve")
         .about("Decide whether some serial order explains a log, by a search over its formula")
         .after_help(answers::SOLVE)
@@ -79,7 +97,9 @@ fn check<'a>(alloc: Global) -> Result<Command<'a>, AllocError> {
     with_search(alloc, command, CUBES, CHECK_DEFAULTS)
 }
 
-fn verify<'a>(alloc: Global) -> Result<Command<'a>, AllocError> {
+fn verify<'a>(alloc: Global) -> Result<Command<'a>, AllocError>
+    ensures app { IfOk result (HasApp verify_app) }
+{
     Command::new(alloc, "verify")
         .about("Check that an order is a serial order of a log")
         .after_help(answers::VERIFY)
@@ -87,7 +107,9 @@ fn verify<'a>(alloc: Global) -> Result<Command<'a>, AllocError> {
         .arg(options::log_file(alloc))
 }
 
-fn stats<'a>(alloc: Global) -> Result<Command<'a>, AllocError> {
+fn stats<'a>(alloc: Global) -> Result<Command<'a>, AllocError>
+    ensures app { IfOk result (HasApp stats_app) }
+{
     let command = Command::new(alloc, "stats")
         .about("Write how large a log and its formula are")
         .after_help(answers::STATS);
@@ -128,7 +150,9 @@ fn audit<'a>(alloc: Global) -> Result<Command<'a>, AllocError> {
     with_search(alloc, command, CUBES_AND_CONFLICTS, AUDIT_DEFAULTS)
 }
 
-fn split<'a>(alloc: Global) -> Result<Command<'a>, AllocError> {
+fn split<'a>(alloc: Global) -> Result<Command<'a>, AllocError>
+    ensures app { IfOk result (HasApp split_app) }
+{
     let command = Command::new(alloc, "split")
         .about("Write the log that has a serial order exactly where this one is snapshot isolated")
         .after_help(answers::SPLIT);

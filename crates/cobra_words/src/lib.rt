@@ -8,6 +8,7 @@ mod commands;
 mod options;
 mod reading;
 mod request;
+mod values;
 
 pub use call_options::Format;
 pub use commands::VERSION;

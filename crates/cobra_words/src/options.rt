@@ -1,5 +1,9 @@
 //! The options of commands.
 
+ghost use Rattle.std.specs.Prelude.{codes};
+ghost use Rattle.cobra_words.specs.Commands.{valued, flag, required_file, log_file, HasRule};
+ghost use Rattle.cobra_words.specs.Commands.{workers, conflicts};
+
 use clap::builder::ValueParser;
 use clap::{Arg, ArgAction};
 use std::alloc::{AllocError, Global};
@@ -36,7 +40,9 @@ const LEVELS: [&str; 9] = [
 const STRATEGIES: [&str; 4] = ["first", "most", "least", "forced"];
 
 /// An option with a value, which help calls so.
-fn valued<'a>(alloc: Global, name: &'a str, value: &'a str) -> Arg<'a> {
+fn valued<'a>(alloc: Global, name: &'a str, value: &'a str) -> Arg<'a>
+    ensures rule { HasRule (valued name.entry.now) result }
+{
     Arg::new(alloc, name)
         .long(name)
         .value_name(value)
@@ -44,22 +50,30 @@ fn valued<'a>(alloc: Global, name: &'a str, value: &'a str) -> Arg<'a> {
 }
 
 /// An option without a value.
-fn flag<'a>(alloc: Global, name: &'a str) -> Arg<'a> {
+fn flag<'a>(alloc: Global, name: &'a str) -> Arg<'a>
+    ensures rule { HasRule (flag name.entry.now) result }
+{
     Arg::new(alloc, name).long(name).action(ArgAction::SetTrue)
 }
 
-pub fn log_file<'a>(alloc: Global) -> Arg<'a> {
+pub fn log_file<'a>(alloc: Global) -> Arg<'a>
+    ensures rule { HasRule log_file result }
+{
     Arg::new(alloc, "FILE").help("The log; standard input where it is - or absent")
 }
 
-pub fn workers<'a>(alloc: Global) -> Arg<'a> {
+pub fn workers<'a>(alloc: Global) -> Arg<'a>
+    ensures rule { HasRule workers result }
+{
     valued(alloc, "workers", "N")
         .help("How many workers take part, 1 to 16")
         .value_parser(clap::value_parser!(u8).range(1..=16))
         .default_value(DEFAULT_WORKERS)
 }
 
-pub fn plain<'a>(alloc: Global) -> Arg<'a> {
+pub fn plain<'a>(alloc: Global) -> Arg<'a>
+    ensures rule { HasRule (flag (codes "plain")) result }
+{
     flag(alloc, "plain").help("Use the plain formula, of at most 100 transactions")
 }
 
@@ -79,7 +93,9 @@ pub fn budget<'a>(alloc: Global, help: &'a str, default: &'a str) -> Arg<'a> {
         .default_value(default)
 }
 
-pub fn conflicts<'a>(alloc: Global) -> Arg<'a> {
+pub fn conflicts<'a>(alloc: Global) -> Arg<'a>
+    ensures rule { HasRule conflicts result }
+{
     Arg::new(alloc, "conflicts")
         .long("budget")
         .value_name("N")
@@ -96,7 +112,9 @@ pub fn format<'a>(alloc: Global) -> Arg<'a> {
         .default_value("text")
 }
 
-pub fn required_file<'a>(alloc: Global, name: &'a str, help: &'a str) -> Arg<'a> {
+pub fn required_file<'a>(alloc: Global, name: &'a str, help: &'a str) -> Arg<'a>
+    ensures rule { HasRule (required_file name.entry.now) result }
+{
     valued(alloc, name, "FILE").help(help).required(true)
 }
 

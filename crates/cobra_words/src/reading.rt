@@ -1,134 +1,108 @@
 //! From words to what they ask for.
 
+ghost use Rattle.std.specs.Prelude.{◌≡◌, ◌<◌, ◌≤◌, codes, IfSome, IsSome};
+ghost use Rattle.clap.specs.Matches.{found_of};
+ghost use Rattle.clap.specs.Walk.{rows_of};
+ghost use Rattle.cobra_words.specs.declared.request.Command.{Command};
+ghost use Rattle.cobra_words.specs.declared.request.Request.{Request};
+ghost use Rattle.cobra_words.specs.Asked.{AreAuditWords, IsCommand, IsRequest, IsAskedBy};
+
 use crate::commands::program;
 use crate::request::{AuditWords, Command, Request, Words};
-use call_options::{Format, ReportForm};
+use crate::values::{
+    byte_of, flag_of, format_of, level_of, log_of, number_of, report_of, short_number_of,
+    strategy_of, text_of,
+};
 use clap::ArgMatches;
 use clap::error::ErrorKind;
-use cube_machine::{Budget, StrategyName};
+use cube_machine::Budget;
 use desk::seat_no::Workers;
-use isolation::Isolation;
 use std::alloc::{AllocError, Global};
 
-/// The name of a log that stands for standard input.
-const STANDARD_INPUT: &str = "-";
-
-/// The file that holds the log, and nothing for standard input.
-fn log_of<'a>(matches: &ArgMatches<'a>) -> Option<&'a str> {
-    matches
-        .get_str("FILE")
-        .filter(|name| *name != STANDARD_INPUT)
-}
-
-/// The strategy, of which the command line has filled in the default of its command.
-fn strategy_of(matches: &ArgMatches<'_>) -> StrategyName {
-    match matches.get_str("strategy") {
-        Some("most") => StrategyName::Most,
-        Some("least") => StrategyName::Least,
-        Some("forced") => StrategyName::Forced,
-        _ => StrategyName::First,
-    }
-}
-
-/// The form of an explanation; any word but this stands for the default, and so does none.
-fn format_of(matches: &ArgMatches<'_>) -> Format {
-    match matches.get_str("format") {
-        Some("dot") => Format::Dot,
-        _ => Format::Text,
-    }
-}
-
-/// The form of a report; any word but this stands for the default, and so does none.
-fn report_of(matches: &ArgMatches<'_>) -> ReportForm {
-    match matches.get_str("format") {
-        Some("json") => ReportForm::Json,
-        _ => ReportForm::Text,
-    }
-}
-
-/// The level of isolation, where one is named.
-fn level_of(matches: &ArgMatches<'_>) -> Option<Isolation> {
-    match matches.get_str("level")? {
-        "strict-serializable" => Some(Isolation::StrictSerializable),
-        "serializable" => Some(Isolation::Serializable),
-        "strict-snapshot" => Some(Isolation::StrictSnapshot),
-        "snapshot" => Some(Isolation::Snapshot),
-        "prefix" => Some(Isolation::Prefix),
-        "causal" => Some(Isolation::Causal),
-        "read-atomic" => Some(Isolation::ReadAtomic),
-        "monotonic-atomic-view" => Some(Isolation::MonotonicAtomicView),
-        "read-committed" => Some(Isolation::ReadCommitted),
-        _ => None,
-    }
-}
-
-fn audit_of<'a>(matches: &ArgMatches<'a>) -> AuditWords<'a> {
+/// What is asked of `audit`: why no order explains the log is to be said, or not.
+fn audit_of<'a>(matches: &ArgMatches<'a>, explain: bool) -> AuditWords<'a>
+    ensures words { AreAuditWords (rows_of (found_of matches.now)) explain result }
+{
     AuditWords {
-        at_least: matches.get_one::<u32>("at-least").unwrap_or(1) as usize,
-        faults: matches.get_one::<u16>("faults").map_or(1, usize::from),
-        seconds: matches.get_one::<u32>("seconds"),
-        level: level_of(matches),
-        only: matches.get_flag("only"),
-        no_moments: matches.get_flag("no-moments"),
-        explain: matches.get_flag("explain"),
-        part: matches.get_str("part"),
-        order: matches.get_str("order"),
-        format: report_of(matches),
-        quiet: matches.get_flag("quiet"),
-        progress: matches.get_flag("progress"),
+        at_least: number_of(matches, "at-least").unwrap_or(1) as usize,
+        faults: short_number_of(matches, "faults").unwrap_or(1) as usize,
+        seconds: number_of(matches, "seconds"),
+        level: level_of(text_of(matches, "level")),
+        only: flag_of(matches, "only"),
+        no_moments: flag_of(matches, "no-moments"),
+        explain,
+        part: text_of(matches, "part"),
+        order: text_of(matches, "order"),
+        format: report_of(text_of(matches, "format")),
+        quiet: flag_of(matches, "quiet"),
+        progress: flag_of(matches, "progress"),
     }
 }
 
 /// A call of `explain`: of a level that is named, what `audit` says and why.
-fn explain_of<'a>(matches: &ArgMatches<'a>) -> Command<'a> {
-    match level_of(matches) {
-        Some(_) => Command::Audit(AuditWords {
-            explain: true,
-            ..audit_of(matches)
-        }),
+fn explain_of<'a>(matches: &ArgMatches<'a>) -> Command<'a>
+    ensures command { IsCommand (codes "explain") (rows_of (found_of matches.now)) result }
+{
+    match level_of(text_of(matches, "level")) {
+        Some(_) => Command::Audit(audit_of(matches, true)),
         None => Command::Explain {
-            format: format_of(matches),
+            format: format_of(text_of(matches, "format")),
         },
     }
 }
 
-fn command_of<'a>(name: &str, matches: &ArgMatches<'a>) -> Option<Command<'a>> {
+fn command_of<'a>(name: &str, matches: &ArgMatches<'a>) -> Option<Command<'a>>
+    ensures command { IfSome result (IsCommand name.now (rows_of (found_of matches.now))) }
+    ensures known { (c : Command) → IsCommand name.now (rows_of (found_of matches.now)) c
+        → IsSome result }
+{
     match name {
         "encode" => Some(Command::Encode),
         "decode" => Some(Command::Decode {
-            model: matches.get_str("model")?,
+            model: text_of(matches, "model")?,
         }),
         "refute" => Some(Command::Refute {
-            proof: matches.get_str("proof")?,
+            proof: text_of(matches, "proof")?,
         }),
         "solve" => Some(Command::Solve {
-            conflicts: matches.get_one::<u32>("conflicts")?,
+            conflicts: number_of(matches, "conflicts")?,
         }),
         "check" => Some(Command::Check),
         "verify" => Some(Command::Verify {
-            order: matches.get_str("order")?,
+            order: text_of(matches, "order")?,
         }),
         "stats" => Some(Command::Stats),
         "explain" => Some(explain_of(matches)),
-        "audit" => Some(Command::Audit(audit_of(matches))),
+        "audit" => Some(Command::Audit(audit_of(matches, flag_of(matches, "explain")))),
         "split" => Some(Command::Split),
         _ => None,
     }
 }
 
-fn request_of<'a>(program: &ArgMatches<'a>) -> Option<Request<'a>> {
-    let (name, matches) = program.subcommand()?;
+/// What the matches of the command of this name ask for.
+fn request_at<'a>(name: &str, matches: &ArgMatches<'a>) -> Option<Request<'a>>
+    ensures request { IfSome result (IsRequest name.now (rows_of (found_of matches.now))) }
+    ensures known { (r : Request) → IsRequest name.now (rows_of (found_of matches.now)) r
+        → 0 < r.workers → r.workers ≤ 16 → 0 < r.budget → r.budget ≤ 1000000 → IsSome result }
+{
     let command = command_of(name, matches)?;
-    let number = matches.get_one::<u8>("workers").unwrap_or(4);
-    let budget = matches.get_one::<u32>("budget").unwrap_or(10_000);
+    let number = byte_of(matches, "workers").unwrap_or(4);
+    let budget = number_of(matches, "budget").unwrap_or(10_000);
     Some(Request {
         command,
-        plain: matches.get_flag("plain"),
+        plain: flag_of(matches, "plain"),
         workers: Workers::new(number)?,
-        strategy: strategy_of(matches),
+        strategy: strategy_of(text_of(matches, "strategy")),
         budget: Budget::new(budget as usize)?,
-        log: log_of(matches),
+        log: log_of(text_of(matches, "FILE")),
     })
+}
+
+fn request_of<'a>(program: &ArgMatches<'a>) -> Option<Request<'a>>
+    ensures request { IfSome result (IsAskedBy program.now) }
+{
+    let (name, matches) = program.subcommand()?;
+    request_at(name, matches)
 }
 
 /// What these words ask for, the first of which is the program's name. `None` is never given for

@@ -1,0 +1,23 @@
+-- What a call leaves, from what its parts do.
+use Rattle.std.proofs.Common.{◌≡◌, ℕ, List, Option, subst}
+use Rattle.std.specs.Io.KnownBytes.{Keeps}
+use Rattle.cobra_answers.specs.declared.status.Status.{Status}
+use Rattle.cobra_words.specs.declared.request.Request.{Request}
+use Rattle.cobra_calls.specs.declared.ending.Ending.{Ending}
+use Rattle.cobra_calls.specs.Calls.{IsDone, IsEnded}
+use Rattle.cobra_calls.specs.Worlds.{Held, IsReading, IsLogRead, IsNamedRead, IsEnding, IsAnswer, by_command}
+
+pub reading_of : (r : Request) (given : Option (List ℕ)) (held later : Held) (log named : List ℕ) → IsLogRead r given held log → later ≡ held → IsNamedRead r.command later named → IsReading r given held (record { log = log; named = named })
+reading_of r given held later log named l e n = record { log = l; named = subst (λ (h : Held). IsNamedRead r.command h named) e n }
+
+pub ended_by_command : (r : Request) (given : Option (List ℕ)) (held later : Held) (log named : List ℕ) (old new : Option (List ℕ)) (e : Ending) → IsLogRead r given held log → later ≡ held → IsNamedRead r.command later named → IsEnded r (record { log = log; named = named }) old new e → IsEnding r given held old new e
+ended_by_command r given held later log named old new e l s n h = by_command (record { log = log; named = named }) (reading_of r given held later log named l s n) h
+
+pub answered_so : (r : Request) (given : Option (List ℕ)) (held later : Held) (log named : List ℕ) (old told new : Option (List ℕ)) (s : Status) → IsLogRead r given held log → later ≡ held → IsNamedRead r.command later named → IsDone r (record { log = log; named = named }) old told s → Keeps told new → IsAnswer r given held old new s
+answered_so r given held later log named old told new s l e n d k = record {
+  read = record { log = log; named = named };
+  reading = reading_of r given held later log named l e n;
+  told = told;
+  done = d;
+  handed = k;
+}

@@ -1,0 +1,5 @@
+pub mod Left
+pub mod Taken
+pub mod Handing
+pub mod Saying
+pub mod Cuts

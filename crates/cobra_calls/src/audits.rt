@@ -1,0 +1,273 @@
+//! A call of `audit`.
+
+ghost use Rattle.std.specs.Prelude.{◌≡◌, ◌≢◌, true, ◌∷◌, [], string_bytes, IfOk, IfErr, OnOk, OnErr};
+ghost use Rattle.cobra_calls.specs.Files.{Adds, AreCutShort};
+ghost use Rattle.cobra_calls.specs.Endings.{IsUnusable};
+ghost use Rattle.cobra_calls.specs.Worlds.{IsCutShort};
+ghost use Rattle.cobra_calls.specs.Audits.{AreOptions, deadline_of, map_path, part_files, order_files};
+ghost use Rattle.cobra_calls.specs.Audits.{files_of, IsHandedOn, IsAuditDone, IsAuditEnding};
+ghost use Rattle.cobra_calls.specs.Audits.{IsUsage, IsUnwritten, IsRefusalTold};
+
+use crate::ending::Ending;
+use crate::splits::log_name;
+use crate::world::{NewFiles, Outlet};
+use audit_command::{AuditOptions, Audited, PartFile, Refusal, audit};
+use cobra_answers::{Status, Stop};
+use cobra_words::{AuditWords, Request, VERSION};
+use deciding::Means;
+use judging::{JudgeMeans, Level};
+use output::{Sink, SinkFailed, write_all};
+use progress::{Deadline, Progress};
+use std::alloc::{AllocError, Global};
+use std::io::Eprint;
+use std::sync::Wait;
+use std::thread::Threads;
+use std::time::{Clock, Instant};
+
+/// Until when something further is begun, in a call that began then.
+fn deadline_of(start: Option<Instant>, seconds: Option<u32>) -> Option<Deadline>
+    ensures deadline { result ≡ deadline_of start seconds }
+{
+    match start {
+        Some(start) => match seconds {
+            Some(seconds) => Some(Deadline { start, seconds }),
+            None => None,
+        },
+        None => None,
+    }
+}
+
+/// What a call asks for that began then.
+fn options_of<'a>(
+    request: &Request<'a>,
+    words: &AuditWords<'a>,
+    start: Option<Instant>,
+) -> AuditOptions<'a>
+    ensures options { AreOptions request.now words.now start result }
+{
+    let deciding = Means {
+        workers: request.workers,
+        strategy: request.strategy,
+        budget: request.budget,
+    };
+    AuditOptions {
+        means: JudgeMeans {
+            level: Level::Serializable,
+            deciding,
+            deadline: deadline_of(start, words.seconds),
+        },
+        at_least: words.at_least,
+        faults: words.faults,
+        level: words.level,
+        only: words.only,
+        no_moments: words.no_moments,
+        explain: words.explain,
+        part: words.part.is_some(),
+        order: words.order.is_some(),
+        form: words.format,
+        quiet: words.quiet,
+        version: VERSION,
+    }
+}
+
+/// The name of the map beside the part; empty where no part is asked for.
+fn map_path(alloc: Global, part: Option<&str>) -> Result<String, AllocError>
+    ensures path { IfOk result (λ path. string_bytes path ≡ map_path part.entry) }
+{
+    match part {
+        Some(part) => format!(in alloc; "{part}.map"),
+        None => Ok(String::new(alloc)),
+    }
+}
+
+/// Refuses two files of a call that are one.
+fn refuse_same(alloc: Global, one: &str, other: &str) -> Result<(), Ending>
+    ensures apart { OnOk result (one.now ≢ other.now) }
+    ensures refused { IfErr result IsUsage }
+{
+    if one == other {
+        return Err(Ending::usage(format!(in alloc;
+            "error: the call names {one} twice, and would write over it"
+        )));
+    }
+    Ok(())
+}
+
+/// Refuses a call whose files would be written over the log or over one another.
+fn refuse_same_files(
+    alloc: Global,
+    request: &Request<'_>,
+    words: &AuditWords<'_>,
+    map: &str,
+) -> Result<(), Ending>
+    ensures refused { IfErr result IsUsage }
+{
+    let log = log_name(request);
+    if let Some(part) = words.part {
+        refuse_same(alloc, log, part)?;
+        refuse_same(alloc, log, map)?;
+        refuse_same(alloc, words.order.unwrap_or(log), part)?;
+        refuse_same(alloc, words.order.unwrap_or(log), map)?;
+    }
+    match words.order {
+        Some(order) => refuse_same(alloc, log, order),
+        None => Ok(()),
+    }
+}
+
+/// Writes a file.
+fn put_file<F: NewFiles>(
+    alloc: Global,
+    path: &str,
+    bytes: &[u8],
+    files: &mut F,
+) -> Result<(), Ending>
+    ensures put { OnOk result (Adds (F.files files.old) (F.files files.new)
+        ((path.now, bytes.now) ∷ [])) }
+    ensures failed { OnErr result (AreCutShort ((path.now, bytes.now) ∷ [])
+        (F.files files.old) (F.files files.new)) }
+    ensures unwritten { IfErr result IsUnwritten }
+{
+    match files.put(path, bytes) {
+        Ok(()) => Ok(()),
+        Err(error) => Err(Ending::unusable(alloc, path, error)),
+    }
+}
+
+/// Writes the part as a log, and its map beside it.
+fn put_part<F: NewFiles>(
+    alloc: Global,
+    path: Option<&str>,
+    map: &str,
+    part: &Option<PartFile>,
+    files: &mut F,
+) -> Result<(), Ending>
+    ensures put { OnOk result (Adds (F.files files.old) (F.files files.new)
+        (part_files path.entry map.now part.now)) }
+    ensures failed { OnErr result (AreCutShort (part_files path.entry map.now part.now)
+        (F.files files.old) (F.files files.new)) }
+    ensures unwritten { IfErr result IsUnwritten }
+{
+    let Some(path) = path else {
+        return Ok(());
+    };
+    match part {
+        Some(part) => {
+            if let Err(ending) = put_file(alloc, path, &part.log, files) {
+                return Err(ending);
+            }
+            put_file(alloc, map, &part.map, files)
+        }
+        None => Ok(()),
+    }
+}
+
+/// Writes the order.
+fn put_order<F: NewFiles>(
+    alloc: Global,
+    path: Option<&str>,
+    order: &Option<Vec<u8>>,
+    files: &mut F,
+) -> Result<(), Ending>
+    ensures put { OnOk result (Adds (F.files files.old) (F.files files.new)
+        (order_files path.entry order.now)) }
+    ensures failed { OnErr result (AreCutShort (order_files path.entry order.now)
+        (F.files files.old) (F.files files.new)) }
+    ensures unwritten { IfErr result IsUnwritten }
+{
+    let Some(path) = path else {
+        return Ok(());
+    };
+    match order {
+        Some(order) => put_file(alloc, path, order, files),
+        None => Ok(()),
+    }
+}
+
+/// Writes the files that are asked for.
+fn put_files<F: NewFiles>(
+    alloc: Global,
+    audited: &Audited,
+    words: &AuditWords<'_>,
+    map: &str,
+    files: &mut F,
+) -> Result<(), Ending>
+    requires map { map.now ≡ map_path words.now.part }
+    ensures put { OnOk result (Adds (F.files files.old) (F.files files.new)
+        (files_of words.now audited.now)) }
+    ensures failed { OnErr result (AreCutShort (files_of words.now audited.now)
+        (F.files files.old) (F.files files.new)) }
+    ensures unwritten { IfErr result IsUnwritten }
+{
+    if let Err(ending) = put_part(alloc, words.part, map, &audited.part, files) {
+        return Err(ending);
+    }
+    put_order(alloc, words.order, &audited.order, files)
+}
+
+/// Tells a text whole, and hands it on.
+pub fn hand_on<W: Outlet>(text: &[u8], sink: &mut W) -> Result<(), Ending>
+    ensures told { OnOk result (IsHandedOn (W.bytes sink.old) (W.bytes sink.new) text.now) }
+    ensures cut { OnErr result (IsCutShort (W.bytes sink.old) (W.bytes sink.new) text.now) }
+    ensures through { OnOk result (W.is_through sink.new ≡ true) }
+    ensures output { IfErr result (λ e. e ≡ Ending.Stop Stop.Output) }
+{
+    if write_all(sink, text).is_err() {
+        return Err(Ending::Stop(Stop::Output));
+    }
+    match sink.flush() {
+        Ok(()) => Ok(()),
+        Err(SinkFailed) => Err(Ending::Stop(Stop::Output)),
+    }
+}
+
+/// Tells why a log of this name is refused, and how the call ends.
+fn refuse<W: Outlet>(
+    alloc: Global,
+    log: &[u8],
+    name: &str,
+    refusal: &Refusal,
+    sink: &mut W,
+) -> Ending
+    ensures told { IsRefusalTold name.now refusal.now (W.bytes sink.old) (W.bytes sink.new) result }
+{
+    match refusal {
+        Refusal::Memory => Ending::memory(),
+        Refusal::Log { fault, text } => match hand_on(text, sink) {
+            Ok(()) => Ending::refused(alloc, name, log, *fault),
+            Err(ending) => ending,
+        },
+    }
+}
+
+/// Says of a long log whether it has a serial order, and writes the files that are asked for. The
+/// call began then.
+pub fn audit_log<R: Threads + Wait + Clock + Eprint + Sync, W: Outlet, F: NewFiles, P: Progress>(
+    rt: &R,
+    alloc: Global,
+    log: &[u8],
+    request: &Request<'_>,
+    words: &AuditWords<'_>,
+    start: Option<Instant>,
+    progress: &mut P,
+    sink: &mut W,
+    files: &mut F,
+) -> Result<Status, Ending>
+    ensures done { IfOk result (IsAuditDone request.now words.now start log.now
+        (W.bytes sink.old) (W.bytes sink.new) (F.files files.old) (F.files files.new)) }
+    ensures through { OnOk result (W.is_through sink.new ≡ true) }
+    ensures ended { IfErr result (IsAuditEnding request.now words.now start log.now
+        (W.bytes sink.old) (W.bytes sink.new) (F.files files.old) (F.files files.new)) }
+{
+    let map = map_path(alloc, words.part)?;
+    refuse_same_files(alloc, request, words, &map)?;
+    let options = options_of(request, words, start);
+    match audit(rt, alloc, log, &options, progress) {
+        Ok(audited) => {
+            hand_on(&audited.reply.text, sink)?;
+            put_files(alloc, &audited, words, &map, files)?;
+            Ok(audited.reply.status)
+        }
+        Err(refusal) => Err(refuse(alloc, log, log_name(request), &refusal, sink)),
+    }
+}

@@ -1,0 +1,77 @@
+//! What is outside of the program, as the system has it: files, standard input and the two outputs.
+//! Nothing here decides anything. What is read, told and answered is said by `cobra_calls`, for each
+//! such world.
+
+ghost use Rattle.std.specs.Prelude.{◌^◌, ◌<◌, None};
+
+use cobra_calls::{Errors, Inputs, NewFiles, Unread, read_up_to};
+use output::SinkFailed;
+use std::alloc::Global;
+use std::fmt::Display;
+use std::fs;
+use std::io::{self, Eprint, ErrorKind, Read, Write};
+use std::rt::Files;
+
+/// Standard input, until it is read, and the files of the system. No contract knows their bytes.
+#[derive(Drop)]
+pub struct SystemInputs<'a, R, I> {
+    pub rt: &'a R,
+    pub input: Option<I>,
+}
+
+impl<R: Files, I: Read + Drop> Inputs for SystemInputs<'_, R, I> {
+    ghost given = { λ _. None };
+
+    ghost held = { λ _ _. None };
+
+    fn read_given(&mut self, alloc: Global, limit: usize) -> Result<Vec<u8>, Unread> {
+        match self.input.take() {
+            Some(input) => read_up_to(alloc, input, limit),
+            None => Err(Unread::Device(io::Error::from(ErrorKind::NotFound))),
+        }
+    }
+
+    fn read_held(&mut self, alloc: Global, name: &str, limit: usize) -> Result<Vec<u8>, Unread> {
+        match fs::open(self.rt, name) {
+            Ok(file) => read_up_to(alloc, file, limit),
+            Err(error) => Err(Unread::Device(error)),
+        }
+    }
+}
+
+/// Standard error. No contract knows its bytes.
+#[derive(Drop)]
+pub struct SystemErrors<'a, R> {
+    pub rt: &'a R,
+    pub is_broken: bool,
+}
+
+impl<R: Eprint> Errors for SystemErrors<'_, R> {
+    ghost lines = { λ _. None };
+
+    ghost is_broken = { λ e. e.is_broken };
+
+    fn tell<D: Display + Drop>(&mut self, text: D) -> Result<(), SinkFailed> {
+        match self.rt.eprint(text) {
+            Ok(()) => Ok(()),
+            Err(_) => {
+                self.is_broken = true;
+                Err(SinkFailed)
+            }
+        }
+    }
+}
+
+/// Files that are written. No contract knows them.
+#[derive(Drop)]
+pub struct SystemFiles<'a, R> {
+    pub rt: &'a R,
+}
+
+impl<R: Files> NewFiles for SystemFiles<'_, R> {
+    ghost files = { λ _. None };
+
+    fn put(&mut self, name: &str, bytes: &[u8]) -> io::Result<()> {
+        fs::create(self.rt, name).and_then(|mut file| file.write_all(bytes))
+    }
+}

@@ -1,0 +1,8 @@
+use Rattle.std.proofs.Common.{rules}
+use Rattle.std.specs.Prelude.{codes}
+use Rattle.clap.specs.Simple.{with_rule}
+use Rattle.cobra_words.specs.Commands.{flag}
+use Rattle.cobra_words.proofs.commands.with_formula.Goals as goal
+
+pub returns : goal.returns
+returns c = record { app = λ a h. c.with_workers.ensures.app (with_rule a (flag (codes "plain"))) (let is = h.is in let own = h.own in record { is = search rules; own = search rules }) }

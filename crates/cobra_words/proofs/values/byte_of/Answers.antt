@@ -1,0 +1,16 @@
+use Rattle.std.proofs.Common.{ℕ, List, Result, subst}
+use Rattle.std.specs.declared.num.ParseIntError.{ParseIntError}
+use Rattle.std.specs.Str.Parse.{ParsesUnsigned, ExplainsUnsignedError, HasUnsignedDigitsIfOk}
+use Rattle.clap.specs.Matches.{found_of, one_text}
+use Rattle.cobra_words.specs.Asked.{IsNumber}
+use Rattle.cobra_words.proofs.Rows.{number_at, one_rows}
+use Rattle.cobra_words.proofs.values.byte_of.Goals as goal
+
+pub returns : goal.returns
+returns c =
+    let f = found_of c.args.matches.now in
+    let gives : List ℕ → Result ℕ ParseIntError → Type 0 = λ bs r. ParsesUnsigned 8 10 bs r × ExplainsUnsignedError 10 bs r × HasUnsignedDigitsIfOk bs r in
+    record {
+      number = subst (λ text. IsNumber 8 text c.get_one.result) (one_rows f c.args.id.now)
+          (number_at ParseIntError 8 gives (one_text f c.args.id.now) c.get_one.result (λ bs x h. h.0) c.get_one.ensures.none c.get_one.ensures.value);
+    }
