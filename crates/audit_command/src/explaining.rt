@@ -62,7 +62,7 @@ pub fn searched(alloc: Global) -> Result<Explained, AllocError>
 
 /// A name, where there is one.
 pub fn owned(alloc: Global, name: Option<&'static str>) -> Result<Option<String>, AllocError>
-    ensures text { IfOk result (λ text. option_map string_bytes text ≡ option_copied name) }
+    ensures text { IfOk result (λ text. option_map string_bytes text ≡ option_copied name.entry) }
 {
     match name {
         Some(name) => Ok(Some(String::from_str(alloc, name)?)),
