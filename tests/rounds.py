@@ -19,7 +19,7 @@ stores = importlib.util.module_from_spec(spec)
 spec.loader.exec_module(stores)
 Aborted, Lost, Died = stores.Aborted, stores.Lost, stores.Died
 
-LEVELS = 'strict-serializable', 'serializable', 'strict-snapshot', 'snapshot'
+LEVELS = 'strict-serializable', 'serializable', 'strict-snapshot', 'snapshot', 'prefix'
 FOLLOW = os.path.join(TOP, 'tools', 'follow.py')
 EVERY, ROUNDS = 25, 20
 
