@@ -8,5 +8,7 @@
 
 mod mark;
 mod table;
+mod tables;
 
 pub use table::{held, hold};
+pub use tables::KeyTable;

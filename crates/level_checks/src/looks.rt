@@ -5,9 +5,10 @@ ghost use Rattle.std.specs.Prelude.{◌≡◌, ◌≢◌, ◌≤◌, ◌<◌, �
 ghost use Rattle.std.specs.List.{AllByRecursion};
 ghost use Rattle.std.specs.BTreeSet.{contains};
 ghost use Rattle.level_checks.specs.Chains.{IsChain};
-ghost use Rattle.level_checks.specs.Spots.{spot_cmp, AreNoted};
+ghost use Rattle.level_checks.specs.Spots.{spot_cmp, AreNoted, AreKept};
 ghost use Rattle.level_checks.specs.Seen.{NoneSeen, SeenIn, AreMarked, IsClearLook};
 
+use crate::noted::Noted;
 use crate::trace::Look;
 use crate::trail::{Passed, none_between, writes_at};
 use std::collections::BTreeSet;
@@ -101,14 +102,14 @@ fn is_clear_far(
 /// The same, where what is read from is marked.
 pub fn is_clear(
     entries: &[Passed],
-    spots: &BTreeSet<(usize, usize, usize)>,
+    noted: &Noted,
     look: Look,
     row: &[usize],
     marks: &[usize],
     mark: usize,
     front: &[Look],
 ) -> bool
-    ensures { IsTrue result → AreNoted entries.now spots.now → AreMarked marks.now mark front.now
+    ensures { IsTrue result → AreKept entries.now noted.now → AreMarked marks.now mark front.now
         → IsClearLook entries.now row.now front.now look }
 {
     let mut steps = row
@@ -126,5 +127,5 @@ pub fn is_clear(
     ) {
         return true;
     }
-    steps == 0 && is_clear_far(entries, spots, look, row, front)
+    steps == 0 && noted.is_kept && is_clear_far(entries, &noted.spots, look, row, front)
 }

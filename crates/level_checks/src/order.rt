@@ -6,17 +6,18 @@ ghost use Rattle.log_laws.specs.Logs.{IsLearntLog, IsSoundLog};
 ghost use Rattle.seen_laws.specs.Seen.{IsLevelOrder};
 ghost use Rattle.level_checks.specs.Chains.{links_of};
 ghost use Rattle.level_checks.specs.Nodes.{brief_of};
-ghost use Rattle.level_checks.specs.Spots.{AreNoted};
+ghost use Rattle.level_checks.specs.Spots.{AreKept};
 ghost use Rattle.level_checks.specs.Walk.{IsFollowed, Walked, IsWalk};
 
 use crate::node::{Node, indices_of, nodes_of};
+use crate::noted::Noted;
 use crate::seen::{Row, judge};
 use crate::trace::trace;
 use crate::trail::Passed;
+use key_tables::KeyTable;
 use seen_laws::Level;
-use session_log::{Key, Session};
+use session_log::Session;
 use std::alloc::{AllocError, Global};
-use std::collections::{BTreeMap, BTreeSet};
 
 /// How many numbers the rows may have in all.
 const MOST_REACHES: usize = 0x1000_0000;
@@ -28,15 +29,13 @@ pub struct Last {
     pub position: usize,
 }
 
-/// What was passed on the way: where the look back for each key begins, the writes, where each key
-/// was written, the position at which each identity was written, how far each node sees, marks, a
-/// row of zeros, and the last node of each session.
+/// What was passed on the way: where the look back for each key begins, the writes, what is noted of
+/// them, how far each node sees, marks, a row of zeros, and the last node of each session.
 #[derive(Drop)]
 struct Way<'a> {
-    table: BTreeMap<(u64, &'a Key), u64>,
+    table: KeyTable<'a>,
     entries: Vec<Passed>,
-    spots: BTreeSet<(usize, usize, usize)>,
-    sources: BTreeMap<u64, usize>,
+    noted: Noted,
     rows: Vec<Row>,
     marks: Vec<usize>,
     own: Vec<usize>,
@@ -68,9 +67,9 @@ fn take<'a>(
     position: usize,
     number: usize,
 ) -> Result<bool, AllocError>
-    ensures noted { IfOk result (λ is. IsTrue is → AreNoted way.old.entries.items way.old.spots
-        → AreNoted way.new.entries.items way.new.spots) }
-    ensures walked { IfOk result (λ is. IsTrue is → AreNoted way.old.entries.items way.old.spots
+    ensures noted { IfOk result (λ is. IsTrue is → AreKept way.old.entries.items way.old.noted
+        → AreKept way.new.entries.items way.new.noted) }
+    ensures walked { IfOk result (λ is. IsTrue is → AreKept way.old.entries.items way.old.noted
         → (order : List ℕ) (i : ℕ) → position ≡ i + 1 → number ≡ slice_index order i
         → Walked level indices.now (map brief_of nodes.now) order i (links_of way.old.table)
         way.old.entries.items way.old.rows.items way.old.last.items
@@ -93,8 +92,7 @@ fn take<'a>(
         alloc,
         &mut way.table,
         &mut way.entries,
-        &mut way.spots,
-        &mut way.sources,
+        &mut way.noted,
         position,
         session,
         node.ops,
@@ -106,7 +104,7 @@ fn take<'a>(
         alloc,
         level,
         &way.entries,
-        &way.spots,
+        &way.noted,
         &looks,
         &mut way.rows,
         way.marks.as_mut_slice(),
@@ -126,10 +124,11 @@ fn is_room(level: Level, nodes: usize, width: usize) -> bool {
     }
 }
 
-/// Whether the order keeps the level.
+/// Whether the order keeps the level. Where nothing is noted of writes, a long look back fails.
 fn walk(
     alloc: Global,
     level: Level,
+    is_kept: bool,
     nodes: &[Node],
     indices: &[usize],
     width: usize,
@@ -142,10 +141,9 @@ fn walk(
         return Ok(false);
     }
     let mut way = Way {
-        table: BTreeMap::new(alloc),
+        table: KeyTable::new(alloc, order.len())?,
         entries: Vec::new(alloc),
-        spots: BTreeSet::new(alloc),
-        sources: BTreeMap::new(alloc),
+        noted: Noted::new(alloc, is_kept),
         rows: Vec::new(alloc),
         marks: vec![in alloc; 0; order.len() + 1]?,
         own: vec![in alloc; 0; width]?,
@@ -176,5 +174,9 @@ pub fn keeps_level(
 {
     let nodes = nodes_of(alloc, sessions)?;
     let indices = indices_of(alloc, sessions)?;
-    walk(alloc, level, &nodes, &indices, sessions.len(), order)
+    let width = sessions.len();
+    if walk(alloc, level, false, &nodes, &indices, width, order)? {
+        return Ok(true);
+    }
+    walk(alloc, level, true, &nodes, &indices, width, order)
 }

@@ -1,7 +1,7 @@
 //! What stands behind points.
 
 use crate::hops::Hops;
-use crate::lists::Chains;
+use numbers::Chains;
 use std::alloc::{AllocError, Global};
 
 /// Two nodes, the first of which is to come before the second.

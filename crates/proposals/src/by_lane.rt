@@ -1,8 +1,8 @@
 //! The versions of keys and their readers, by lane.
 
 use crate::known::{Graph, Point};
-use crate::lists::{Lists, at, number, put};
 use crate::versions::Versions;
+use numbers::{Lists, at, number, put};
 use std::alloc::{AllocError, Global};
 
 /// The last reader of a version in a lane: its place there.

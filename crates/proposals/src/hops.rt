@@ -1,7 +1,7 @@
 //! The edges of a graph by their sources.
 
 use crate::known::Graph;
-use crate::lists::{Entry, Lists, lists_of};
+use numbers::{Entry, Lists, lists_of};
 use std::alloc::{AllocError, Global};
 
 /// The targets of edges by their sources: of those that the log shows, and of those that were found.

@@ -2,9 +2,9 @@
 
 use crate::clocks::{Swept, grow, start_of, waits_of};
 use crate::known::{Graph, NOWHERE, Point};
-use crate::lists::{Entry, Lists, NONE, add, at, lists_of, number, put};
 use crate::rearranged::{rearrange_graph, rearrange_versions};
 use crate::versions::Versions;
+use numbers::{Entry, Lists, NONE, add, at, lists_of, number, put};
 use std::alloc::{AllocError, Global};
 
 /// The most lanes.

@@ -1,8 +1,8 @@
 //! What is in the way where no node can come next.
 
 use crate::behind::Pair;
-use crate::lists::{NONE, at, number};
 use crate::merging::Merging;
+use numbers::{NONE, at, number};
 use std::alloc::{AllocError, Global};
 
 /// A pair to be turned round, and where its second node was placed.

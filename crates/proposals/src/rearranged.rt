@@ -1,9 +1,9 @@
 //! Nodes in another order.
 
 use crate::known::Graph;
-use crate::lists::{Lists, NONE, at, number, put};
 use crate::names::{Access, Node, Write};
 use crate::versions::Versions;
+use numbers::{Lists, NONE, at, number, put};
 use std::alloc::{AllocError, Global};
 
 /// Nodes and what they write in this order, and of each version its new number.

@@ -3,8 +3,8 @@
 
 use crate::by_lane::{ByLane, Group};
 use crate::known::{Edge, Why};
-use crate::lists::{NONE, at, number};
 use crate::rules::{Facts, Finds, Looked, entry_of};
+use numbers::{NONE, at, number};
 use std::alloc::{AllocError, Global};
 use std::ops::Range;
 

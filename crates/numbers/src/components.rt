@@ -1,8 +1,16 @@
 //! Strongly connected components of the points at which a sweep is stuck.
 
-use crate::known::Graph;
 use crate::lists::{Lists, NONE, at, number, put};
 use std::alloc::{AllocError, Global};
+
+/// Points, and the edges that lead to each.
+pub trait Edges {
+    /// How many points there are.
+    fn points(&self) -> usize;
+
+    /// The point that the edge in this slot comes from, from slot 0 on; none behind the last one.
+    fn source(&self, point: u32, slot: u32) -> Option<u32>;
+}
 
 /// The component of a point that is in none of several points.
 const ALONE: u32 = NONE - 1;
@@ -25,9 +33,8 @@ struct Call {
 /// A search depth first. Of each point in which turn it was met, and the first turn that it leads
 /// to among the points that are in no component yet, which are the open ones.
 #[derive(Drop)]
-struct Descent<'a> {
-    graph: &'a Graph,
-    to: &'a Lists<u32>,
+struct Descent<'a, E> {
+    edges: &'a E,
     waits: &'a [u32],
     turns: Vec<u32>,
     lows: Vec<u32>,
@@ -37,7 +44,7 @@ struct Descent<'a> {
     found: Components,
 }
 
-impl Descent<'_> {
+impl<E: Edges> Descent<'_, E> {
     /// Meets a point.
     fn meet(&mut self, point: u32) -> Result<(), AllocError> {
         put(self.turns.as_mut_slice(), point, self.turn);
@@ -112,12 +119,11 @@ impl Descent<'_> {
             let Some(Call { point, next }) = self.calls.pop() else {
                 break;
             };
-            let to = self.to;
-            match to.list(point).get(next as usize) {
-                Some(edge) => {
+            match self.edges.source(point, next) {
+                Some(from) => {
                     let next = next.saturating_add(1);
                     self.calls.push(Call { point, next })?;
-                    self.look(point, self.graph.edge(*edge).from)?;
+                    self.look(point, from)?;
                 }
                 None => self.leave(point)?,
             }
@@ -139,16 +145,14 @@ impl Components {
 }
 
 /// The components of the points that wait for some.
-pub fn components_of(
+pub fn components_of<E: Edges>(
     alloc: Global,
-    graph: &Graph,
-    to: &Lists<u32>,
+    edges: &E,
     waits: &[u32],
 ) -> Result<Components, AllocError> {
-    let points = graph.points.len();
+    let points = edges.points();
     let mut descent = Descent {
-        graph,
-        to,
+        edges,
         waits,
         turns: vec![in alloc; NONE; points]?,
         lows: vec![in alloc; NONE; points]?,
