@@ -30,7 +30,7 @@ each_of true false z e = cc
 each_of false y z e = cc
 
 asked : (o : AuditOptions) (ss : List ClientSession) (a : Answer) → asks_strict o ss a ≡ true → (asks_plain o ss a ≡ true) × (is_serial o.means.level ≡ true)
-asked o ss a e = each_of (asks_levels o a) (is_serial o.means.level) (states_moments ss) e
+asked o ss a e = each_of (asks_levels o a) (is_serial o.means.level) (states_moments (resolved ss)) e
 
 serial_level : (l : Level) → is_serial l ≡ true → l ≡ level.Serializable
 serial_level level.Serializable e = refl

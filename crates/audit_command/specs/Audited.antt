@@ -117,7 +117,8 @@ some_state side ts = list_any (states_moment side) ts
 abbrev pub one_states : Side → List ClientSession → Bool
 one_states side ss = list_any (λ s. some_state side s.txns) ss
 
--- some state the one, and some the other: without both, the order of real time says nothing
+-- some state the one, and some the other: without both, the order of real time says nothing. It is asked
+-- of what the log comes to: a taken transaction counts
 abbrev pub states_moments : List ClientSession → Bool
 states_moments ss = one_states side.Begun ss && one_states side.Ended ss
 
@@ -127,9 +128,9 @@ states_moments ss = one_states side.Begun ss && one_states side.Ended ss
 -- committed, and how many; or that they are not decided.
 abbrev pub IsAnswer : AuditOptions → ℕ → List ClientSession → Answer → Type 0
 IsAnswer o n ss answer.Serializable = HasOrderAt o.means.level ss × (o.at_least ≤ nodes_in ss)
-    × (asks_moments o.level ≡ true → states_moments ss ≡ true)
+    × (asks_moments o.level ≡ true → states_moments (resolved ss) ≡ true)
 IsAnswer o n ss answer.NoMoments = HasOrderAt o.means.level ss × (o.at_least ≤ nodes_in ss)
-    × (asks_moments o.level ≡ true) × (states_moments ss ≡ false)
+    × (asks_moments o.level ≡ true) × (states_moments (resolved ss) ≡ false)
 IsAnswer o n ss (answer.NotSerializable parts) = AreParts o n ss parts.items
 IsAnswer o n ss (answer.TooFew committed asked) = (committed ≡ nodes_in ss)
     × (asked ≡ o.at_least) × (committed < o.at_least)
@@ -162,10 +163,10 @@ is_serial _ = false
 -- serial orders are asked for without moments, and snapshot isolation in the order of the stated ones;
 -- and it is asked for without moments
 abbrev pub asks_strict : AuditOptions → List ClientSession → Answer → Bool
-asks_strict o ss a = asks_levels o a && is_serial o.means.level && states_moments ss
+asks_strict o ss a = asks_levels o a && is_serial o.means.level && states_moments (resolved ss)
 
 abbrev pub asks_plain : AuditOptions → List ClientSession → Answer → Bool
-asks_plain o ss a = asks_levels o a && (is_serial o.means.level || states_moments ss)
+asks_plain o ss a = asks_levels o a && (is_serial o.means.level || states_moments (resolved ss))
 
 abbrev pub is_kept : Option Word → Bool
 is_kept (Some word.Serializable) = true

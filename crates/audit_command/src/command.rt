@@ -19,7 +19,7 @@ use crate::refusals::refusal;
 use crate::report::report_text;
 use crate::telling::Answered;
 use crate::told::{Answer, Told};
-use crate::without::{judge_weaker, state_moments};
+use crate::without::judge_weaker;
 use call_options::ReportForm;
 use cobra_answers::{Reply, Status};
 use judging::leave_out_moments;
@@ -94,17 +94,14 @@ fn audit_sessions<R: Threads + Wait + Clock + Eprint + Sync, P: Progress>(
     ensures audited { IfOk result (IsAudited options.now log.now) }
 {
     let sessions = seen(sessions, options.no_moments);
-    let states = state_moments(&sessions);
     let Known {
         sessions,
         answered,
         totals,
         part,
-    } = know(rt, alloc, version, sessions, states, options, progress)?;
+    } = know(rt, alloc, version, sessions, options, progress)?;
     let Answered { answer, order } = answered;
-    let (weaker, bare) = judge_weaker(
-        rt, alloc, version, &answer, states, sessions, options, progress,
-    )?;
+    let (weaker, bare) = judge_weaker(rt, alloc, version, &answer, sessions, options, progress)?;
     let (lower, lowest) = judge_lower(
         rt,
         alloc,

@@ -6,7 +6,6 @@ ghost use Rattle.session_log.specs.Text.{ClientSession, IsLegal, view};
 ghost use Rattle.session_log.specs.Version.{first_line};
 ghost use Rattle.log_laws.specs.Logs.{IsSoundLog};
 ghost use Rattle.audit_command.specs.Audited.{first_part, part_asked, IsPartFile, IsKnown};
-ghost use Rattle.audit_command.specs.Audited.{states_moments};
 
 use crate::counts::count_log;
 use crate::files::{PartFile, part_file};
@@ -80,11 +79,9 @@ pub fn know<R: Threads + Wait + Clock + Eprint + Sync, P: Progress>(
     alloc: Global,
     version: Version,
     sessions: Vec<Session>,
-    states: bool,
     options: &AuditOptions<'_>,
     progress: &mut P,
 ) -> Result<Known, AllocError>
-    requires states { states ≡ states_moments (map view sessions.items) }
     requires legal { AllByRecursion IsLegal (map view sessions.items) }
     requires sound { IsSoundLog (map view sessions.items) }
     ensures known { IfOk result (IsKnown options.now (first_line version)
@@ -104,9 +101,7 @@ pub fn know<R: Threads + Wait + Clock + Eprint + Sync, P: Progress>(
         proposal: &proposal,
     };
     let committed = counts.committed;
-    let answered = answer_of(
-        rt, alloc, &log, verdict, committed, states, options, progress,
-    )?;
+    let answered = answer_of(rt, alloc, &log, verdict, committed, options, progress)?;
     let totals = totals_of(counts, &sessions)?;
     let part = asked_part(alloc, version, &sessions, &answered.answer, options.part)?;
     Ok(Known {

@@ -1,6 +1,6 @@
 //! Why a part has no order of a level below prefix: by evidence, each place of which stands in a line.
 
-ghost use Rattle.std.specs.Prelude.{◌≡◌, true, map, IfOk};
+ghost use Rattle.std.specs.Prelude.{◌≡◌, true, map, IfOk, IfSome};
 ghost use Rattle.session_log.specs.Text.{view};
 ghost use Rattle.session_log.specs.Version.{first_line};
 ghost use Rattle.judging.specs.Made.{IsMadeOf};
@@ -41,8 +41,30 @@ fn told(
     Ok(Explained { text, known_as })
 }
 
-/// Why a part of these sessions, which are those of a log of this version with their outcomes known,
-/// has no order of a level below prefix.
+/// Evidence that a part of these sessions, which are those of a log of this version with their outcomes
+/// known, has no order of a level below prefix; nothing where there is none.
+pub fn tell_evidence(
+    alloc: Global,
+    version: Version,
+    sessions: &[Session],
+    refuted: &RefutedPart,
+    below: Level,
+) -> Result<Option<Explained>, AllocError>
+    requires made { IsMadeOf (map view sessions.now) refuted.now }
+    ensures why { IfOk result (λ some. IfSome some (λ told. IsWhyBelow below (first_line version)
+        (map view sessions.now) refuted.now told.text.items)) }
+    ensures named { IfOk result (λ some. IfSome some (λ told.
+        IsNamedBelow below refuted.now told.known_as)) }
+{
+    match find_break(alloc, below, &refuted.part)? {
+        Proposal::Evidence(evidence) if refutes(below, &refuted.part, &evidence) => {
+            Ok(Some(told(alloc, version, sessions, refuted, below, &evidence)?))
+        }
+        _ => Ok(None),
+    }
+}
+
+/// Why a part of these sessions has no order of a level below prefix.
 pub fn explain_below(
     alloc: Global,
     version: Version,
@@ -55,10 +77,8 @@ pub fn explain_below(
         (map view sessions.now) refuted.now told.text.items) }
     ensures named { IfOk result (λ told. IsNamedBelow below refuted.now told.known_as) }
 {
-    if let Proposal::Evidence(evidence) = find_break(alloc, below, &refuted.part)?
-        && refutes(below, &refuted.part, &evidence)
-    {
-        return told(alloc, version, sessions, refuted, below, &evidence);
+    match tell_evidence(alloc, version, sessions, refuted, below)? {
+        Some(told) => Ok(told),
+        None => searched(alloc),
     }
-    searched(alloc)
 }

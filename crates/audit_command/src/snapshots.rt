@@ -10,9 +10,10 @@ ghost use Rattle.audit_command.specs.Why.{IsWhyOf, IsWhy, IsNamedBy, IsNamed};
 ghost use Rattle.audit_command.specs.Why.{read_name, anomaly_name};
 
 use crate::explaining::{Explained, MANY_LINES, explain_serial, owned, places_of, searched};
-use crate::overlooked::explain_below;
+use crate::overlooked::{explain_below, tell_evidence};
 use deciding::Means;
 use judging::{Finding, JudgeMeans, Level, RefutedPart};
+use seen_laws::Level as Weaker;
 use session_history::{Anomaly, ReadAnomaly};
 use session_log::{Session, Version, line_count};
 use std::alloc::{AllocError, Global};
@@ -138,47 +139,22 @@ fn anomaly_name(anomaly: Anomaly) -> Option<&'static str>
     }
 }
 
-/// Why a part has no snapshot order.
-fn explain_snapshot<R: Threads + Wait + Clock + Sync>(
+/// What is said where a search alone shows that a part has no order of snapshots and commits.
+fn explain_search<R: Threads + Wait + Clock + Sync>(
     rt: &R,
     alloc: Global,
     version: Version,
     sessions: &[Session],
     refuted: &RefutedPart,
+    is_locked: bool,
     means: &Means,
 ) -> Result<Explained, AllocError>
     requires legal { AllByRecursion IsLegal (map view refuted.now.part.items) }
     requires made { IsMadeOf (map view sessions.now) refuted.now }
 {
-    if let Finding::Anomaly(anomaly) = refuted.finding {
+    if is_locked {
         let explained = explain_serial(rt, alloc, version, sessions, refuted, means)?;
-        return with_name(alloc, explained.text, anomaly_name(anomaly));
-    }
-    if let Some(explained) = explain_points(alloc, version, sessions, refuted, true)? {
-        return Ok(explained);
-    }
-    let explained = explain_serial(rt, alloc, version, sessions, refuted, means)?;
-    below_snapshot(alloc, explained)
-}
-
-/// Why a part has no prefix order.
-fn explain_prefix<R: Threads + Wait + Clock + Sync>(
-    rt: &R,
-    alloc: Global,
-    version: Version,
-    sessions: &[Session],
-    refuted: &RefutedPart,
-    means: &Means,
-) -> Result<Explained, AllocError>
-    requires legal { AllByRecursion IsLegal (map view refuted.now.part.items) }
-    requires made { IsMadeOf (map view sessions.now) refuted.now }
-{
-    if let Finding::Anomaly(anomaly) = refuted.finding {
-        let explained = explain_serial(rt, alloc, version, sessions, refuted, means)?;
-        return with_name(alloc, explained.text, anomaly_name(anomaly));
-    }
-    if let Some(explained) = explain_points(alloc, version, sessions, refuted, false)? {
-        return Ok(explained);
+        return below_snapshot(alloc, explained);
     }
     let mut text = Vec::new(alloc);
     put_line(&mut text, NO_POINTS_LEFT)?;
@@ -186,6 +162,33 @@ fn explain_prefix<R: Threads + Wait + Clock + Sync>(
         text,
         known_as: None,
     })
+}
+
+/// Why a part has no snapshot order, or no prefix order where keys are not locked: by an anomaly, by a
+/// circle of snapshots and commits, or by evidence against a weaker level.
+fn explain_snapshot<R: Threads + Wait + Clock + Sync>(
+    rt: &R,
+    alloc: Global,
+    version: Version,
+    sessions: &[Session],
+    refuted: &RefutedPart,
+    is_locked: bool,
+    means: &Means,
+) -> Result<Explained, AllocError>
+    requires legal { AllByRecursion IsLegal (map view refuted.now.part.items) }
+    requires made { IsMadeOf (map view sessions.now) refuted.now }
+{
+    if let Finding::Anomaly(anomaly) = refuted.finding {
+        let explained = explain_serial(rt, alloc, version, sessions, refuted, means)?;
+        return with_name(alloc, explained.text, anomaly_name(anomaly));
+    }
+    if let Some(explained) = explain_points(alloc, version, sessions, refuted, is_locked)? {
+        return Ok(explained);
+    }
+    match tell_evidence(alloc, version, sessions, refuted, Weaker::Causal)? {
+        Some(told) => Ok(told),
+        None => explain_search(rt, alloc, version, sessions, refuted, is_locked, means),
+    }
 }
 
 /// Why a part has no serial order.
@@ -239,8 +242,10 @@ pub fn explain_part<R: Threads + Wait + Clock + Sync>(
     let deciding = &means.deciding;
     match means.level {
         Level::Serializable => explain_order(rt, alloc, version, sessions, refuted, deciding),
-        Level::Snapshot => explain_snapshot(rt, alloc, version, sessions, refuted, deciding),
-        Level::Prefix => explain_prefix(rt, alloc, version, sessions, refuted, deciding),
+        Level::Snapshot => {
+            explain_snapshot(rt, alloc, version, sessions, refuted, true, deciding)
+        }
+        Level::Prefix => explain_snapshot(rt, alloc, version, sessions, refuted, false, deciding),
         Level::Below(below) => explain_below(alloc, version, sessions, refuted, below),
     }
 }

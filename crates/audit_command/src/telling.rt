@@ -11,7 +11,7 @@ ghost use Rattle.judging.specs.Made.{IsMade, IsToldPart};
 ghost use Rattle.judging.specs.Levels.{IsLogAt, IsOrderAt, HasOrderAt};
 ghost use Rattle.audit_command.specs.declared.options.AuditOptions.{AuditOptions};
 ghost use Rattle.audit_command.specs.Audited.{nodes_in, IsPartTold, AreToldParts, AreParts};
-ghost use Rattle.audit_command.specs.Audited.{IsAnswered, IsOrderText, IsOrderFile, IsOpen, states_moments};
+ghost use Rattle.audit_command.specs.Audited.{IsAnswered, IsOrderText, IsOrderFile, IsOpen};
 ghost use Rattle.audit_command.specs.Distinct.{AreLeastFirst};
 ghost use Rattle.audit_command.specs.Resolved.{IsResolved, IsPartOf, IsPartOfVerdict};
 
@@ -229,20 +229,18 @@ fn serial_answer(
     log: &JudgedLog<'_>,
     order: &[usize],
     committed: usize,
-    states: bool,
     options: &AuditOptions<'_>,
 ) -> Result<Answered, AllocError>
     requires log { IsLog (map view log.now.sessions.now) }
     requires at { IsLogAt options.now.means.level (map view log.now.sessions.now) log.now.at.now }
     ensures answered { (ss : List ClientSession) → map view log.now.sessions.now ≡ resolved ss
         → IsOrderAt options.now.means.level ss order.now → committed ≡ nodes_in ss
-        → states ≡ states_moments ss
         → IfOk result (IsAnswered options.now (first_line log.now.version) ss) }
 {
     if committed < options.at_least {
         return Ok(too_few(committed, options));
     }
-    if asks_moments(options.level) && !states {
+    if asks_moments(options.level) && !state_moments(log.sessions) {
         return Ok(Answered {
             answer: Answer::NoMoments,
             order: None,
@@ -309,7 +307,6 @@ pub fn answer_of<R: Threads + Wait + Clock + Eprint + Sync, P: Progress>(
     log: &JudgedLog<'_>,
     verdict: Verdict,
     committed: usize,
-    states: bool,
     options: &AuditOptions<'_>,
     progress: &mut P,
 ) -> Result<Answered, AllocError>
@@ -319,16 +316,14 @@ pub fn answer_of<R: Threads + Wait + Clock + Eprint + Sync, P: Progress>(
     requires at { IsLogAt options.now.means.level (map view log.now.sessions.now) log.now.at.now }
     ensures answered { (ss : List ClientSession) → AllByRecursion IsLegal ss → IsSoundLog ss
         → map view log.now.sessions.now ≡ resolved ss → IsVerdict options.now.means ss verdict
-        → IsMade (resolved ss) verdict → committed ≡ nodes_in ss → states ≡ states_moments ss
+        → IsMade (resolved ss) verdict → committed ≡ nodes_in ss
         → IfOk result (IsAnswered options.now (first_line log.now.version) ss) }
 {
     match verdict {
         Verdict::NotSerializable(first) => {
             refuted_answer(rt, alloc, log, first, options, progress)
         }
-        Verdict::Serializable(order) => {
-            serial_answer(alloc, log, &order, committed, states, options)
-        }
+        Verdict::Serializable(order) => { serial_answer(alloc, log, &order, committed, options) }
         Verdict::Undecided { why, tried } => {
             open_answer(alloc, log, why, tried, committed, options)
         }

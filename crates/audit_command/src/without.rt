@@ -134,7 +134,7 @@ fn is_serial(level: Level) -> bool
 /// Whether it is asked for that serial orders are judged without moments, and snapshot isolation in
 /// the order of the stated ones.
 fn asks_strict(options: &AuditOptions<'_>, answer: &Answer, states: bool) -> bool
-    ensures asks { (ss : List ClientSession) → states ≡ states_moments ss
+    ensures asks { (ss : List ClientSession) → states ≡ states_moments (resolved ss)
         → result ≡ asks_strict options.now ss answer.now }
 {
     asks_levels(options, answer) && is_serial(options.means.level) && states
@@ -142,7 +142,7 @@ fn asks_strict(options: &AuditOptions<'_>, answer: &Answer, states: bool) -> boo
 
 /// Whether it is asked for that snapshot isolation is judged without moments.
 fn asks_plain(options: &AuditOptions<'_>, answer: &Answer, states: bool) -> bool
-    ensures asks { (ss : List ClientSession) → states ≡ states_moments ss
+    ensures asks { (ss : List ClientSession) → states ≡ states_moments (resolved ss)
         → result ≡ asks_plain options.now ss answer.now }
 {
     asks_levels(options, answer) && (is_serial(options.means.level) || states)
@@ -342,20 +342,20 @@ pub fn judge_weaker<R: Threads + Wait + Clock + Eprint + Sync, P: Progress>(
     alloc: Global,
     version: Version,
     answer: &Answer,
-    states: bool,
     sessions: Vec<Session>,
     options: &AuditOptions<'_>,
     progress: &mut P,
 ) -> Result<(Weaker, Vec<Session>), AllocError>
     requires log { IsLog (map view sessions.items) }
     ensures weaker { (ss : List ClientSession) → AllByRecursion IsLegal ss → IsSoundLog ss
-        → map view sessions.items ≡ resolved ss → states ≡ states_moments ss
+        → map view sessions.items ≡ resolved ss
         → IfOk result (λ both. IsWeaker options.now (first_line version) ss answer.now both.0) }
     ensures rest { IfOk result (λ both. map view both.1.items
         ≡ without_moments (map view sessions.items)) }
 {
     let means = at_snapshot(&options.means);
     let first = first_flags(answer);
+    let states = state_moments(&sessions);
     let mut sessions = sessions;
     let is_strict = asks_strict(options, answer, states);
     let strict_snapshot = word_where(rt, alloc, &sessions, first, is_strict, &means, progress)?;

@@ -8,7 +8,7 @@ use Rattle.session_log.specs.Version.{first_line, version_of}
 use Rattle.log_definitions.specs.Unknown.{resolved}
 use Rattle.level_laws.specs.Without.{without_moments}
 use Rattle.level_laws.proofs.Without.{legal_without, sound_without, log_without, resolved_without}
-use Rattle.audit_command.specs.Audited.{seen, states_moments, IsAnswer, IsWeaker, IsLower, AreTotals, IsOrderFile, order_asked}
+use Rattle.audit_command.specs.Audited.{seen, IsAnswer, IsWeaker, IsLower, AreTotals, IsOrderFile, order_asked}
 use Rattle.audit_command.proofs.Resolved.{seen_legal, seen_sound}
 use Rattle.audit_command.proofs.command.audit_sessions.Goals as goal
 
@@ -41,7 +41,7 @@ judge_lower-requires-clause-log g c κs within =
     let legal = subst (AllByRecursion IsLegal) (sym c.seen-sessions.ensures.seen) (seen_legal no_moments ss log.0) in
     let sound = subst IsSoundLog (sym c.seen-sessions.ensures.seen) (seen_sound no_moments ss log.0 log.1) in
     let known = subst IsLog (sym c.in_ok-sessions.ensures.known.resolved) (resolved_is_log (map view c.seen-sessions.result.items) legal sound) in
-    subst IsLog (sym (ap (map view) c.deref-2.ensures.value ∙ c.in_ok-weaker.ensures.rest)) (log_without (map view c.in_ok-sessions.field-0.sessions.items) known)
+    subst IsLog (sym (ap (map view) c.deref.ensures.value ∙ c.in_ok-weaker.ensures.rest)) (log_without (map view c.in_ok-sessions.field-0.sessions.items) known)
 
 pub returns : goal.returns
 returns g c =
@@ -54,7 +54,6 @@ returns g c =
     let legal = subst (AllByRecursion IsLegal) (sym e) (seen_legal o.no_moments ss log.0) in
     let sound = subst IsSoundLog (sym e) (seen_sound o.no_moments ss log.0 log.1) in
     let known = c.in_ok-sessions.ensures.known in
-    let states = c.state_moments-states.ensures.states ∙ ap (λ l. states_moments (map view l)) c.deref.ensures.value in
     let answer = c.in_ok-sessions.field-0.answered.answer in
     let weaker = c.in_ok-weaker.weaker in
     let bare = c.in_ok-weaker.bare in
@@ -62,12 +61,12 @@ returns g c =
     let lowest = c.in_ok-lower.lowest in
     let other = without_moments judged in
     let left : map view bare.items ≡ resolved other = c.in_ok-weaker.ensures.rest ∙ ap without_moments known.resolved ∙ sym (resolved_without judged) in
-    let own : map view c.deref-2.result.now ≡ resolved other = ap (map view) c.deref-2.ensures.value ∙ left in
+    let own : map view c.deref.result.now ≡ resolved other = ap (map view) c.deref.ensures.value ∙ left in
     let under = subst (λ n. IsLower o n other answer weaker.snapshot weaker.shown lower lowest) (ap first_line c.requires.version) (c.in_ok-lower.ensures.lower other (legal_without judged legal) (sound_without judged legal sound) own) in
     let totals = c.in_ok-sessions.field-0.totals in
     let order = c.in_ok-sessions.field-0.answered.order in
     let numbered = subst (λ n. IsAnswer o n judged answer) (ap first_line c.requires.version) known.answered.answer in
-    let below = subst (λ n. IsWeaker o n judged answer weaker) (ap first_line c.requires.version) (c.in_ok-weaker.ensures.weaker judged legal sound known.resolved states) in
+    let below = subst (λ n. IsWeaker o n judged answer weaker) (ap first_line c.requires.version) (c.in_ok-weaker.ensures.weaker judged legal sound known.resolved) in
     record {
       audited = record {
         sessions = ss;

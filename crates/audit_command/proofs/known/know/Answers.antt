@@ -36,7 +36,7 @@ returns g c =
     record {
       known = record {
         resolved = c.in_ok-sessions.ensures.resolved;
-        answered = c.in_ok-answered.ensures.answered ss c.requires.legal c.requires.sound judged c.in_ok-sessions.ensures.verdict c.in_ok-sessions.ensures.made counts.committed c.requires.states;
+        answered = c.in_ok-answered.ensures.answered ss c.requires.legal c.requires.sound judged c.in_ok-sessions.ensures.verdict c.in_ok-sessions.ensures.made counts.committed;
         totals = c.in_ok-totals.ensures.totals ss counts known;
         part = c.in_ok-part.ensures.file;
       };

@@ -3,4 +3,4 @@ use Rattle.session_log.specs.Version.{first_line}
 use Rattle.audit_command.proofs.telling.serial_answer.Goals as goal
 
 pub returns-then-committed-options : goal.returns-then-committed-options
-returns-then-committed-options c = record { answered = λ ss same order few states. c.too_few.ensures.answered (first_line c.args.log.now.version) ss few (inl order.has) }
+returns-then-committed-options c = record { answered = λ ss same order few. c.too_few.ensures.answered (first_line c.args.log.now.version) ss few (inl order.has) }

@@ -4,22 +4,23 @@ use Rattle.session_log.specs.Text.{view}
 use Rattle.log_laws.specs.Logs.{IsLog}
 use Rattle.level_laws.specs.Without.{without_moments}
 use Rattle.level_laws.proofs.Without.{legal_without, sound_without, log_without, resolved_without}
-use Rattle.audit_command.specs.Audited.{asks_strict, asks_plain, at_snapshot, IsWordWhere}
+use Rattle.audit_command.specs.Audited.{asks_strict, asks_plain, at_snapshot, states_moments, IsWordWhere}
 use Rattle.audit_command.proofs.Weaker.{plain_where_kept}
 use Rattle.audit_command.proofs.without.judge_weaker.Goals as goal
 
 pub word_where-requires-2-clause-log : goal.word_where-requires-2-clause-log
 word_where-requires-2-clause-log g c κs within =
-    subst IsLog (sym (ap (map view) c.deref-2.ensures.value ∙ c.leave_out_moments.ensures)) (log_without (map view c.args.sessions.items) c.requires.log)
+    subst IsLog (sym (ap (map view) c.deref-3.ensures.value ∙ c.leave_out_moments.ensures)) (log_without (map view c.args.sessions.items) c.requires.log)
 
 pub plain_where-requires-clause-log : goal.plain_where-requires-clause-log
 plain_where-requires-clause-log g c κs within =
-    subst IsLog (sym (ap (map view) c.deref-3.ensures.value ∙ c.leave_out_moments.ensures)) (log_without (map view c.args.sessions.items) c.requires.log)
+    subst IsLog (sym (ap (map view) c.deref-4.ensures.value ∙ c.leave_out_moments.ensures)) (log_without (map view c.args.sessions.items) c.requires.log)
 
 pub returns : goal.returns
 returns g c = record {
   rest = c.leave_out_moments.ensures;
-  weaker = λ ss legal sound same states. (
+  weaker = λ ss legal sound same. (
+      let states = c.state_moments-states.ensures.states ∙ ap states_moments (ap (map view) c.deref.ensures.value ∙ same) in
       let other = without_moments ss in
       let legal_other = legal_without ss legal in
       let sound_other = sound_without ss legal sound in
@@ -32,10 +33,10 @@ returns g c = record {
       let left = c.leave_out_moments.ensures ∙ ap without_moments same ∙ sym (resolved_without ss) in
       let is_strict : IsWordWhere (at_snapshot o.means) ss (asks_strict o ss a) strict =
       subst (λ n. IsWordWhere n ss (asks_strict o ss a) strict) c.at_snapshot-means.ensures.at
-      (subst (λ b. IsWordWhere c.at_snapshot-means.result ss b strict) (c.asks_strict-is_strict.ensures.asks ss states) (c.in_ok-strict_snapshot.ensures.word ss legal sound (ap (map view) c.deref.ensures.value ∙ same))) in
+      (subst (λ b. IsWordWhere c.at_snapshot-means.result ss b strict) (c.asks_strict-is_strict.ensures.asks ss states) (c.in_ok-strict_snapshot.ensures.word ss legal sound (ap (map view) c.deref-2.ensures.value ∙ same))) in
       let is_bare : IsWordWhere o.means other (asks_strict o ss a) bare =
-      subst (λ b. IsWordWhere o.means other b bare) (c.asks_strict-is_strict.ensures.asks ss states) (c.in_ok-without_moments.ensures.word other legal_other sound_other (ap (map view) c.deref-2.ensures.value ∙ left)) in
-      let same_other = ap (map view) c.deref-3.ensures.value ∙ left in
+      subst (λ b. IsWordWhere o.means other b bare) (c.asks_strict-is_strict.ensures.asks ss states) (c.in_ok-without_moments.ensures.word other legal_other sound_other (ap (map view) c.deref-3.ensures.value ∙ left)) in
+      let same_other = ap (map view) c.deref-4.ensures.value ∙ left in
       let is_plain : IsWordWhere (at_snapshot o.means) other (asks_plain o ss a) word =
       elim (cases_Bool c.is_one_kept-is_implied.result) [
         | inl e ↦ subst (IsWordWhere (at_snapshot o.means) other (asks_plain o ss a)) (sym (c.in_ok-plain.ensures.kept e)) (plain_where_kept o ss a bare strict legal sound is_bare is_strict (sym c.is_one_kept-is_implied.ensures.kept ∙ e))
