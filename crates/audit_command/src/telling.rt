@@ -25,6 +25,7 @@ use crate::places::told_txns;
 use crate::snapshots::explain_part;
 use crate::told::{Answer, ToldPart};
 use crate::undecided::{advice_lines, reason_text};
+use crate::without::state_moments;
 use judging::{LevelLog, RefutedPart, Tried, Verdict, Why, more_parts};
 use point_orders::points_text;
 use progress::Progress;

@@ -160,6 +160,24 @@ fn walk(
     Ok(true)
 }
 
+/// The same, also where a look back is long: then the way is gone once more.
+fn walk_either(
+    alloc: Global,
+    level: Level,
+    nodes: &[Node],
+    indices: &[usize],
+    width: usize,
+    order: &[usize],
+) -> Result<bool, AllocError>
+    ensures { IfOk result (λ is. IsTrue is
+        → IsWalk level indices.now (map brief_of nodes.now) order.now) }
+{
+    if walk(alloc, level, false, nodes, indices, width, order)? {
+        return Ok(true);
+    }
+    walk(alloc, level, true, nodes, indices, width, order)
+}
+
 /// Whether this order of these sessions, whose outcomes are known, keeps the level: by the numbers
 /// of their committed transactions, from 1, by session and then by place.
 pub fn keeps_level(
@@ -174,9 +192,5 @@ pub fn keeps_level(
 {
     let nodes = nodes_of(alloc, sessions)?;
     let indices = indices_of(alloc, sessions)?;
-    let width = sessions.len();
-    if walk(alloc, level, false, &nodes, &indices, width, order)? {
-        return Ok(true);
-    }
-    walk(alloc, level, true, &nodes, &indices, width, order)
+    walk_either(alloc, level, &nodes, &indices, sessions.len(), order)
 }
