@@ -91,7 +91,7 @@ fn faults_of_writers(rt: HostRuntime) {
         &fault(read, Why::Aborted { write }),
         "in short: 2.1 reads what a transaction wrote that did not commit\n\
         2.1 reads x 1 (line 7), which 1.1 wrote (line 3), and 1.1 was aborted (line 4)\n",
-        Some("dirty read (G1a)"),
+        Some("aborted read (G1a)"),
     );
     tells(
         rt,
@@ -176,7 +176,7 @@ fn circles_with_a_forced_edge(rt: HostRuntime) {
         Level::ReadAtomic,
         &evidence,
         text,
-        Some("read skew"),
+        Some("read skew (G-single)"),
     );
 }
 
@@ -194,7 +194,7 @@ fn initial_values(rt: HostRuntime) {
         2.1 reads x 0 (line 8), the initial value\n\
         2.1 also reads x 1 (line 7), which 1.1 wrote (line 3)\n\
         so 2.1 should read the x of 1.1 or a later one\n",
-        Some("non-repeatable read"),
+        Some("non-repeatable read (internal)"),
     );
     let hops = [reads(txn(0, 0), 1, txn(1, 0), 1)];
     tells(
@@ -207,7 +207,7 @@ fn initial_values(rt: HostRuntime) {
         2.1 reads x 0 (line 8), the initial value\n\
         2.1 also reads y 2 (line 9), which 1.1 wrote (line 4); 1.1 wrote x too (line 3)\n\
         so 2.1 should read the x of 1.1 or a later one\n",
-        Some("fractured read"),
+        Some("read skew (G-single)"),
     );
 }
 

@@ -20,7 +20,7 @@ use Rattle.tell_evidence.specs.Evidence.{is_forced_edge}
 abbrev pub why_name : Why → Option (List ℕ)
 why_name (why.MissesOwn write) = Some (codes "own write missed (internal)")
 why_name why.Unwritten = None
-why_name (why.Aborted write) = Some (codes "dirty read (G1a)")
+why_name (why.Aborted write) = Some (codes "aborted read (G1a)")
 why_name (why.Overwritten write later) = Some (codes "intermediate read (G1b)")
 why_name (why.OwnLater write) = Some (codes "future read (internal)")
 
@@ -67,25 +67,23 @@ is_known_session (edge.Forced o found) = false
 -- ---- names
 
 -- A read overlooks a write that it sees: far away, or else by its session, or else by a read of
--- something else, which above monotonic atomic view has the name `skew`. What is left is that its
--- transaction reads the very write: two versions of a key.
+-- something else. What is left is that its transaction reads the very write: two versions of a key.
 abbrev pub view_name : Bool → List ℕ
 view_name other = if other then codes "observed transaction vanishes (OTV)"
-    else codes "non-repeatable read"
+    else codes "non-repeatable read (internal)"
 
-abbrev pub atomic_name : Bool → Bool → List ℕ → List ℕ
-atomic_name session other skew = if session then codes "stale read of its own session"
-    else if other then skew else codes "non-repeatable read"
+abbrev pub atomic_name : Bool → Bool → List ℕ
+atomic_name session other = if session then codes "stale read of its own session"
+    else if other then codes "read skew (G-single)" else codes "non-repeatable read (internal)"
 
-abbrev pub causal_name : Bool → Bool → Bool → List ℕ → List ℕ
-causal_name far session other skew = if far then codes "causal violation"
-    else atomic_name session other skew
+abbrev pub causal_name : Bool → Bool → Bool → List ℕ
+causal_name far session other = if far then codes "causal violation" else atomic_name session other
 
-abbrev pub seen_name : Level → Bool → Bool → Bool → List ℕ → Option (List ℕ)
-seen_name ReadCommitted far session other skew = None
-seen_name MonotonicAtomicView far session other skew = Some (view_name other)
-seen_name ReadAtomic far session other skew = Some (atomic_name session other skew)
-seen_name Causal far session other skew = Some (causal_name far session other skew)
+abbrev pub seen_name : Level → Bool → Bool → Bool → Option (List ℕ)
+seen_name ReadCommitted far session other = None
+seen_name MonotonicAtomicView far session other = Some (view_name other)
+seen_name ReadAtomic far session other = Some (atomic_name session other)
+seen_name Causal far session other = Some (causal_name far session other)
 
 -- of edges of which none is forced
 abbrev pub known_name : List Edge → List ℕ
@@ -96,7 +94,7 @@ known_name edges = if list_any is_known_session edges
 -- of edges of which some are forced: that of the read that sees farthest
 abbrev pub forced_name : Level → List Edge → Option (List ℕ)
 forced_name level edges = seen_name level (list_any is_far_edge edges)
-    (list_any is_session_edge edges) (list_any is_other_edge edges) (codes "read skew")
+    (list_any is_session_edge edges) (list_any is_other_edge edges)
 
 abbrev pub circle_name : Level → List Edge → Option (List ℕ)
 circle_name level edges = if list_any is_forced_edge edges then forced_name level edges
@@ -104,7 +102,6 @@ circle_name level edges = if list_any is_forced_edge edges then forced_name leve
 
 abbrev pub initial_name : Level → Overlooked → Option (List ℕ)
 initial_name level o = seen_name level (sees_far o) (sees_by_session o) (sees_by_other o)
-    (codes "fractured read")
 
 abbrev pub evidence_name : Level → Evidence → Option (List ℕ)
 evidence_name level (evidence.Fault fault) = why_name fault.why

@@ -8,14 +8,13 @@
 //!
 //! | Name | What shows it | Source |
 //! |---|---|---|
-//! | dirty read (G1a) | a read of what was aborted | Adya 1999 |
+//! | aborted read (G1a) | a read of what was aborted | Adya 1999 |
 //! | intermediate read (G1b) | a read of what its writer wrote over | Adya 1999 |
 //! | own write missed, future read (internal) | a read that misses an own write, or finds a later one | Biswas and Enea 2019 |
 //! | circular information flow (G1c) | a circle of reads; with sessions G1c-process | Adya 1999 |
-//! | non-repeatable read | a transaction reads two versions of a key | Bailis and others 2013 |
+//! | non-repeatable read (internal) | a transaction reads two versions of a key | Bailis and others 2013 |
 //! | observed transaction vanishes (OTV) | a later read overlooks a transaction that was read from | Bailis and others 2013 |
-//! | fractured read | a read of the initial value overlooks a transaction that is read from | Bailis and others 2014 |
-//! | read skew | a read of an older version does | Berenson and others 1995 |
+//! | read skew (G-single) | a read overlooks a transaction that is read from (a fractured read) | Berenson and others 1995, Bailis and others 2014 |
 //! | stale read of its own session | a read overlooks what stands before it in its session | Biswas and Enea 2019 |
 //! | causal violation | a read overlooks what it sees by several steps | Biswas and Enea 2019 |
 #![tactic(auto)]

@@ -17,7 +17,7 @@ fn why_name(why: Why) -> Option<&'static str>
     match why {
         Why::MissesOwn { .. } => Some("own write missed (internal)"),
         Why::Unwritten => None,
-        Why::Aborted { .. } => Some("dirty read (G1a)"),
+        Why::Aborted { .. } => Some("aborted read (G1a)"),
         Why::Overwritten { .. } => Some("intermediate read (G1b)"),
         Why::OwnLater { .. } => Some("future read (internal)"),
     }
@@ -107,50 +107,44 @@ fn view_name(other: bool) -> &'static str
     if other {
         "observed transaction vanishes (OTV)"
     } else {
-        "non-repeatable read"
+        "non-repeatable read (internal)"
     }
 }
 
 /// The name at read atomic.
-fn atomic_name(session: bool, other: bool, skew: &'static str) -> &'static str
-    ensures { result.now ≡ spec.atomic_name session other skew.entry.now }
+fn atomic_name(session: bool, other: bool) -> &'static str
+    ensures { result.now ≡ spec.atomic_name session other }
 {
     if session {
         "stale read of its own session"
     } else if other {
-        skew
+        "read skew (G-single)"
     } else {
-        "non-repeatable read"
+        "non-repeatable read (internal)"
     }
 }
 
 /// The name at causal consistency.
-fn causal_name(far: bool, session: bool, other: bool, skew: &'static str) -> &'static str
-    ensures { result.now ≡ spec.causal_name far session other skew.entry.now }
+fn causal_name(far: bool, session: bool, other: bool) -> &'static str
+    ensures { result.now ≡ spec.causal_name far session other }
 {
     if far {
         "causal violation"
     } else {
-        atomic_name(session, other, skew)
+        atomic_name(session, other)
     }
 }
 
 /// The name of a read that overlooks a write: far away, by its session, or by a read of something
-/// else, which has the name `skew`.
-fn seen_name(
-    level: Level,
-    far: bool,
-    session: bool,
-    other: bool,
-    skew: &'static str,
-) -> Option<&'static str>
-    ensures { option_copied result ≡ spec.seen_name level far session other skew.entry.now }
+/// else.
+fn seen_name(level: Level, far: bool, session: bool, other: bool) -> Option<&'static str>
+    ensures { option_copied result ≡ spec.seen_name level far session other }
 {
     match level {
         Level::ReadCommitted => None,
         Level::MonotonicAtomicView => Some(view_name(other)),
-        Level::ReadAtomic => Some(atomic_name(session, other, skew)),
-        Level::Causal => Some(causal_name(far, session, other, skew)),
+        Level::ReadAtomic => Some(atomic_name(session, other)),
+        Level::Causal => Some(causal_name(far, session, other)),
     }
 }
 
@@ -205,7 +199,7 @@ fn forced_name(level: Level, edges: &[Edge]) -> Option<&'static str>
     ensures { option_copied result ≡ spec.forced_name level edges.now }
 {
     let (far, session) = (some_far(edges), some_by_session(edges));
-    seen_name(level, far, session, some_by_other(edges), "read skew")
+    seen_name(level, far, session, some_by_other(edges))
 }
 
 fn circle_name(level: Level, edges: &[Edge]) -> Option<&'static str>
@@ -222,7 +216,7 @@ fn initial_name(level: Level, it: &Overlooked) -> Option<&'static str>
     ensures { option_copied result ≡ spec.initial_name level it.now }
 {
     let (far, session, other) = (sees_far(it), sees_by_session(it), sees_by_other(it));
-    seen_name(level, far, session, other, "fractured read")
+    seen_name(level, far, session, other)
 }
 
 /// What the field calls what the evidence shows, where it has a name at this level, which the

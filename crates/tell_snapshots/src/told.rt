@@ -49,7 +49,7 @@ fn supposed(way: &Way<'_>) -> Shape {
 fn name(ending: &Ending<'_>, orders: Shape) -> Option<&'static str> {
     let circle = match ending {
         Ending::Circle(way) => shape_of(way),
-        Ending::Neither(two) if lost(two).is_some() => return Some("lost update"),
+        Ending::Neither(two) if lost(two).is_some() => return Some("lost update (G-single)"),
         Ending::Neither(two) => {
             let (one, other) = (supposed(&two.not_first), supposed(&two.not_second));
             if one.missed.min(2) != other.missed.min(2) {
