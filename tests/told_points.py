@@ -39,7 +39,7 @@ INITIAL = re.compile('%s, the initial value, and %s wrote %s (\\d+) \\(line (\\d
 BEHIND = re.compile('%s of %s, which by \\[(\\d+)\\] comes before (\\d+), which %s wrote \\(line (\\d+)\\)' % (READS, NAME, NAME))
 MOMENTS = re.compile('%s ended at (\\d+) \\(line (\\d+)\\), %s began at (\\d+) \\(line (\\d+)\\)' % (NAME, NAME))
 SESSION, STEP = re.compile('session (\\d+)'), re.compile('by \\[(\\d+)\\]')
-WANTED = {'lost update', 'read skew (G-single)', 'circular information flow (G1c)', 'long fork (G-nonadjacent-item)', 'aborted read (G1a)',
+WANTED = {'lost update (G-single)', 'read skew (G-single)', 'circular information flow (G1c)', 'long fork (G-nonadjacent-item)', 'aborted read (G1a)',
           'intermediate read (G1b)', 'stale read (G-single-realtime)', 'steps', 'neither', 'circle', 'session', 'moments'}
 
 
