@@ -74,9 +74,10 @@ def without_moments(sessions):
 
 
 def states_moments(sessions):
-    """Whether a committed transaction states when it began, and one when it ended."""
-    committed = [it for _, it in reference.named(sessions) if it.outcome == 'commit']
-    return any(it.begun is not None for it in committed) and any(it.ended is not None for it in committed)
+    """Whether a committed or a taken transaction states when it began, and one when it ended."""
+    taken = reference.taken_of(sessions)
+    nodes = [it for name, it in reference.named(sessions) if it.outcome == 'commit' or name in taken]
+    return any(it.begun is not None for it in nodes) and any(it.ended is not None for it in nodes)
 
 
 def counted(sessions):

@@ -44,12 +44,6 @@ def implications(kept):
     return [(level, low) for level in kept if kept[level] for low in level_model.IMPLIED[level] if kept.get(low) is False]
 
 
-def is_hidden(kept, silent):
-    """Whether no committed transaction says when it began, or none when it ended, and yet moments of one of unknown outcome break real time:
-    the first line is right, but little is told of what holds without it."""
-    return bool(silent) and any(kept[level] != kept[level[len('strict-'):]] for level in silent)
-
-
 def is_order(sessions, level, said):
     """Whether this text of `--order` is an order of a level below the serial ones."""
     nodes, lines = snapshots.nodes_of(sessions), said.split('\n')[:-1]
@@ -145,10 +139,6 @@ class Log:
         """The lines for weaker levels, and what holds without moments."""
         rows, asked = LINE.findall(said), [] if self.kept[level] else self.asked(level)
         wanted = [(LEVELS[it], KEPT[self.kept[it]]) for it in asked]
-        if is_hidden(self.kept, self.silent):
-            right = {(LEVELS[it], KEPT[self.kept[it]]) for it in LEVELS}
-            must(set(rows) <= right, '%s: the weaker levels are %r, of %r' % (level, rows, right))
-            return
         must(rows == wanted, '%s: the weaker levels are %r, wanted %r' % (level, rows, wanted))
         without, right = [word or 'serializable' for word in WITHOUT.findall(said)], 'serializable' if self.kept['serializable'] else 'not serializable'
         if without or asked[:1] == ['strict-snapshot']:
@@ -176,8 +166,7 @@ def told_at_once(program, text):
     it = json.loads(call(program, 'audit', '--at-least', '0', '--format', 'json', '--workers', '1', text=text)[1])
     silent, is_serial = silent_levels(sessions), {'serializable': True, 'not serializable': False}
     model = kept_levels(sessions)
-    hidden = is_hidden(model, silent)
-    told = {'strict-serializable' if hidden or not silent else 'serializable': is_serial[it['verdict']]}
+    told = {'serializable' if silent else 'strict-serializable': is_serial[it['verdict']]}
     told.update({'serializable': is_serial[it['without_moments']]} if it['without_moments'] else {})
     told.update({level: {word: kept for kept, word in KEPT.items()}[it[WEAKER[name]]]
                  for level, name in LEVELS.items() if name in WEAKER and it[WEAKER[name]]})
@@ -187,7 +176,7 @@ def told_at_once(program, text):
         told.update({level: False for low in level_model.IMPLIED[level] if told.get(low) is False and level not in told})
     wrong = {level: kept for level, kept in told.items() if model[level] != kept}
     must(not wrong, 'told is %r' % wrong)
-    must(hidden or set(told) >= set(LEVELS) - set(silent), 'nothing told of levels: %r' % told)
+    must(set(told) >= set(LEVELS) - set(silent), 'nothing told of levels: %r' % told)
     return len(told)
 
 

@@ -1,6 +1,6 @@
 -- What `audit` makes of a log of any length.
 use Rattle.std.specs.Prelude.{◌≡◌, ◌≢◌, ◌⊎◌, ℕ, ◌+◌, ◌-◌, ◌<◌, ◌≤◌, ◌||◌, ◌&&◌, Bool, true, false, not, if◌then◌else◌}
-use Rattle.std.specs.Prelude.{List, [], ◌∷◌, length, map, count_by, Option, Some, None, is_some, Vec}
+use Rattle.std.specs.Prelude.{List, [], ◌∷◌, length, map, count_by, Option, Some, None, is_some, Vec, string_bytes}
 use Rattle.std.specs.List.{list_any, AllByRecursion}
 use Rattle.std.specs.declared.alloc.Global.{Global}
 use Rattle.session_log.specs.Text.{ClientSession, Transaction, view, least_version, log_text}
@@ -41,7 +41,8 @@ use Rattle.audit_command.specs.declared.told.Lower.{Lower}
 use Rattle.audit_command.specs.Words.{status_of}
 use Rattle.audit_command.specs.Places.{told_by}
 use Rattle.audit_command.specs.Report.{report_text}
-use Rattle.audit_command.specs.Why.{IsWhyWhere, IsWhy, IsNamed}
+use Rattle.audit_command.specs.Why.{IsSaid, told_where}
+use Rattle.audit_command.specs.Printed.{IsLine, AreLines}
 use Rattle.audit_command.specs.Objects.{report_object, refusal_object, parts_of}
 use Rattle.audit_command.specs.declared.options.AuditOptions.{AuditOptions}
 use Rattle.audit_command.specs.declared.told.ToldPart.{ToldPart}
@@ -78,16 +79,16 @@ pub record AreTotals (ss : List ClientSession) (t : Totals) : Type 0 where
 
 -- it is told of a part of the log that it has no order, and so the log has none; its transactions
 -- are told by their names and lines in the log, whose first session begins at line n; and why it has
--- none, and whether it has one without the order of sessions, where that is asked for
+-- none, where that is asked for, with the name that goes with it, and whether it has one without the
+-- order of sessions
 pub record IsPartTold (o : AuditOptions) (n : ℕ) (ss : List ClientSession) (p : ToldPart)
     : Type 0 where
   pub part : IsToldPart o.means.level ss p.refuted
   pub txns : p.txns.items ≡ told_by p.refuted.flags n (resolved ss)
-  pub why : IsWhyWhere o.explain o.means n (resolved ss) p.refuted p.why.items
   pub is_serial_apart : IsSerialApartWhere o.explain o.means (map view p.refuted.part.items)
       p.is_serial_apart
-  pub named : (text : List ℕ) × IsWhy o.means n (resolved ss) p.refuted text
-      × IsNamed o.means.level p.refuted p.known_as text
+  pub said : (text : List ℕ) × IsSaid o.means n (resolved ss) p.refuted p.known_as text
+      × (p.why.items ≡ told_where o.explain text)
 
 abbrev pub AreToldParts : AuditOptions → ℕ → List ClientSession → List ToldPart → Type 0
 AreToldParts o n ss parts = AllByRecursion (IsPartTold o n ss) parts
@@ -136,6 +137,7 @@ IsAnswer o n ss (answer.TooFew committed asked) = (committed ≡ nodes_in ss)
     × (asked ≡ o.at_least) × (committed < o.at_least)
     × (HasOrderAt o.means.level ss ⊎ IsOpen o.means ss)
 IsAnswer o n ss (answer.Undecided reason advice) = IsOpen o.means ss × (o.at_least ≤ nodes_in ss)
+    × IsLine (string_bytes reason) × AreLines advice.items
 
 -- ---- without moments and at weaker levels
 

@@ -9,5 +9,6 @@ pub mod Orders
 pub mod Places
 pub mod Report
 pub mod Resolved
+pub mod Printed
 pub mod Why
 pub mod Words

@@ -1,6 +1,6 @@
 -- Why a part has no serial order, in the names and the lines of the whole log.
 use Rattle.std.specs.Prelude.{◌≡◌, ◌⊎◌, ◌<◌, ℕ, Bool, true, false, List, [], ◌∷◌, ◌++◌, length, map}
-use Rattle.std.specs.Prelude.{codes, Option, None, Some, IfSome, Vec, String}
+use Rattle.std.specs.Prelude.{if◌then◌else◌, codes, Option, None, Some, IfSome, Vec, String}
 use Rattle.std.specs.List.{Contains}
 use Rattle.std.specs.Option.{option_map}
 use Rattle.std.specs.String.{string_bytes}
@@ -35,6 +35,7 @@ use Rattle.judging.specs.declared.judged.RefutedPart.{RefutedPart}
 use Rattle.judging.specs.declared.level.Level.{Level}
 use Rattle.judging.specs.declared.level.Level.TheVariants as level
 use Rattle.judging.specs.declared.means.JudgeMeans.{JudgeMeans}
+use Rattle.audit_command.specs.Printed.{IsPrinted, IsLine}
 use Rattle.audit_command.specs.declared.explaining.TheConstants.{MANY_LINES}
 
 -- where the flagged transactions of a log stand, whose first session begins at line n; or all of them
@@ -82,33 +83,6 @@ IsWhyOf finding.Formula budget n known p text = text ≡ search_line
 IsWhyOf finding.Overlooked budget n known p text = text ≡ search_line
 IsWhyOf _ budget n known p text = IsSerialWhy budget n known p text
 
--- evidence against the part at a level below prefix, which is right, and the text that tells it by
--- where its transactions stand
-pub record IsEvidenceTold
-    (below : BelowLevel)
-    (n : ℕ)
-    (known : List ClientSession)
-    (p : RefutedPart)
-    (text : List ℕ) : Type 0 where
-  pub evidence : Evidence
-  pub right : is_refuted below (map view p.part.items) evidence ≡ true
-  pub text_is : text ≡ evidence_text (table_of n known p.flags) (map view p.part.items) evidence
-
--- such evidence is told; or that a search shows it, where no more is
-abbrev pub IsWhyBelow : BelowLevel → ℕ → List ClientSession → RefutedPart → List ℕ → Type 0
-IsWhyBelow below n known p text = (text ≡ search_line) ⊎ IsEvidenceTold below n known p text
-
--- why it has no order of a level; at those of points the words are free
-abbrev pub IsWhyAt : Level → ℕ → ℕ → List ClientSession → RefutedPart → List ℕ → Type 0
-IsWhyAt level.Serializable budget n known p text = IsWhyOf p.finding budget n known p text
-IsWhyAt level.Snapshot budget n known p text = Unit {0}
-IsWhyAt level.Prefix budget n known p text = Unit {0}
-IsWhyAt (level.Below below) budget n known p text = IsWhyBelow below n known p text
-
--- the same of the level that is judged
-abbrev pub IsWhy : JudgeMeans → ℕ → List ClientSession → RefutedPart → List ℕ → Type 0
-IsWhy m n known p text = IsWhyAt m.level m.deciding.budget n known p text
-
 -- ---- what the field calls it
 abbrev pub read_name : ReadAnomaly → Option (List ℕ)
 read_name read.Unknown = None
@@ -135,23 +109,46 @@ IsNamedBy finding.Formula name text = name ≡ None
 IsNamedBy finding.Overlooked name text = name ≡ None
 IsNamedBy _ name text = IfSome name (λ called. IsKnownAs (string_bytes called) text)
 
--- that of some evidence against the part which is right, or none
-abbrev pub IsNameOf : BelowLevel → List ClientSession → Option (String Global) → Evidence → Type 0
-IsNameOf below part name evidence = (is_refuted below part evidence ≡ true)
-    × (option_map string_bytes name ≡ evidence_name below evidence)
+-- ---- what is said: why, and the name
 
-abbrev pub IsNamedBelow : BelowLevel → RefutedPart → Option (String Global) → Type 0
-IsNamedBelow below p name = (name ≡ None)
-    ⊎ ((evidence : Evidence) × IsNameOf below (map view p.part.items) name evidence)
+-- evidence against the part at a level below prefix, which is right, the text that tells it by where
+-- its transactions stand, and its name
+pub record IsEvidenceTold
+    (below : BelowLevel)
+    (n : ℕ)
+    (known : List ClientSession)
+    (p : RefutedPart)
+    (name : Option (String Global))
+    (text : List ℕ) : Type 0 where
+  pub evidence : Evidence
+  pub right : is_refuted below (map view p.part.items) evidence ≡ true
+  pub text_is : text ≡ evidence_text (table_of n known p.flags) (map view p.part.items) evidence
+  pub name_is : option_map string_bytes name ≡ evidence_name below evidence
 
--- at a level of points the name is free
-abbrev pub IsNamed : Level → RefutedPart → Option (String Global) → List ℕ → Type 0
-IsNamed level.Serializable p name text = IsNamedBy p.finding name text
-IsNamed level.Snapshot p name text = Unit {0}
-IsNamed level.Prefix p name text = Unit {0}
-IsNamed (level.Below below) p name text = IsNamedBelow below p name
+-- such evidence is told; or that a search shows it, where no more is
+abbrev pub IsSaidBelow : BelowLevel → ℕ → List ClientSession → RefutedPart → Option (String Global)
+    → List ℕ → Type 0
+IsSaidBelow below n known p name text = ((text ≡ search_line) × (name ≡ None))
+    ⊎ IsEvidenceTold below n known p name text
 
--- where it is asked for
-abbrev pub IsWhyWhere : Bool → JudgeMeans → ℕ → List ClientSession → RefutedPart → List ℕ → Type 0
-IsWhyWhere false m n known p text = text ≡ []
-IsWhyWhere true m n known p text = IsWhy m n known p text
+-- at levels of points the words are free
+abbrev pub IsSaidOfPoints : Option (String Global) → List ℕ → Type 0
+IsSaidOfPoints name text = IsPrinted text × IfSome name (λ called. IsLine (string_bytes called))
+
+-- why it has no order of a level, and what the field calls it
+abbrev pub IsSaidAt : Level → ℕ → ℕ → List ClientSession → RefutedPart → Option (String Global)
+    → List ℕ → Type 0
+IsSaidAt level.Serializable budget n known p name text =
+    IsWhyOf p.finding budget n known p text × IsNamedBy p.finding name text
+IsSaidAt level.Snapshot budget n known p name text = IsSaidOfPoints name text
+IsSaidAt level.Prefix budget n known p name text = IsSaidOfPoints name text
+IsSaidAt (level.Below below) budget n known p name text = IsSaidBelow below n known p name text
+
+-- the same of the level that is judged
+abbrev pub IsSaid : JudgeMeans → ℕ → List ClientSession → RefutedPart → Option (String Global)
+    → List ℕ → Type 0
+IsSaid m n known p name text = IsSaidAt m.level m.deciding.budget n known p name text
+
+-- the text, where it is asked for
+abbrev pub told_where : Bool → List ℕ → List ℕ
+told_where asked text = if asked then text else []

@@ -29,6 +29,7 @@ mod options;
 mod outcome;
 mod overlooked;
 mod places;
+mod printed;
 mod refusals;
 mod report;
 mod snapshots;

@@ -5,7 +5,7 @@ ghost use Rattle.session_log.specs.Text.{view};
 ghost use Rattle.session_log.specs.Version.{first_line};
 ghost use Rattle.judging.specs.Made.{IsMadeOf};
 ghost use Rattle.level_refutations.specs.Refuted.{is_refuted};
-ghost use Rattle.audit_command.specs.Why.{IsWhyBelow, IsNamedBelow};
+ghost use Rattle.audit_command.specs.Why.{IsSaidBelow};
 
 use crate::explaining::{Explained, MANY_LINES, owned, places_of, searched};
 use judging::RefutedPart;
@@ -28,9 +28,8 @@ fn told(
 ) -> Result<Explained, AllocError>
     requires made { IsMadeOf (map view sessions.now) refuted.now }
     requires right { is_refuted below (map view refuted.now.part.items) evidence.now ≡ true }
-    ensures why { IfOk result (λ told. IsWhyBelow below (first_line version)
-        (map view sessions.now) refuted.now told.text.items) }
-    ensures named { IfOk result (λ told. IsNamedBelow below refuted.now told.known_as) }
+    ensures said { IfOk result (λ told. IsSaidBelow below (first_line version)
+        (map view sessions.now) refuted.now told.known_as told.text.items) }
 {
     if line_count(sessions) > MANY_LINES {
         return searched(alloc);
@@ -51,10 +50,8 @@ pub fn tell_evidence(
     below: Level,
 ) -> Result<Option<Explained>, AllocError>
     requires made { IsMadeOf (map view sessions.now) refuted.now }
-    ensures why { IfOk result (λ some. IfSome some (λ told. IsWhyBelow below (first_line version)
-        (map view sessions.now) refuted.now told.text.items)) }
-    ensures named { IfOk result (λ some. IfSome some (λ told.
-        IsNamedBelow below refuted.now told.known_as)) }
+    ensures said { IfOk result (λ some. IfSome some (λ told. IsSaidBelow below (first_line version)
+        (map view sessions.now) refuted.now told.known_as told.text.items)) }
 {
     match find_break(alloc, below, &refuted.part)? {
         Proposal::Evidence(evidence) if refutes(below, &refuted.part, &evidence) => {
@@ -73,9 +70,8 @@ pub fn explain_below(
     below: Level,
 ) -> Result<Explained, AllocError>
     requires made { IsMadeOf (map view sessions.now) refuted.now }
-    ensures why { IfOk result (λ told. IsWhyBelow below (first_line version)
-        (map view sessions.now) refuted.now told.text.items) }
-    ensures named { IfOk result (λ told. IsNamedBelow below refuted.now told.known_as) }
+    ensures said { IfOk result (λ told. IsSaidBelow below (first_line version)
+        (map view sessions.now) refuted.now told.known_as told.text.items) }
 {
     match tell_evidence(alloc, version, sessions, refuted, below)? {
         Some(told) => Ok(told),

@@ -6,11 +6,12 @@ ghost use Rattle.std.specs.List.{AllByRecursion};
 ghost use Rattle.session_log.specs.Text.{IsLegal, view};
 ghost use Rattle.session_log.specs.Version.{first_line};
 ghost use Rattle.judging.specs.Made.{IsMadeOf};
-ghost use Rattle.audit_command.specs.Why.{IsWhyOf, IsWhy, IsNamedBy, IsNamed};
+ghost use Rattle.audit_command.specs.Why.{IsWhyOf, IsNamedBy, IsSaid, IsSaidOfPoints};
 ghost use Rattle.audit_command.specs.Why.{read_name, anomaly_name};
 
 use crate::explaining::{Explained, MANY_LINES, explain_serial, owned, places_of, searched};
 use crate::overlooked::{explain_below, tell_evidence};
+use crate::printed::{only_name, only_printed};
 use deciding::Means;
 use judging::{Finding, JudgeMeans, Level, RefutedPart};
 use seen_laws::Level as Weaker;
@@ -166,7 +167,7 @@ fn explain_search<R: Threads + Wait + Clock + Sync>(
 
 /// Why a part has no snapshot order, or no prefix order where keys are not locked: by an anomaly, by a
 /// circle of snapshots and commits, or by evidence against a weaker level.
-fn explain_snapshot<R: Threads + Wait + Clock + Sync>(
+fn explain_freely<R: Threads + Wait + Clock + Sync>(
     rt: &R,
     alloc: Global,
     version: Version,
@@ -189,6 +190,27 @@ fn explain_snapshot<R: Threads + Wait + Clock + Sync>(
         Some(told) => Ok(told),
         None => explain_search(rt, alloc, version, sessions, refuted, is_locked, means),
     }
+}
+
+/// The same, of which all is printed, and the name is a line.
+fn explain_snapshot<R: Threads + Wait + Clock + Sync>(
+    rt: &R,
+    alloc: Global,
+    version: Version,
+    sessions: &[Session],
+    refuted: &RefutedPart,
+    is_locked: bool,
+    means: &Means,
+) -> Result<Explained, AllocError>
+    requires legal { AllByRecursion IsLegal (map view refuted.now.part.items) }
+    requires made { IsMadeOf (map view sessions.now) refuted.now }
+    ensures said { IfOk result (λ told. IsSaidOfPoints told.known_as told.text.items) }
+{
+    let explained = explain_freely(rt, alloc, version, sessions, refuted, is_locked, means)?;
+    Ok(Explained {
+        text: only_printed(alloc, explained.text),
+        known_as: only_name(alloc, explained.known_as),
+    })
 }
 
 /// Why a part has no serial order.
@@ -234,10 +256,8 @@ pub fn explain_part<R: Threads + Wait + Clock + Sync>(
 ) -> Result<Explained, AllocError>
     requires legal { AllByRecursion IsLegal (map view refuted.now.part.items) }
     requires made { IsMadeOf (map view sessions.now) refuted.now }
-    ensures why { IfOk result (λ told. IsWhy means.now (first_line version)
-        (map view sessions.now) refuted.now told.text.items) }
-    ensures named { IfOk result (λ told. IsNamed means.now.level refuted.now told.known_as
-        told.text.items) }
+    ensures said { IfOk result (λ told. IsSaid means.now (first_line version)
+        (map view sessions.now) refuted.now told.known_as told.text.items) }
 {
     let deciding = &means.deciding;
     match means.level {

@@ -22,6 +22,7 @@ use crate::files::order_file;
 use crate::levels::asks_moments;
 use crate::options::AuditOptions;
 use crate::places::told_txns;
+use crate::printed::{only_line, only_lines};
 use crate::snapshots::explain_part;
 use crate::told::{Answer, ToldPart};
 use crate::undecided::{advice_lines, reason_text};
@@ -271,8 +272,11 @@ fn open_answer(
     }
     Ok(Answered {
         answer: Answer::Undecided {
-            reason: reason_text(alloc, log.proposal, why, tried)?,
-            advice: advice_lines(alloc, log.version, log.sessions, log.proposal, why)?,
+            reason: only_line(alloc, reason_text(alloc, log.proposal, why, tried)?),
+            advice: only_lines(
+                alloc,
+                advice_lines(alloc, log.version, log.sessions, log.proposal, why)?,
+            )?,
         },
         order: None,
     })

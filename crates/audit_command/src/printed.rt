@@ -1,0 +1,77 @@
+//! What is told in free words is printed, and stands in a line where it has to. No word of the program
+//! breaks that; so that nobody has to trust it, it is asked once more here.
+
+ghost use Rattle.std.specs.Prelude.{◌≡◌, not, string_bytes, IfOk, IfSome};
+ghost use Rattle.std.specs.List.{list_any};
+ghost use Rattle.audit_command.specs.Printed.{is_hidden, breaks_line, IsPrinted, IsLine, AreLines};
+
+use std::alloc::{AllocError, Global};
+
+/// Whether a byte is neither printed nor a space.
+fn breaks_line(byte: u8) -> bool
+    ensures { result ≡ breaks_line byte }
+{
+    byte < b' ' || byte > b'~'
+}
+
+/// The same of a byte of lines.
+fn is_hidden(byte: u8) -> bool
+    ensures { result ≡ is_hidden byte }
+{
+    byte != b'\n' && breaks_line(byte)
+}
+
+fn is_printed(text: &[u8]) -> bool
+    ensures { result ≡ ! (list_any is_hidden text.now) }
+{
+    !text.iter().any(|byte| is_hidden(*byte))
+}
+
+fn is_line(text: &[u8]) -> bool
+    ensures { result ≡ ! (list_any breaks_line text.now) }
+{
+    !text.iter().any(|byte| breaks_line(*byte))
+}
+
+/// The lines, where all is printed.
+pub fn only_printed(alloc: Global, text: Vec<u8>) -> Vec<u8>
+    ensures printed { IsPrinted result.items }
+{
+    if is_printed(&text) {
+        text
+    } else {
+        Vec::new(alloc)
+    }
+}
+
+/// The text, where it is a line.
+pub fn only_line(alloc: Global, text: String) -> String
+    ensures line { IsLine (string_bytes result) }
+{
+    if is_line(text.as_bytes()) {
+        text
+    } else {
+        String::new(alloc)
+    }
+}
+
+/// The same, where there is one.
+pub fn only_name(alloc: Global, name: Option<String>) -> Option<String>
+    ensures line { IfSome result (λ text. IsLine (string_bytes text)) }
+{
+    match name {
+        Some(text) => Some(only_line(alloc, text)),
+        None => None,
+    }
+}
+
+/// Texts, each where it is a line.
+pub fn only_lines(alloc: Global, texts: Vec<String>) -> Result<Vec<String>, AllocError>
+    ensures lines { IfOk result (λ lines. AreLines lines.items) }
+{
+    let mut lines = Vec::new(alloc);
+    for text in texts {
+        lines.push(only_line(alloc, text))?;
+    }
+    Ok(lines)
+}
