@@ -53,12 +53,12 @@ pub fn tell_evidence(
     ensures said { IfOk result (λ some. IfSome some (λ told. IsSaidBelow below (first_line version)
         (map view sessions.now) refuted.now told.known_as told.text.items)) }
 {
-    match find_break(alloc, below, &refuted.part)? {
-        Proposal::Evidence(evidence) if refutes(below, &refuted.part, &evidence) => {
-            Ok(Some(told(alloc, version, sessions, refuted, below, &evidence)?))
-        }
-        _ => Ok(None),
+    if let Proposal::Evidence(evidence) = find_break(alloc, below, &refuted.part)?
+        && refutes(below, &refuted.part, &evidence)
+    {
+        return Ok(Some(told(alloc, version, sessions, refuted, below, &evidence)?));
     }
+    Ok(None)
 }
 
 /// Why a part of these sessions has no order of a level below prefix.
