@@ -40,9 +40,9 @@ grown p xs i x a b c lt is before here =
     ∙ ap (λ t. t || p x) before
     ∙ or_assoc a (list_any p (take i xs)) (p x)
     ∙ ap (λ t. a || t) (
-      ap (λ t. list_any p (take i xs) || t) (or_none (p x))
-      ∙ sym (list_any-append p (take i xs) (x ∷ []))
-      ∙ ap (list_any p) (sym (front_more xs i x lt is))
+    ap (λ t. list_any p (take i xs) || t) (or_none (p x))
+    ∙ sym (list_any-append p (take i xs) (x ∷ []))
+    ∙ ap (list_any p) (sym (front_more xs i x lt is))
     )
 
 pub any_same : {X : Type 0} (p q : X → Bool) → ((x : X) → p x ≡ q x) → (xs : List X) → list_any p xs ≡ list_any q xs

@@ -30,9 +30,9 @@ census_text c =
     ++ count_line (codes "A1 unknown read: ") c.unknown_reads (reads_word c.unknown_reads)
     ++ count_line (codes "A2 aborted read: ") c.aborted_reads (reads_word c.aborted_reads)
     ++ count_line (codes "A3 intermediate read: ") c.intermediate_reads
-        (reads_word c.intermediate_reads)
+    (reads_word c.intermediate_reads)
     ++ count_line (codes "A4 own write missed: ") c.own_writes_missed
-        (reads_word c.own_writes_missed)
+    (reads_word c.own_writes_missed)
     ++ count_line (codes "A5 future read: ") c.future_reads (reads_word c.future_reads)
     ++ count_line (codes "A6 split read: ") c.split_reads (reads_word c.split_reads)
     ++ count_line (codes "A7 lost update: ") c.lost_updates (transactions_word c.lost_updates)

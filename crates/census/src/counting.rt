@@ -73,6 +73,7 @@ pub fn census(alloc: Global, sessions: &[Session]) -> Result<Census, AllocError>
     let found = faults_of(alloc, &tables.writes, txns)?;
     let faults = found.as_slice();
     let lost = lost_of(alloc, &tables.updates, txns)?;
+    let kept = lost.as_slice();
     Ok(Census {
         unknown_reads: count_of(faults, ReadAnomaly::Unknown),
         aborted_reads: count_of(faults, ReadAnomaly::Aborted),
@@ -80,6 +81,6 @@ pub fn census(alloc: Global, sessions: &[Session]) -> Result<Census, AllocError>
         own_writes_missed: count_of(faults, ReadAnomaly::OwnWriteMissed),
         future_reads: count_of(faults, ReadAnomaly::Future),
         split_reads: count_of(faults, ReadAnomaly::Split),
-        lost_updates: lost.len(),
+        lost_updates: kept.len(),
     })
 }

@@ -30,7 +30,11 @@ fn transactions_word(count: usize) -> &'static [u8]
 fn faults_word(count: u128) -> &'static [u8]
     ensures word { result.now ≡ faults_word count }
 {
-    if count == 1 { b" fault\n" } else { b" faults\n" }
+    if count == 1 {
+        b" fault\n"
+    } else {
+        b" faults\n"
+    }
 }
 
 /// How many faults there are.
@@ -62,12 +66,7 @@ fn put_total(out: &mut Vec<u8>, total: u128) -> Result<(), AllocError>
 
 /// Appends a line: a name, a number and a word.
 #[tactic(auto, unfolding(crate::specs::Text::count_line))]
-fn put_count(
-    out: &mut Vec<u8>,
-    name: &[u8],
-    count: usize,
-    word: &[u8],
-) -> Result<(), AllocError>
+fn put_count(out: &mut Vec<u8>, name: &[u8], count: usize, word: &[u8]) -> Result<(), AllocError>
     ensures put { OnOk result (out.new.items
         ≡ out.old.items ++ count_line name.now count word.now) }
 {
@@ -102,7 +101,11 @@ pub fn census_text(alloc: Global, census: &Census) -> Result<Vec<u8>, AllocError
     put_total(&mut out, total_of(*census))?;
     put_reads(&mut out, b"A1 unknown read: ", census.unknown_reads)?;
     put_reads(&mut out, b"A2 aborted read: ", census.aborted_reads)?;
-    put_reads(&mut out, b"A3 intermediate read: ", census.intermediate_reads)?;
+    put_reads(
+        &mut out,
+        b"A3 intermediate read: ",
+        census.intermediate_reads,
+    )?;
     put_reads(&mut out, b"A4 own write missed: ", census.own_writes_missed)?;
     put_reads(&mut out, b"A5 future read: ", census.future_reads)?;
     put_reads(&mut out, b"A6 split read: ", census.split_reads)?;
