@@ -1,0 +1,9 @@
+pub mod Truth
+pub mod Found
+pub mod Held
+pub mod Along
+pub mod Behind
+pub mod Reading
+pub mod Knowing
+pub mod Missing
+pub mod Totals

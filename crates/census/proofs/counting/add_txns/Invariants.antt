@@ -1,0 +1,7 @@
+use Rattle.std.proofs.Common.{◌≡◌, ◌++◌, map, take}
+use Rattle.session_log.specs.Text.{view_txn}
+use Rattle.census.specs.Tables.{view_ref}
+use Rattle.census.proofs.counting.add_txns.Given as goal
+
+abbrev pub invariant-loop-txn : goal.invariant-loop-txn
+invariant-loop-txn l = map view_ref l.all.items ≡ map view_ref l.initial.all.items ++ map view_txn (take l.txn-index l.txns)

@@ -1,0 +1,29 @@
+use Rattle.std.proofs.Common.{List, map, length, refl, ap, ◌∙◌, subst}
+use Rattle.std.specs.List.{filter}
+use Rattle.session_log.specs.Text.{Transaction, view}
+use Rattle.serializability.specs.declared.anomaly.ReadAnomaly.TheVariants as anomaly
+use Rattle.log_definitions.specs.Unknown.{txns_in}
+use Rattle.census.specs.Tables.{view_ref, view_fault, KnowsLog}
+use Rattle.census.proofs.Totals.{kinds, lost_are}
+use Rattle.census.proofs.counting.census.Goals as goal
+
+pub returns : goal.returns
+returns c =
+    let ss = map view c.args.sessions.now in
+    let same = ap (map view_ref) c.as_slice-txns.ensures.value ∙ c.in_ok-all.ensures in
+    let tables = c.in_ok-tables.tables in
+    let knows = subst (λ (ts : List Transaction). KnowsLog ts tables) same c.in_ok-tables.ensures in
+    let faults = c.as_slice-faults.result.now in
+    let told = ap (map view_fault) c.as_slice-faults.ensures.value ∙ c.in_ok-found.ensures ss same knows.writes in
+    let kept = c.as_slice-kept.result.now in
+    record {
+      census = record {
+        unknown = kinds ss faults anomaly.Unknown _ told c.count_of.ensures;
+        aborted = kinds ss faults anomaly.Aborted _ told c.count_of-2.ensures;
+        intermediate = kinds ss faults anomaly.Intermediate _ told c.count_of-3.ensures;
+        missed = kinds ss faults anomaly.OwnWriteMissed _ told c.count_of-4.ensures;
+        future = kinds ss faults anomaly.Future _ told c.count_of-5.ensures;
+        split = kinds ss faults anomaly.Split _ told c.count_of-6.ensures;
+        lost = lost_are ss kept (length kept) (ap (map view_ref) c.as_slice-kept.ensures.value ∙ c.in_ok-lost.ensures (txns_in ss) same knows.updates) refl;
+      };
+    }

@@ -1,0 +1,20 @@
+use Rattle.std.proofs.Common.{◌++◌, ◌∷◌, [], List, cond, map, refl, sym, ap, ◌∙◌, append-nil}
+use Rattle.list_lemmas.proofs.Lists.{append_none}
+use Rattle.session_log.specs.Text.{Transaction, view_txn}
+use Rattle.session_log.specs.declared.session.Op.{Op}
+use Rattle.census.specs.Reads.{faults_behind, faults_of_txns}
+use Rattle.census.specs.Tables.{view_fault}
+use Rattle.census.proofs.faults.add_faults_of.Goals as goal
+
+pub returns-then-not-is_committed : goal.returns-then-not-is_committed
+returns-then-not-is_committed c = λ ss known.
+    let old = map view_fault c.args.faults.now.items in
+    append_none old ∙ ap (λ b. old ++ faults_of_txns ss (cond b (view_txn c.args.txn.now ∷ []) [])) (sym (sym c.is_committed.ensures ∙ c.if-not-is_committed.true))
+
+pub returns : goal.returns
+returns c = λ ss known.
+    let old = map view_fault c.args.faults.now.items in
+    c.in_ok-add_faults.ensures ss known
+    ∙ ap (λ (l : List Op). old ++ faults_behind ss [] l) c.as_slice.ensures.value
+    ∙ ap (λ l. old ++ l) (append_none (faults_behind ss [] c.args.txn.now.ops.items))
+    ∙ ap (λ b. old ++ faults_of_txns ss (cond b (view_txn c.args.txn.now ∷ []) [])) (sym (sym c.is_committed.ensures ∙ c.if-not-is_committed.false))

@@ -1,0 +1,11 @@
+use Rattle.std.proofs.Common.{◌≡◌, List, map, take}
+use Rattle.std.specs.List.{filter}
+use Rattle.session_log.specs.Text.{ClientSession}
+use Rattle.log_definitions.specs.Unknown.{is_committed, txns_in}
+use Rattle.census.specs.Reads.{faults_of_txns}
+use Rattle.census.specs.Tables.{view_ref, view_fault, KnowsWrites}
+use Rattle.census.proofs.faults.faults_of.Given as goal
+
+abbrev pub invariant-loop-txn : goal.invariant-loop-txn
+invariant-loop-txn l = (ss : List ClientSession) → KnowsWrites (txns_in ss) l.writes
+    → map view_fault l.faults.items ≡ faults_of_txns ss (filter is_committed (map view_ref (take l.txn-index l.txns)))

@@ -1,0 +1,6 @@
+use Rattle.std.proofs.Common.{map, take}
+use Rattle.census.specs.Tables.{view_ref, KnowsLog}
+use Rattle.census.proofs.tables.Tables.of.Given as goal
+
+abbrev pub invariant-loop-txn : goal.invariant-loop-txn
+invariant-loop-txn l = KnowsLog (map view_ref (take l.txn-index l.txns)) l.tables

@@ -1,0 +1,24 @@
+use Rattle.std.proofs.Common.{◌≡◌, ℕ, ◌||◌, List, take, ap, ◌∙◌}
+use Rattle.std.specs.List.{list_any}
+use Rattle.std.proofs.lemmas.List.{take_all}
+use Rattle.session_log.specs.declared.session.Op.{Op}
+use Rattle.session_log.specs.declared.session.Op.TheVariants.{Read}
+use Rattle.log_definitions.specs.Unknown.{reads_write}
+use Rattle.census.specs.Versions.{has_version}
+use Rattle.census.specs.Tables.{at_read, at_write, is_passed, updates_by, updates_in}
+use Rattle.census.proofs.Truth.{grown, or_none}
+use Rattle.census.proofs.writes.add_passes.Goals as goal
+
+pub loop-op-init : goal.loop-op-init
+loop-op-init c = λ k w. or_none (has_version c.args.versions.now k w)
+
+pub loop-op-preserved : goal.loop-op-preserved
+loop-op-preserved c = λ k w.
+    grown (at_write (is_passed c.args.states.now) k w) c.args.ops.now c.loop-op.op-index c.op-item.result
+    (has_version c.args.versions.now k w) (has_version c.loop-op.versions k w) (has_version c.add_pass.new.versions k w)
+    c.loop-op-test.true c.op-item.is (c.loop-op.invariant k w) (c.in_ok-add_pass.ensures k w)
+
+pub returns : goal.returns
+returns c = λ k w.
+    c.loop-op.invariant k w
+    ∙ ap (λ (l : List Op). has_version c.args.versions.now k w || list_any (at_write (is_passed c.args.states.now) k w) l) (take_all c.loop-op.op-index c.args.ops.now c.loop-op-test.false)
