@@ -1,7 +1,7 @@
 //! How many reads and transactions of a log break serializability by themselves: of each anomaly A1
 //! to A7 the count, in one pass over the log.
 //!
-//! Called by `audit_command`. It knows no text of a log.
+//! Called by `census_command`. It knows no text of a log.
 #![tactic(auto)]
 
 mod counting;
@@ -17,4 +17,4 @@ mod writes;
 
 pub use counting::census;
 pub use numbers::Census;
-pub use text::census_text;
+pub use text::{census_text, total_of};

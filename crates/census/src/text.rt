@@ -38,8 +38,8 @@ fn faults_word(count: u128) -> &'static [u8]
 }
 
 /// How many faults there are.
-fn total_of(census: Census) -> u128
-    ensures { result ≡ total_of census }
+pub fn total_of(census: Census) -> u128
+    ensures total { result ≡ total_of census }
 {
     census.unknown_reads as u128
         + census.aborted_reads as u128
