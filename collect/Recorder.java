@@ -942,6 +942,8 @@ public final class Recorder implements AutoCloseable {
         held.putAll(reads);
         delete(at);
         synchronized (this) {
+            // a client that idles knows the round that it left, which must not know those who go on
+            its.come.clear();
             if (options.durable && round != its)
                 for (Unlearnt it : carried)
                     keepUnknown(round, it, true);

@@ -686,12 +686,15 @@ class Recorder:
                 for path in paths:
                     with open(path, 'rb') as file:
                         shutil.copyfileobj(file, log)
-                numbers = (number for number in itertools.count(1) if number not in {it for it, _ in round.come.values()})
+                used = {number for number, _ in round.come.values()}
+                numbers = (number for number in itertools.count(1) if number not in used)
                 for it in taken:
                     log.write(it.text(next(numbers), round.line(), it.round < round.number).encode('ascii'))
             os.replace(new, os.path.join(self.path, '%06d.log' % round.number))
             self._last_round = round.number
         self._held.update(reads)
+        # a client that idles knows the round that it left, which must not know those who go on
+        round.come.clear()
         shutil.rmtree(folder)
         if self._durable and self._round is not round:
             with self._turn:

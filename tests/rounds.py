@@ -6,7 +6,7 @@ die, leave and come back: each round must be one, as follow.py checks it, and at
 is, which is made of them here; those of the sound store are kept. Then faults that are put into one round, at the seam before it and in
 it: that round and no other is refused for each. Fences that are shown late, a client that hangs, outcomes that nobody learns; and what
 follow.py refuses, removes and keeps. Last line: 'rounds: N passed, M failed'."""
-import argparse, concurrent.futures, contextlib, importlib.util, io, os, random, re, shutil, subprocess, sys, tempfile, threading, time
+import argparse, concurrent.futures, contextlib, gc, importlib.util, io, os, random, re, shutil, subprocess, sys, tempfile, threading, time
 
 HERE = os.path.dirname(os.path.abspath(__file__))
 TOP = os.path.dirname(HERE)
@@ -340,6 +340,25 @@ def stuck(checks):
         checks.expect(outcome == (['unknown'] if what == 'hangs' else []), 'a client that %s: %s' % (what, outcome))
 
 
+def forgets(checks):
+    """A client that idles, while others come and go, keeps no round in memory but the one that it left."""
+    folder, store, run = small(checks, 'forgets', rounds=20)
+    idle, connection = run.session(), stores.Connection(store, 1)
+    one(idle, stores.Connection(store, 2), 'x')
+
+    def work(n):
+        for _ in range(60):
+            with run.session(transact_by(connection)) as session:
+                for _ in range(10):
+                    one(session, connection, 'y')
+    in_threads(work, 1)
+    gc.collect()
+    known = [it.number for it in gc.get_objects() if isinstance(it, recorder._Round) and it is not run._round]
+    checks.expect(run._round.number > 20 and len(known) <= 4, 'round %d, and these are known: %s' % (run._round.number, known))
+    with quiet():
+        run.close()
+
+
 def unknown(checks):
     """Outcomes that nobody learns: of a transaction that takes effect two rounds later, in the same round, and never."""
     for lands in (0, 2, None):
@@ -533,7 +552,7 @@ def main():
     words = words.parse_args()
     with tempfile.TemporaryDirectory() as folder:
         checks = Checks(os.path.abspath(words.program), folder)
-        for part in (misuse, late, stuck, unknown, bounded, followed, alongside, lambda checks: faults(checks, words.seed),
+        for part in (misuse, late, stuck, forgets, unknown, bounded, followed, alongside, lambda checks: faults(checks, words.seed),
                      lambda checks: beside(checks, words.runs, words.seed)):
             began = time.monotonic()
             part(checks)
