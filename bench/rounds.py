@@ -4,8 +4,8 @@
 A collector makes the run, with WORDS, and `tools/follow.py --forget` judges it. The stores are `memory` (bench/memory.py), `sqlite`, and
 `postgresql`, whose server is started here as tests/stores.py does. After so many seconds --fault sets three rows of PostgreSQL back to what
 they held two seconds before; the run goes on until that is told. Each line of follow.py is printed with the seconds since the beginning;
-the last lines have the seconds, the most memory of each process, and the most that the folder held."""
-import argparse, contextlib, os, re, subprocess, sys, tempfile, threading, time
+the last lines have the seconds, the most memory of each process and of what it called, and the most that the folder held."""
+import argparse, contextlib, glob, os, re, subprocess, sys, tempfile, threading, time
 
 TOP = os.path.dirname(os.path.dirname(os.path.abspath(__file__)))
 sys.path.insert(0, os.path.join(TOP, 'tests'))
@@ -15,13 +15,23 @@ STORES = {'memory': lambda: contextlib.nullcontext([sys.executable, '../bench/me
 PAUSE, BACK = 0.2, 2
 
 
-def peak_of(process):
-    """The most memory that it had, in MiB; 0 where it has ended."""
+def text_of(path):
     with contextlib.suppress(OSError):
-        with open('/proc/%d/status' % process.pid) as file:
-            found = re.search(r'VmHWM:\s*([0-9]+)', file.read())
-            return int(found[1]) / 1024 if found else 0
-    return 0
+        with open(path) as file:
+            return file.read()
+    return ''
+
+
+def peak_of(pid):
+    """The most memory that a process had, in MiB; 0 where it has ended."""
+    found = re.search(r'VmHWM:\s*([0-9]+)', text_of('/proc/%s/status' % pid))
+    return int(found[1]) / 1024 if found else 0
+
+
+def children_of(pid):
+    found, comm = ' '.join(map(text_of, glob.glob('/proc/%d/task/*/children' % pid))).split(), '/proc/%s/comm'
+    # one that is not yet another program has its caller's memory
+    return [it for it in found if text_of(comm % it) != text_of(comm % pid)]
 
 
 def size_of(folder):
@@ -38,12 +48,13 @@ class Process:
     """One that was started here, and what it takes."""
 
     def __init__(self, words, **how):
-        self.process, self.peak, self.ended = subprocess.Popen(words, stdin=subprocess.DEVNULL, **how), 0, None
+        self.process, self.peak, self.called, self.ended = subprocess.Popen(words, stdin=subprocess.DEVNULL, **how), 0, 0, None
 
     def look(self):
         """Whether it runs."""
         if self.ended is None:
-            self.peak = max(self.peak, peak_of(self.process))
+            self.peak = max(self.peak, peak_of(self.process.pid))
+            self.called = max([self.called, *map(peak_of, children_of(self.process.pid))])
             pid, status, self.usage = os.wait4(self.process.pid, os.WNOHANG)
             if pid:
                 self.ended, self.status = time.monotonic(), os.waitstatus_to_exitcode(status)
@@ -56,10 +67,12 @@ class Process:
             self.process.kill()
             self.process.wait()
 
-    def told(self):
-        """The most memory, with its children's, and the seconds of processors."""
-        return '%.0f MiB, with what it called %.0f MiB, %.1f s of processors' % (
-            self.peak, self.usage.ru_maxrss / 1024, self.usage.ru_utime + self.usage.ru_stime)
+    def told(self, began):
+        """When it ended and how, the most memory, and that of what it called, and the seconds of processors of both."""
+        if self.look():
+            return 'it goes on: %.0f MiB' % self.peak
+        return 'status %d at %.1f s: %.0f MiB, what it called %.0f MiB, %.1f s of processors' % (
+            self.status, self.ended - began, self.peak, self.called, self.usage.ru_utime + self.usage.ru_stime)
 
 
 def set_back(address):
@@ -111,10 +124,8 @@ def main():
                     print('%7.1f s  three rows are set back' % since(), flush=True)
                 most = max(most, size_of(run))
                 time.sleep(PAUSE)
-            for name, process in ('the collector', maker), ('follow.py', follower):
-                print('%s: %s: %s' % (name, 'it goes on' if process.look() else 'status %d at %.1f s' % (process.status, process.ended - began),
-                                      process.told() if process.ended else '%.0f MiB' % process.peak))
-            print('the folder: at most %.1f MB' % most)
+            teller.join()
+            print('the collector: %s\nfollow.py: %s\nthe folder: at most %.1f MB' % (maker.told(began), follower.told(began), most))
         finally:
             maker.end()
             follower.end()

@@ -93,6 +93,22 @@ def holds_something(path, rounds=None):
     return os.path.exists(path) and (not os.path.isfile(path) or os.path.getsize(path) > 0)
 
 
+def is_held(path):
+    """Whether another process holds the lock of this file."""
+    import fcntl
+    try:
+        file = os.open(path, os.O_RDWR)
+    except FileNotFoundError:
+        return False
+    try:
+        fcntl.lockf(file, fcntl.LOCK_SH | fcntl.LOCK_NB)
+    except (BlockingIOError, PermissionError):
+        return True
+    finally:
+        os.close(file)
+    return False
+
+
 class _Part:
     """One client's part of the log: a file, the lines that are not in it yet, and how many identities this client has given out."""
 
@@ -180,41 +196,28 @@ class _Company:
         self.folder, (self.place, self.count), self.limit = folder, share, limit
         # of the keeper: those that it waits for at the end of a round
         self.others = set(range(2, self.count + 1)) if self.place == 1 else set()
-        if self.count > 1 and self.is_there(self.place):
+        if self.is_there(self.place):
             raise Misuse('share %s of %s is taken by another process' % (share, folder))
 
     def lock(self, place):
         return os.path.join(self.folder, '%d.lock' % place)
 
+    def is_there(self, place):
+        return is_held(self.lock(place))
+
     def take(self):
         """Takes part. The file is there when its lock is held: so that of the keeper says that it has cleaned the folder."""
-        if self.count > 1:
-            import fcntl
-            path = self.lock(self.place)
-            self.file = os.open(path + '.new', os.O_RDWR | os.O_CREAT, 0o666)
-            # such a lock ends with its process, and no child has it
-            fcntl.lockf(self.file, fcntl.LOCK_EX)
-            os.replace(path + '.new', path)
+        import fcntl
+        path = self.lock(self.place)
+        self.file = os.open(path + '.new', os.O_RDWR | os.O_CREAT | os.O_TRUNC, 0o666)
+        # such a lock ends with its process, and no child has it; follow.py asks for it where it is on this machine
+        fcntl.lockf(self.file, fcntl.LOCK_EX)
+        os.write(self.file, os.uname().nodename.encode())
+        os.replace(path + '.new', path)
 
     def leave(self):
-        if self.count > 1:
-            os.remove(self.lock(self.place))
-            os.close(self.file)
-
-    def is_there(self, place):
-        """Whether another process holds this lock."""
-        import fcntl
-        try:
-            file = os.open(self.lock(place), os.O_RDWR)
-        except FileNotFoundError:
-            return False
-        try:
-            fcntl.lockf(file, fcntl.LOCK_SH | fcntl.LOCK_NB)
-        except (BlockingIOError, PermissionError):
-            return True
-        finally:
-            os.close(file)
-        return False
+        os.remove(self.lock(self.place))
+        os.close(self.file)
 
     def tell(self, path, what):
         with open(path + '.new', 'w') as file:
@@ -549,8 +552,8 @@ class Recorder:
             with self._turn:
                 self._fault = fault
                 self._turn.notify_all()
-            # the others wait for this one no more
-            self._company.leave()
+            # nobody waits for this one any longer
+            os.close(self._company.file)
 
     def _is_ending(self):
         """Whether the round that goes on is the last one."""

@@ -609,7 +609,7 @@ def several(checks):
         checks.expect(len(paths) > 5 and names == [*map(os.path.basename, paths), 'end'], 'several, %s: %s' % (name, names))
         numbers = [int(it) for it in re.findall('session ([0-9]+)', ''.join(open(path).read() for path in paths))]
         checks.expect({it % 3 for it in numbers if it != recorder.KEEPER} == {0, 1, 2}, 'several, %s: sessions %s' % (name, set(numbers)))
-        for level in LEVELS:
+        for level in ('strict-serializable', 'prefix'):
             checks.expect(checks.audit(level, run_of(paths)), 'several, %s: the run is not %s' % (name, level))
     statuses, told = ran(of(1), of(2, count, 'weak'), of(3))
     status, said, error = follow()
@@ -623,6 +623,8 @@ def several(checks):
             checks.expect('of 3 processes number %d died or gave up' % place in others, 'several, %s: %s' % (name, others))
             status, said, error = follow('--once')
             checks.expect(status == 0, 'several, %s: follow: %d %s %s' % (name, status, said, error))
+            status, said, error = follow()
+            checks.expect(status == 70 and 'died or gave up' in error, 'several, %s: follow: %d %s %s' % (name, status, said, error))
             part, = (it for it in os.listdir(folder) if it.endswith('.part'))
             mended = checks.path('mended.log')
             told = subprocess.check_output([sys.executable, MEND, os.path.join(folder, part), '--overwrite', '-o', mended], universal_newlines=True)
@@ -646,7 +648,7 @@ def main():
     words = words.parse_args()
     with tempfile.TemporaryDirectory() as folder:
         checks = Checks(os.path.abspath(words.program), folder)
-        for part in (misuse, late, stuck, forgets, unknown, bounded, followed, alongside, lambda checks: faults(checks, words.seed),
+        for part in (misuse, late, stuck, forgets, unknown, bounded, several, followed, alongside, lambda checks: faults(checks, words.seed),
                      lambda checks: beside(checks, words.runs, words.seed)):
             began = time.monotonic()
             part(checks)
