@@ -540,7 +540,7 @@ type round struct {
 
 func (its *round) line() string { return fmt.Sprintf("r %s %d\n", its.fence.Key, its.fence.Identity) }
 
-var roundFile = regexp.MustCompile(`\A(?:[0-9]{6,}\.(?:log|part)|end)\z`)
+var roundFile = regexp.MustCompile(`\A(?:[0-9]{6,}\.(?:log|part)|1\.lock|end)\z`)
 
 func (run *Recorder) beginRounds() error {
 	if run.options.Patience == 0 {

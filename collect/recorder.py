@@ -11,7 +11,7 @@
 
 It gives out sessions, identities and, where that is asked for, moments. A run that does not end is written in rounds, each a log by itself.
 Nothing of it is proved; it needs Python's standard library alone, 3.8 or later."""
-import atexit, collections, hashlib, itertools, json, operator, os, re, shutil, sys, tempfile, threading, time
+import atexit, collections, contextlib, hashlib, itertools, json, operator, os, re, shutil, sys, tempfile, threading, time
 
 # An identity is a count times CLIENTS plus its client's number: its last three digits are the client. Of N processes that write one log the
 # K-th has every N-th count and every N-th session, from K on.
@@ -94,15 +94,15 @@ def holds_something(path, rounds=None):
 
 
 def is_held(path):
-    """Whether another process holds the lock of this file."""
+    """Whether another process holds the lock of this file; so it may be, where no file has a lock."""
     import fcntl
     try:
-        file = os.open(path, os.O_RDWR)
+        file = os.open(path, os.O_RDONLY)
     except FileNotFoundError:
         return False
     try:
         fcntl.lockf(file, fcntl.LOCK_SH | fcntl.LOCK_NB)
-    except (BlockingIOError, PermissionError):
+    except OSError:
         return True
     finally:
         os.close(file)
@@ -211,7 +211,8 @@ class _Company:
         path = self.lock(self.place)
         self.file = os.open(path + '.new', os.O_RDWR | os.O_CREAT | os.O_TRUNC, 0o666)
         # such a lock ends with its process, and no child has it; follow.py asks for it where it is on this machine
-        fcntl.lockf(self.file, fcntl.LOCK_EX)
+        with contextlib.suppress(*[OSError] * (self.count == 1)):
+            fcntl.lockf(self.file, fcntl.LOCK_EX)
         os.write(self.file, os.uname().nodename.encode())
         os.replace(path + '.new', path)
 
