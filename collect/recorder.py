@@ -101,7 +101,7 @@ def is_held(path):
     except FileNotFoundError:
         return False
     try:
-        fcntl.lockf(file, fcntl.LOCK_SH | fcntl.LOCK_NB)
+        fcntl.flock(file, fcntl.LOCK_SH | fcntl.LOCK_NB)
     except OSError:
         return True
     finally:
@@ -193,7 +193,7 @@ class _Company:
     it tells the others of a round is a file in the folder of that round. The first is the keeper."""
 
     def __init__(self, folder, share, limit):
-        self.folder, (self.place, self.count), self.limit = folder, share, limit
+        self.folder, (self.place, self.count), self.limit, self.file = folder, share, limit, None
         # of the keeper: those that it waits for at the end of a round
         self.others = set(range(2, self.count + 1)) if self.place == 1 else set()
         if self.is_there(self.place):
@@ -210,15 +210,21 @@ class _Company:
         import fcntl
         path = self.lock(self.place)
         self.file = os.open(path + '.new', os.O_RDWR | os.O_CREAT | os.O_TRUNC, 0o666)
-        # such a lock ends with its process, and no child has it; follow.py asks for it where it is on this machine
+        # the lock ends with this process, where no child keeps it; follow.py asks for it where it is on this machine
+        os.register_at_fork(after_in_child=self.let_go)
         with contextlib.suppress(*[OSError] * (self.count == 1)):
-            fcntl.lockf(self.file, fcntl.LOCK_EX)
+            fcntl.flock(self.file, fcntl.LOCK_EX)
         os.write(self.file, os.uname().nodename.encode())
         os.replace(path + '.new', path)
 
+    def let_go(self):
+        if self.file is not None:
+            os.close(self.file)
+            self.file = None
+
     def leave(self):
         os.remove(self.lock(self.place))
-        os.close(self.file)
+        self.let_go()
 
     def tell(self, path, what):
         with open(path + '.new', 'w') as file:
@@ -554,7 +560,7 @@ class Recorder:
                 self._fault = fault
                 self._turn.notify_all()
             # nobody waits for this one any longer
-            os.close(self._company.file)
+            self._company.let_go()
 
     def _is_ending(self):
         """Whether the round that goes on is the last one."""
