@@ -494,9 +494,8 @@ def followed(checks):
     changed(6, lambda text: re.sub(r'\nr (x|7) [0-9]+\n(?=(r|commit))', '\n', text, count=1), '', status=2)
     changed(6, lambda text: text.replace('session 65535', 'session 65534'), 'no committed opening')
     changed(6, lambda text: text.replace('log 3\n', 'log 3\nrubbish\n', 1), '(L')
-    first = re.search(r'w fence/1 ([0-9]+)', open(os.path.join(folder, names[2])).read())[1]
-    own = re.search(r'w fence/1 ([0-9]+)', open(os.path.join(folder, names[7])).read())[1]
-    changed(8, lambda text: re.sub(r'(fence/1) %s\n' % own, r'\1 %s\n' % first, text), 'an earlier round has')
+    (_, first), (key, own) = (re.search(r'w (fence/[0-9]{1,2}) ([0-9]+)', open(os.path.join(folder, names[n])).read()).groups() for n in (2, 7))
+    changed(8, lambda text: text.replace('%s %s\n' % (key, own), '%s %s\n' % (key, first)), 'an earlier round has')
     changed(9, lambda text: re.sub(r'(begin|commit) ([0-9]+)', lambda it: '%s %d' % (it[1], int(it[2]) // 4), text), 'had both one clock', level='strict-serializable')
     changed(9, lambda text: re.sub(r'(begin|commit) ([0-9]+)', lambda it: '%s %d' % (it[1], int(it[2]) // 4), text), '', status=0)
     for level in ('read-committed', 'read-atomic', 'causal', 'monotonic-atomic-view', 'rubbish'):
@@ -567,7 +566,7 @@ def process(folder, database, place, count, turns, end, patience):
     store = sqlite.WeakStore if end == 'weak' else Unsure
     turns = map(lambda left: left or 'dies' not in end or os.kill(os.getpid(), signal.SIGKILL), range(int(turns), -1, -1))
     given = argparse.Namespace(database=database, run='t', keys=8, mix=(5, 1, 4), pause=0.5, kill=0, seed=int(place))
-    run = Recorder(folder, 'all', aborted=store.aborted, unknown=Lost, rounds=60, transact=clients.Connection(Unsure, given).transact,
+    run = Recorder(folder, 'all', aborted=store.aborted, unknown=Lost, rounds=45, transact=clients.Connection(Unsure, given).transact,
                    share=(int(place), int(count)), patience=float(patience), durable='durable' in end)
     members = [Member(run, store, given, number) for number in range(3)]
     with concurrent.futures.ThreadPoolExecutor(3) as pool:
@@ -580,7 +579,7 @@ def several(checks):
     """Three processes write rounds together; one may leave early, die, be broken, or not come."""
     folder = checks.path('several')
     database = checks.path('several.db')
-    count = 300
+    count = 200
 
     def ran(*members):
         """The statuses of processes and what they told: each has a share, turns and an end."""
