@@ -11,7 +11,7 @@
 
 It gives out sessions, identities and, where that is asked for, moments. A run that does not end is written in rounds, each a log by itself.
 Nothing of it is proved; it needs Python's standard library alone, 3.8 or later."""
-import atexit, collections, contextlib, hashlib, itertools, json, operator, os, re, shutil, sys, tempfile, threading, time
+import atexit, collections, hashlib, itertools, json, operator, os, re, shutil, sys, tempfile, threading, time
 
 # An identity is a count times CLIENTS plus its client's number: its last three digits are the client. Of N processes that write one log the
 # K-th has every N-th count and every N-th session, from K on.
@@ -196,8 +196,11 @@ class _Company:
         self.folder, (self.place, self.count), self.limit, self.file = folder, share, limit, None
         # of the keeper: those that it waits for at the end of a round
         self.others = set(range(2, self.count + 1)) if self.place == 1 else set()
-        if self.is_there(self.place):
-            raise Misuse('share %s of %s is taken by another process' % (share, folder))
+        self.check_free(self.is_there(self.place))
+
+    def check_free(self, is_taken):
+        if is_taken:
+            raise Misuse('%s: share %s is taken by another process' % (self.folder, (self.place, self.count)))
 
     def lock(self, place):
         return os.path.join(self.folder, '%d.lock' % place)
@@ -212,8 +215,12 @@ class _Company:
         self.file = os.open(path + '.new', os.O_RDWR | os.O_CREAT | os.O_TRUNC, 0o666)
         # the lock ends with this process, where no child keeps it; follow.py asks for it where it is on this machine
         os.register_at_fork(after_in_child=self.let_go)
-        with contextlib.suppress(*[OSError] * (self.count == 1)):
-            fcntl.flock(self.file, fcntl.LOCK_EX)
+        try:
+            fcntl.flock(self.file, fcntl.LOCK_EX | fcntl.LOCK_NB)
+        except OSError as fault:
+            # one process alone can do without
+            self.check_free(self.count > 1 or isinstance(fault, BlockingIOError))
+        self.check_free(self.is_there(self.place))
         os.write(self.file, os.uname().nodename.encode())
         os.replace(path + '.new', path)
 

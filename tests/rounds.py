@@ -632,7 +632,7 @@ def several(checks):
     statuses, told = ran(of(1, patience=0.05), of(3, patience=0.05))
     checks.expect(statuses == [1, 1] and 'of 3 processes number 2 does not come' in told[0], 'several: one does not come: %s' % told)
     statuses, told = ran(of(1, patience=0.1), of(2, patience=0.1), of(2, patience=0.1))
-    checks.expect(statuses == [1, 1, 1] and any('is taken by another process' in it for it in told[1:]), 'several: one share twice: %s' % told)
+    checks.expect(statuses == [1, 1, 1] and sum('is taken by another process' in it for it in told[1:]) == 1, 'several: one share twice: %s' % told)
     statuses, told = ran(of(1), (2, 4, count, '', 2), of(3))
     checks.expect('the share of the first process is (1, 3)' in told[1], 'several: shares of two runs: %s' % told)
 
