@@ -211,8 +211,8 @@ class _Company:
     def take(self):
         """Takes part. The file is there when its lock is held: so that of the keeper says that it has cleaned the folder."""
         import fcntl
-        path = self.lock(self.place)
-        self.file = os.open(path + '.new', os.O_RDWR | os.O_CREAT | os.O_TRUNC, 0o666)
+        new = os.path.join(self.folder, 'new-%d.lock' % self.place)
+        self.file = os.open(new, os.O_RDWR | os.O_CREAT | os.O_TRUNC, 0o666)
         # the lock ends with this process, where no child keeps it; follow.py asks for it where it is on this machine
         os.register_at_fork(after_in_child=self.let_go)
         try:
@@ -222,7 +222,7 @@ class _Company:
             self.check_free(self.count > 1 or isinstance(fault, BlockingIOError))
         self.check_free(self.is_there(self.place))
         os.write(self.file, os.uname().nodename.encode())
-        os.replace(path + '.new', path)
+        os.replace(new, self.lock(self.place))
 
     def let_go(self):
         if self.file is not None:
