@@ -193,7 +193,9 @@ class _Company:
     it tells the others of a round is a file in the folder of that round. The first is the keeper."""
 
     def __init__(self, folder, share, limit):
-        self.folder, (self.place, self.count), self.limit, self.file = folder, share, limit, None
+        # the keeper may wait itself for the others, and then for the store
+        self.folder, (self.place, self.count), self.file = folder, share, None
+        self.limit = limit if self.place == 1 else 3 * limit
         # of the keeper: those that it waits for at the end of a round
         self.others = set(range(2, self.count + 1)) if self.place == 1 else set()
         self.check_free(self.is_there(self.place))
@@ -681,8 +683,7 @@ class Recorder:
         """Writes the keeper's fence, or waits until the keeper has, which is another process."""
         opening, is_first, company = os.path.join(self._folder, 'opening'), self._round.number == 1, self._company
         if self._share[0] > 1:
-            company.await_all('round %d does not begin' % self._round.number, lambda it: company.is_there(it) and os.path.exists(opening),
-                              is_first, lambda: is_first)
+            company.await_all('round %d does not begin' % self._round.number, lambda it: company.is_there(it) and os.path.exists(opening), is_first)
             lines, (key, wid, count) = [], company.told(opening)
             if count != self._share[1]:
                 raise Misuse('the share of the first process is (1, %d), and this one is %s' % (count, self._share))
