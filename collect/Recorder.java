@@ -45,7 +45,7 @@ public final class Recorder implements AutoCloseable {
     private static final int CARRIED = 10;
     /** What the store did not do at once is asked for again after so many milliseconds, and for so many times a client's patience. */
     private static final long AGAIN = 20, PATIENCE = 30;
-    private static final Pattern ROUND_FILE = Pattern.compile("[0-9]{6,}\\.(?:log|part)|end");
+    private static final Pattern ROUND_FILE = Pattern.compile("[0-9]{6,}\\.(?:log|part)|1\\.lock|end");
     private static final Pattern PLAIN_KEY = Pattern.compile("(?!hex:|sha:)[A-Za-z0-9_.:/-]{1,64}");
     private static final Pattern FIRST_WORD = Pattern.compile("([0-9]+)(?: (?s:.*))?");
 
@@ -942,6 +942,8 @@ public final class Recorder implements AutoCloseable {
         held.putAll(reads);
         delete(at);
         synchronized (this) {
+            // a client that idles knows the round that it left, which must not know those who go on
+            its.come.clear();
             if (options.durable && round != its)
                 for (Unlearnt it : carried)
                     keepUnknown(round, it, true);

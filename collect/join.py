@@ -34,7 +34,7 @@ def parts_of(path):
     """The files of a log: those of its clients, where it is the folder of a recorder."""
     if not os.path.isdir(path):
         return [path]
-    names = sorted(name for name in os.listdir(path) if re.fullmatch('[0-9]+|unknown', name))
+    names = sorted(name for name in os.listdir(path) if re.fullmatch(r'[0-9.]+|unknown(\.[0-9]+)?', name))
     if not names:
         raise Stop('%s: it has no files of a recorder' % path)
     return [os.path.join(path, name) for name in names]

@@ -540,7 +540,7 @@ type round struct {
 
 func (its *round) line() string { return fmt.Sprintf("r %s %d\n", its.fence.Key, its.fence.Identity) }
 
-var roundFile = regexp.MustCompile(`\A(?:[0-9]{6,}\.(?:log|part)|end)\z`)
+var roundFile = regexp.MustCompile(`\A(?:[0-9]{6,}\.(?:log|part)|1\.lock|end)\z`)
 
 func (run *Recorder) beginRounds() error {
 	if run.options.Patience == 0 {
@@ -1013,6 +1013,8 @@ func (run *Recorder) writeRound(its *round, folder string, paths []string, closi
 	for name, wid := range reads {
 		run.held[name] = wid
 	}
+	// a client that idles knows the round that it left, which must not know those who go on
+	its.come = nil
 	for _, it := range run.carried {
 		if run.options.Durable && run.round != its && err == nil {
 			err = run.keepUnknown(run.round, it, true)
