@@ -263,6 +263,8 @@ STORES = {
         Way('--level repeatable-read --snapshot-isolation on --kill 20', 'snapshot'),
         Way('--level repeatable-read --snapshot-isolation on --moments all', 'strict-snapshot'),
         Way('--level repeatable-read --snapshot-isolation off', 'prefix', 'snapshot'),
+        Way('--level repeatable-read --snapshot-isolation on --for-update', 'snapshot', 'serializable'),
+        Way('--level repeatable-read --snapshot-isolation off --for-update', 'read-committed', 'monotonic-atomic-view'),
         Way('--level read-committed', 'monotonic-atomic-view', 'read-atomic'), Way('--level read-uncommitted', None, 'read-committed')]),
     'Redis': (redis, [
         Way('', 'serializable'), Way('--kill 20', 'serializable'), Way('--moments all', 'strict-serializable'),
