@@ -1189,10 +1189,14 @@ public final class Recorder implements AutoCloseable {
 
         /** It read the key, and saw the write of this identity: 0 where there was nothing. */
         public void read(String key, long wid) {
-            read(bytes(key), wid, 0);
+            read(key, wid, 0);
         }
 
         /** The same, for a statement that reads and writes at once: it has read before its write of the identity `before`, where that is not 0. */
+        public void read(String key, long wid, long before) {
+            read(bytes(key), wid, before);
+        }
+
         public void read(byte[] key, long wid, long before) {
             String its = Recorder.name(key);
             synchronized (Recorder.this) {
