@@ -11,8 +11,8 @@ trap '[ $? -eq 0 ] || exit 70' EXIT
 self=$(readlink -f "${BASH_SOURCE[0]}")
 top=${self%/*/*}
 store=sqlite folder='' program=$top/run temporary='' server=''
-# where a package has it
-[ -x "$program" ] || program=$(readlink -f "$top/../../bin/cobra_poly")
+# where a package has it, else what is on the path
+[ -x "$program" ] || program=$(readlink -f "$top/../../bin/cobra_poly") && [ -x "$program" ] || program=cobra_poly
 
 say() {
     echo "quickstart.sh: $1"

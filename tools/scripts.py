@@ -4,8 +4,9 @@ import json, os, re, subprocess, sys, traceback
 TOP = os.path.dirname(os.path.dirname(os.path.realpath(__file__)))
 RUN = os.path.join(TOP, 'run')
 if not os.path.exists(RUN):
-    # as a package has it
+    # as a package has it, else what is on the path
     RUN = os.path.normpath(os.path.join(TOP, '..', '..', 'bin', 'cobra_poly'))
+    RUN = RUN if os.path.exists(RUN) else 'cobra_poly'
 # What goes wrong around the program has this status; 0 to 5 are the program's.
 AROUND = 70
 SERIALIZABLE, NOT_SERIALIZABLE, REFUSED, UNKNOWN, OUT_OF_MEMORY, DEVICE_FAILED = range(6)
