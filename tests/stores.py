@@ -1,12 +1,13 @@
 #!/usr/bin/env python3
 """stores.py PROGRAM [LARGE]: logs of real stores, by the collectors in collect/, against what the stores promise.
 
-H2, HSQLDB and Derby run in the process of their clients, by JDBC, Firebird by tests/loads/firebird.py, and Tarantool's clients in its own. PostgreSQL, MariaDB, Redis and etcd are started here, as a user that is not root, with all that they have in a temporary folder and on
-sockets in it, etcd on ports of this machine; where a package of Debian's is missing it is installed, and what cannot be had is passed over,
-with a note. Each way of a store promises a level, or none: each of its logs must keep that level, also where connections are cut, and some
-log must break a level above it, or where nothing is promised one of the weaker levels. Logs are judged by `audit --level`, and a long one of
-each sound way is too, of LARGE transactions; each must be decided. For each way a line says how many transactions and seconds there were.
-Last line: 'stores: N passed, M failed'."""
+H2, HSQLDB and Derby run in the process of their clients, by JDBC, and so do Firebird and Tarantool, by loads/. PostgreSQL, MariaDB, Redis and
+etcd are started here, as a user that is not root, with all that they have in a temporary folder and on sockets in it, etcd on ports of this
+machine; where a package of Debian's is missing it is installed, and what cannot be had is passed over, with a note. Each way of a store
+promises a level, or none: each of its logs must keep that level, also where connections are cut, and some log must break a level above it, or
+where nothing is promised one of the weaker levels. Logs are judged by `audit --level`, and a long one of each sound way is too, of LARGE
+transactions; each must be decided. For each way a line says how many transactions and seconds there were. Last line: 'stores: N passed, M
+failed'."""
 import argparse, contextlib, functools, glob, http.client, os, pwd, re, shutil, socket, subprocess, sys, tempfile, time
 import jdbc
 from levels import LEVELS

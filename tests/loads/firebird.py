@@ -7,7 +7,10 @@ import ctypes, os, sys
 sys.path.insert(0, os.path.join(os.path.dirname(os.path.dirname(os.path.dirname(os.path.abspath(__file__)))), 'collect'))
 import clients
 
-LIBRARY = ctypes.CDLL('libfbclient.so.2')
+try:
+    LIBRARY = ctypes.CDLL('libfbclient.so.2')
+except OSError:
+    clients.stop('there is no libfbclient.so.2; Debian has it as libfbclient2')
 # Of the words by which a database is attached: version 1, user SYSDBA, dialect 3.
 ATTACH = b'\x01\x1c\x06SYSDBA\x3f\x01\x03\x41\x01\x03'
 INT64, DIALECT = 581, 3
