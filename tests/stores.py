@@ -272,7 +272,7 @@ STORES = {
         Way('--level multi', 'monotonic-atomic-view', 'read-atomic')]),
     'Firebird': (firebird, [
         Way('', 'snapshot', 'serializable'), Way('--moments all', 'strict-snapshot'),
-        Way('--level table-stability --sessions 3 --keys 4 --pause 1', 'snapshot', 'serializable', part=2),
+        Way('--level table-stability --sessions 3 --keys 4 --pause 1', None, 'serializable'),
         Way('--level reserved', 'serializable', part=5), Way('--level reserved --moments all', 'strict-serializable'),
         Way('--level read-committed', 'monotonic-atomic-view', 'read-atomic'), Way('--level one-version', 'monotonic-atomic-view', 'read-atomic')]),
     'Tarantool': (tarantool, [

@@ -37,6 +37,10 @@ def run(main):
     except KeyboardInterrupt:
         say('interrupted')
         sys.exit(130)
+    except BrokenPipeError:
+        # whoever reads, as head, has read enough
+        os.dup2(os.open(os.devnull, os.O_WRONLY), 1)
+        sys.exit(AROUND)
     except (OSError, UnicodeDecodeError) as fault:
         name = getattr(fault, 'filename', None)
         say('%s: %s' % (name, fault.strerror) if name else fault)

@@ -15,7 +15,7 @@ except OSError:
 ATTACH = b'\x01\x1c\x06SYSDBA\x3f\x01\x03\x41\x01\x03'
 INT64, DIALECT = 581, 3
 # Errors that say that another transaction was in the way: deadlock, lock conflict, update conflict, waited too long.
-IN_THE_WAY = {335544336, 335544345, 335544451, 335544510}
+IN_THE_WAY, NO_ROW = {335544336, 335544345, 335544451, 335544510}, 335544374
 
 
 class Value(ctypes.Structure):
@@ -32,11 +32,15 @@ class RolledBack(Exception):
     """Another transaction was in the way: this one has to be rolled back."""
 
 
+class Missing(Exception):
+    """No row was found."""
+
+
 def call(name, *words):
     status = (ctypes.c_ssize_t * 20)()
     if getattr(LIBRARY, name)(status, *words):
         codes = [code for kind, code in zip(status[::2], status[1::2]) if kind == 1]
-        raise (RolledBack if IN_THE_WAY & {*codes} else RuntimeError)('%s: %s' % (name, codes))
+        raise RolledBack if IN_THE_WAY & {*codes} else Missing if NO_ROW in codes else RuntimeError('%s: %s' % (name, codes))
 
 
 class Store(clients.Store):
@@ -59,7 +63,11 @@ class Store(clients.Store):
     def read(self, key):
         wid, null = ctypes.c_int64(0), ctypes.c_short(0)
         value = Value(INT64, length=8, data=ctypes.addressof(wid), null=ctypes.addressof(null))
-        self.do('SELECT wid FROM stock WHERE item = %s' % key[1:], Row(version=1, room=1, count=1, value=value))
+        try:
+            self.do('SELECT wid FROM stock WHERE item = %s' % key[1:], Row(version=1, room=1, count=1, value=value))
+        except Missing:
+            # at table stability a row may be gone for the rest of the transaction
+            return None
         return wid.value
 
     def write(self, key, text):
