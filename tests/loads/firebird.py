@@ -60,18 +60,23 @@ class Store(clients.Store):
     def begin(self):
         self.do('SET TRANSACTION READ WRITE %s ISOLATION LEVEL %s %s' % (self.wait, self.level, self.more))
 
-    def read(self, key):
-        wid, null = ctypes.c_int64(0), ctypes.c_short(0)
-        value = Value(INT64, length=8, data=ctypes.addressof(wid), null=ctypes.addressof(null))
+    def found(self, statement, *values):
+        """The number that a statement gives back; None where it finds no row."""
+        number, null = ctypes.c_int64(0), ctypes.c_short(0)
+        value = Value(INT64, length=8, data=ctypes.addressof(number), null=ctypes.addressof(null))
         try:
-            self.do('SELECT wid FROM stock WHERE item = %s' % key[1:], Row(version=1, room=1, count=1, value=value))
+            self.do(statement % values, Row(version=1, room=1, count=1, value=value))
         except Missing:
             # at table stability a row may be gone for the rest of the transaction
             return None
-        return wid.value
+        return number.value
+
+    def read(self, key):
+        return self.found('SELECT wid FROM stock WHERE item = %s', key[1:])
 
     def write(self, key, text):
-        self.do('UPDATE stock SET wid = %s WHERE item = %s' % (text.split()[0], key[1:]))
+        if self.found('UPDATE stock SET wid = %s WHERE item = %s RETURNING wid', text.split()[0], key[1:]) is None:
+            raise RolledBack
 
     def commit(self):
         call('isc_commit_transaction', ctypes.byref(self.transaction))
