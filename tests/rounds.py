@@ -258,7 +258,7 @@ def faults(checks, seed):
                 last = said[:said.find('not ' + level)].count('\n') + 1
                 checks.expect(status == 1 and last == place, '%s in round %d at %s: status %d at %d: %s%s' % (kind, place, level, status, last, said, error))
                 older = 'which was written in round' in said or 'A1' not in said
-                checks.expect('shown by' in said and re.search(r'[0-9]+[.][0-9]+ [(]Thread-', said) and older and open(on).read().strip() == os.path.join(folder, '%06d.log' % place), '%s: it is told why' % kind)
+                checks.expect('shown by' in said and re.search(r'[0-9] [(]Thread-|^transactions 65535[^,]*$', said, re.M) and older and open(on).read().strip() == os.path.join(folder, '%06d.log' % place), '%s: it is told why' % kind)
 
 
 def small(checks, name, store=None, **words):

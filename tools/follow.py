@@ -281,7 +281,7 @@ class Follower:
         for line in ran.stdout.decode().splitlines():
             self.say(told.labelled(line, labels))
         for it in itertools.islice(self.run.older(number, path), 3):
-            self.say(it)
+            self.say(told.labelled(it, labels))
         self.on_fault(path)
         raise Stop('%s does not keep the level: it stays, and so do the rounds beside it' % path, NOT_SERIALIZABLE)
 
