@@ -1093,7 +1093,7 @@ public final class Recorder implements AutoCloseable {
         /** The same; the label says on a line what it is for, beside the log in a file of its own. */
         public Transaction begin(String label) {
             if (label != null && !LABEL.matcher(label).matches())
-                throw new Misuse("a label is printable and on one line, and not '%s'", label);
+                throw new Misuse("a label is a printable text on one line, and not '%s'", label);
             for (;;) {
                 Act act;
                 synchronized (Recorder.this) {

@@ -1147,7 +1147,7 @@ type Session struct {
 func (session *Session) Begin(label ...string) *Transaction {
 	run, its := session.run, strings.Join(label, "")
 	if len(label) > 1 || len(label) == 1 && !isLabel(its) {
-		misuse("a label is printable and on one line, and a transaction has one at most, and not %q", label)
+		misuse("a label is a printable text on one line, and a transaction has one at most, and not %q", label)
 	}
 	run.turn.Lock()
 	defer run.turn.Unlock()

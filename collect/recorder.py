@@ -752,8 +752,8 @@ class Session:
         """Begins a transaction: before its first statement is sent. Where `commit` is given, leaving its block calls it, and where it gives
         back False the transaction was aborted; without it the block itself commits in the store, as its last statement. `label` says on a
         line what it is for, beside the log in a file of its own."""
-        if label is not None and not (label.strip() and label.isprintable()):
-            raise Misuse('a label is printable and on one line, and not %r' % (label,))
+        if label is not None and not (isinstance(label, str) and label.strip() and label.isprintable()):
+            raise Misuse('a label is a printable text on one line, and not %r' % (label,))
         return Transaction(self, commit, label)
 
     def close(self):

@@ -747,7 +747,7 @@ def labels(checks):
                     txn.write('x')
                 with session.transaction() as txn:
                     txn.read('x', None)
-                for wrong in ('', ' ', 'a\nb', '\x1b[1m'):
+                for wrong in ('', ' ', 'a\nb', '\x1b[1m', 7, b'x'):
                     try:
                         session.transaction(label=wrong)
                     except Misuse:
