@@ -150,10 +150,10 @@ class _Part:
 
 
 class _Unknown:
-    """A transaction of unknown outcome, in rounds: its name, the round in which it began, its lines but for the last, and its keys."""
+    """A transaction of unknown outcome, in rounds: its name, the round in which it began, its lines but for the last, its label and its keys."""
 
-    def __init__(self, name, round, begin, lines, keys):
-        self.name, self.round, self.begin, self.lines, self.keys = name, round, begin, lines, keys
+    def __init__(self, name, round, begin, lines, label, keys):
+        self.name, self.round, self.begin, self.lines, self.label, self.keys = name, round, begin, lines, label, keys
 
     def text(self, session, fence, is_carried):
         """Its lines in a session of its own, where it has read the fence first; behind the round in which it began its writes alone."""
@@ -163,12 +163,13 @@ class _Unknown:
 
 class _Round:
     """What is known of a round: whether clients may begin and whether they have to end it, the keeper's fence, the keys that were written
-    in it and the names that were read, who has come into it under which numbers, the fences that its clients left, and what ended unknown."""
+    in it and the names that were read, who has come into it under which numbers, the fences that its clients left, labels, and what ended
+    unknown."""
 
     def __init__(self, number):
         self.number, self.is_open, self.is_due, self.ended, self.committed = number, False, False, 0, 0
         self.fence, self.keeper, self.keys, self.seen, self.come, self.fences, self.unknown = None, [], {}, set(), {}, {}, []
-        self.numbers = set()
+        self.numbers, self.labels = set(), []
 
     def line(self):
         return 'r %s %d\n' % self.fence
@@ -176,15 +177,16 @@ class _Round:
     def told(self):
         """What the keeper must know of it, where it is another process."""
         return dict(keys=self.keys, seen=sorted(self.seen), fences=self.fences, numbers=sorted(self.numbers), committed=self.committed,
-                    unknown=[vars(it) for it in self.unknown])
+                    labels=self.labels, unknown=[vars(it) for it in self.unknown])
 
-    def add(self, keys, seen, fences, numbers, committed, unknown):
+    def add(self, keys, seen, fences, numbers, committed, labels, unknown):
         """Takes what another process told."""
         self.keys.update(keys)
         self.seen.update(seen)
         self.fences.update(fences)
         self.numbers.update(numbers)
         self.committed += committed
+        self.labels += map(tuple, labels)
         self.unknown += [_Unknown(**it) for it in unknown]
 
 
@@ -400,11 +402,16 @@ class Recorder:
         self._check_free_path('; this run is in ' + new)
         os.replace(new, self.path)
         if self._labels:
-            with open(self.path + '.labels', 'w', encoding='utf-8', newline='\n') as out:
-                out.writelines(self._labels)
+            self._write_labels(self.path, self._labels)
         elif self._may_replace and os.path.exists(self.path + '.labels'):
             os.remove(self.path + '.labels')  # of the log that stood there
         shutil.rmtree(self._folder, ignore_errors=True)
+
+    @staticmethod
+    def _write_labels(path, labels):
+        """Labels, pairs of a transaction's name and its text, beside a log."""
+        with open(path + '.labels', 'w', encoding='utf-8', newline='\n') as out:
+            out.writelines('%s %s\n' % (name.replace('.', ' '), label) for name, label in labels)
 
     def _worth_little(self):
         counts = self._counts
@@ -497,6 +504,7 @@ class Recorder:
             self._end_in_round(txn)
         else:
             part.lines += txn._lines + [self._line_of_end(outcome)]
+            self._labels += [(txn.name, txn.label)] if txn.label is not None else []
         self._counts[outcome] += 1
         if outcome == 'commit':
             self._counts['reads'] += len(txn._reads)
@@ -512,7 +520,7 @@ class Recorder:
         os.makedirs(self.path, exist_ok=True)
         self._company = _Company(self.path, self._share, self._patience * PATIENCE)
         for name in os.listdir(self.path) if self._share[0] == 1 else ():
-            if re.fullmatch(r'[0-9]{6,}\.(log|part)|end', name):
+            if re.fullmatch(r'[0-9]{6,}\.(log(\.labels)?|part)|end', name):
                 its = os.path.join(self.path, name)
                 shutil.rmtree(its) if os.path.isdir(its) else os.remove(its)
         self._company.take()
@@ -773,12 +781,13 @@ class Recorder:
         if txn.outcome == 'unknown':
             # it stands in a session of its own, and its client goes on in the old one
             name, (begin, *lines) = '%06d: %s' % (round.number, txn.name), txn._lines
-            round.unknown.append(_Unknown(name, round.number, begin, lines, dict(txn._written.values())))
+            round.unknown.append(_Unknown(name, round.number, begin, lines, txn.label, dict(txn._written.values())))
             txn.session._place -= 1
             if self._durable:
                 self._keep_unknown(round, round.unknown[-1], False)
         else:
             part.lines += txn._lines + [self._line_of_end(txn.outcome)]
+            round.labels += [(txn.name, txn.label)] if txn.label is not None else []
         if txn.outcome == 'commit':
             round.seen |= txn._looked
             round.committed += 1
@@ -850,9 +859,13 @@ class Recorder:
                     with open(path, 'rb') as file:
                         shutil.copyfileobj(file, log)
                 numbers = (number for number in itertools.count(1) if number not in round.numbers)
-                for it in taken:
-                    log.write(it.text(next(numbers), round.line(), it.round < round.number).encode('ascii'))
-            os.replace(new, os.path.join(self.path, '%06d.log' % round.number))
+                for number, it in zip(numbers, taken):
+                    log.write(it.text(number, round.line(), it.round < round.number).encode('ascii'))
+                    round.labels += [('%d.1' % number, it.label)] if it.label is not None else []
+            path = os.path.join(self.path, '%06d.log' % round.number)
+            if round.labels:
+                self._write_labels(path, round.labels)
+            os.replace(new, path)
             self._last_round = round.number
         self._held.update(reads)
         # a client that idles knows the round that it left, which must not know those who go on
@@ -903,14 +916,10 @@ class Session:
     def transaction(self, commit=None, label=None):
         """Begins a transaction: before its first statement is sent. Where `commit` is given, leaving its block calls it, and where it gives
         back False the transaction was aborted; without it the block itself commits in the store, as its last statement. `label` says on a
-        line what it is for: PATH.labels has that, but for a log in rounds."""
-        if label is not None and not (label.strip() and label.isprintable()):
-            raise Misuse('a label is printable and on one line, and not %r' % (label,))
-        txn = Transaction(self, commit)
-        if label is not None and not self._run._rounds:
-            with self._run._turn:
-                self._run._labels.append('%s %s\n' % (txn.name.replace('.', ' '), label))
-        return txn
+        line what it is for, beside the log in a file of its own."""
+        if label is not None and not (isinstance(label, str) and label.strip() and label.isprintable()):
+            raise Misuse('a label is a printable text on one line, and not %r' % (label,))
+        return Transaction(self, commit, label)
 
     def close(self):
         """Leaves; a transaction that is open ends as unknown."""
@@ -956,8 +965,8 @@ class Transaction:
     Leaving its block ends it: without an exception as committed, with one that the recorder's harness named as that says, and it goes no
     further, with any other one as unknown. Where the session has a `commit` that was not called yet, a named exception says abort."""
 
-    def __init__(self, session, commit):
-        self.session, self.name, self.outcome, self._commit = session, None, None, commit
+    def __init__(self, session, commit, label):
+        self.session, self.name, self.outcome, self.label, self._commit = session, None, None, label, commit
         self._lines, self._written, self._reads, self._looked, self._is_cut_off = [], {}, {}, set(), False
         self._run = session._run
         self._run._enter(self)

@@ -3,15 +3,16 @@
 
 Runs of some twenty rounds, of a sound store and of broken ones, with commits that are lost, take effect rounds later, or never, clients that
 die, leave and come back: each round must be one, as follow.py checks it, and at each level they are all kept exactly if the run as one log
-is, which is made of them here; those of the sound store are kept. Then faults that are put into one round, at the seam before it and in
-it: that round and no other is refused for each. Fences that are shown late, a client that hangs, outcomes that nobody learns; several processes
-that write rounds together, of which one leaves, dies or does not come; and what follow.py refuses, removes and keeps. Last line: 'rounds: N passed, M failed'."""
+is, which is made of them here; those of the sound store are kept. Labels stand beside each round, each at its transaction. Then faults
+that are put into one round, at the seam before it and in it: that round and no other is refused for each. Fences that are shown late, a
+client that hangs, outcomes that nobody learns; several processes that write rounds together, of which one leaves, dies or does not come; and
+what follow.py refuses, removes and keeps. Last line: 'rounds: N passed, M failed'."""
 import argparse, concurrent.futures, contextlib, gc, importlib.util, io, os, random, re, shutil, signal, subprocess, sys, tempfile, threading, time
 
 HERE = os.path.dirname(os.path.abspath(__file__))
 TOP = os.path.dirname(HERE)
 sys.path[:0] = [os.path.join(TOP, 'collect'), os.path.join(TOP, 'tools'), HERE]
-import clients, generate, recorder, reference, sqlite
+import clients, generate, recorder, reference, scripts, sqlite
 from recorder import Misuse, Recorder
 
 spec = importlib.util.spec_from_file_location('stores_of_recorder', os.path.join(HERE, 'recorder.py'))
@@ -74,13 +75,22 @@ def transact_by(connection):
 
 
 class Client(stores.Client):
-    def __init__(self, run, connection, seed, way, turns):
+    def __init__(self, run, connection, seed, way, turns, labelled=None):
         super().__init__(run, connection, seed, way)
-        self.turns = turns
+        self.turns, self.labelled = turns, {} if labelled is None else labelled
+
+    def label(self, session):
+        """Gives each transaction of a session a label, by which it is found."""
+        def transaction(commit=None, begin=session.transaction):
+            label = '%s, transaction %d' % (threading.current_thread().name, len(self.labelled))
+            self.labelled[label] = begin(commit, label)
+            return self.labelled[label]
+        session.transaction = transaction
 
     def work(self):
         while self.turns:
             with contextlib.suppress(Died), self.run.session(transact_by(self.connection)) as self.session:
+                self.label(self.session)
                 for _ in range(self.dice.randint(1, 60)):
                     if self.turns:
                         self.turns.pop()
@@ -100,8 +110,8 @@ def quiet():
     return contextlib.redirect_stderr(io.StringIO())
 
 
-def made(folder, seed, kind=stores.Connection, count=EVERY * (ROUNDS + 4), hook=None, **given):
-    """The warnings of a run, whose rounds are in the folder."""
+def made(folder, seed, kind=stores.Connection, count=EVERY * (ROUNDS + 4), hook=None, labelled=None, **given):
+    """The warnings of a run, whose rounds are in the folder; `labelled` gets its transactions, each by its label."""
     shutil.rmtree(folder, ignore_errors=True)
     dice = random.Random(seed)
     way, store = Way(dice, **given), stores.Store(random.Random(seed))
@@ -110,7 +120,7 @@ def made(folder, seed, kind=stores.Connection, count=EVERY * (ROUNDS + 4), hook=
         keeper = hook(store, keeper)
     run = Recorder(folder, way.moments, aborted=Aborted, unknown=(Lost,), rounds=EVERY, transact=keeper, patience=5)
     turns = [None] * count
-    threads = [threading.Thread(target=Client(run, kind(store, n), dice.random(), way, turns).work) for n in range(way.clients)]
+    threads = [threading.Thread(target=Client(run, kind(store, n), dice.random(), way, turns, labelled).work) for n in range(way.clients)]
     for thread in threads:
         thread.start()
     for thread in threads:
@@ -160,6 +170,22 @@ class Checks:
         return ran.returncode, ran.stdout, ran.stderr
 
 
+def labels(checks, path, labelled):
+    """Each transaction of a round has its label, but for those of its keeper and of fences; one that is carried has its writes alone."""
+    found, strange = scripts.labels_of(path, is_needed=True), []
+    with open(path, 'rb') as log:
+        sessions = reference.read_log(log.read())
+    for session, its in sessions:
+        for place, txn in enumerate(its, 1):
+            is_fence = session == recorder.KEEPER or len(txn.ops) == 1 and str(txn.ops[0][1]).startswith('fence/')
+            label = found.pop('%d.%d' % (session, place), None)
+            wrote = [op[2] for op in txn.ops if op[0] == 'w']
+            wanted = label and [int(line.split()[2]) for line in labelled[label]._lines if line[0] == 'w']
+            if wanted != (None if is_fence else wrote):
+                strange.append((session, place, label))
+    checks.expect(not found and not strange, '%s: labels of nothing %s, strange ones %s' % (path, found, strange[:3]))
+
+
 def beside(checks, runs, seed):
     """Rounds and the run that they are have one verdict at each level, and those of the sound store are kept."""
     met = {}
@@ -167,8 +193,11 @@ def beside(checks, runs, seed):
         for n in range(runs):
             name = list(STORES)[n % len(STORES)]
             folder = checks.path('run')
-            told = made(folder, seed + n, STORES[name])
+            labelled = {}
+            told = made(folder, seed + n, STORES[name], labelled=labelled)
             paths = logs_of(folder)
+            for path in paths:
+                labels(checks, path, labelled)
             texts = [open(path, 'rb').read() for path in paths] + [run_of(paths)]
             for level in LEVELS:
                 *rounds, whole = pool.map(lambda text: checks.audit(level, text), texts)
@@ -230,7 +259,7 @@ def faults(checks, seed):
                 last = said[:said.find('not ' + level)].count('\n') + 1
                 checks.expect(status == 1 and last == place, '%s in round %d at %s: status %d at %d: %s%s' % (kind, place, level, status, last, said, error))
                 older = 'which was written in round' in said or 'A1' not in said
-                checks.expect('shown by' in said and older and open(on).read().strip() == os.path.join(folder, '%06d.log' % place), '%s: it is told why' % kind)
+                checks.expect('shown by' in said and re.search(r'[0-9] [(]Thread-|^transactions 65535[^,]*$', said, re.M) and older and open(on).read().strip() == os.path.join(folder, '%06d.log' % place), '%s: it is told why' % kind)
 
 
 def small(checks, name, store=None, **words):
@@ -509,7 +538,7 @@ def followed(checks):
     found, said, error = checks.follow(copy, '--workers', '3', '--', '--at-least', '1000')
     checks.expect(found == 3 and said.count(' unknown: ') == len(names) and 'not decided' in error, 'unknown rounds: %d %s' % (found, error))
     found, said, error = checks.follow(copy, '--forget')
-    checks.expect(found == 0 and sorted(os.listdir(copy)) == [names[-1], 'end'], 'what is forgotten: %s' % os.listdir(copy))
+    checks.expect(found == 0 and sorted(os.listdir(copy)) == [names[-1], names[-1] + '.labels', 'end'], 'what is forgotten: %s' % os.listdir(copy))
     found, said, error = checks.follow(copy)
     checks.expect(found == 70 and 'the first round here' in error, 'a folder without its first rounds: %d %s' % (found, error))
     shutil.rmtree(copy)

@@ -10,7 +10,7 @@ an earlier round began.
 It ends when the run has ended (its recorder writes DIR/end) or died, or with --once when the rounds that are there are judged. Statuses: 0, each
 round keeps the level; 1, one does not; 2, one is refused, or is no round of this run; 3, some are unknown; 70, something around is wrong."""
 import argparse, array, bisect, collections, concurrent.futures, contextlib, itertools, json, os, re, subprocess, sys, time
-import scripts
+import scripts, told
 from scripts import AROUND, NOT_SERIALIZABLE, REFUSED, UNKNOWN, Stop
 
 sys.path.insert(0, os.path.join(os.path.dirname(os.path.dirname(os.path.realpath(__file__))), 'collect'))
@@ -284,15 +284,18 @@ class Follower:
         # the one before it is beside no fault any more
         if self.given.forget and verdict == self.last == 'kept':
             os.remove(self.path(number - 1))
+            with contextlib.suppress(FileNotFoundError):
+                os.remove(self.path(number - 1) + '.labels')
         self.last = verdict
         self.show(waiting)
 
     def fault(self, number, path):
         words = [self.given.program, 'audit', '--level', self.given.level, '--explain', *self.given.words, path]
-        sys.stdout.flush()
-        subprocess.run(words, stdin=subprocess.DEVNULL)
+        ran, labels = subprocess.run(words, stdin=subprocess.DEVNULL, stdout=subprocess.PIPE), scripts.labels_of(path)
+        for line in ran.stdout.decode().splitlines():
+            self.say(told.labelled(line, labels))
         for it in itertools.islice(self.run.older(number, path), 3):
-            self.say(it)
+            self.say(told.labelled(it, labels))
         self.on_fault(path)
         raise Stop('%s does not keep the level: it stays, and so do the rounds beside it' % path, NOT_SERIALIZABLE)
 
