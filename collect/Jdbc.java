@@ -82,6 +82,11 @@ public final class Jdbc implements AutoCloseable {
 
     /** Makes a transaction and gives its outcome. An exception that is not to be expected goes on; the log has the transaction then too. */
     public String transaction(Body body) throws SQLException {
+        return transaction(null, body);
+    }
+
+    /** The same; the label says on a line what it is for, beside the log in a file of its own. */
+    public String transaction(String label, Body body) throws SQLException {
         if (connection == null) {
             Connection its = connecting.connect();
             its.setAutoCommit(false);
@@ -89,7 +94,7 @@ public final class Jdbc implements AutoCloseable {
             watched = (Connection) watched(its, Connection.class);
         }
         failed = false;
-        Recorder.Transaction txn = session.begin();
+        Recorder.Transaction txn = session.begin(label);
         try {
             body.run(watched, txn);
             // a driver may say nothing of a commit on a connection that is gone

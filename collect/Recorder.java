@@ -45,7 +45,8 @@ public final class Recorder implements AutoCloseable {
     private static final int CARRIED = 10;
     /** What the store did not do at once is asked for again after so many milliseconds, and for so many times a client's patience. */
     private static final long AGAIN = 20, PATIENCE = 30;
-    private static final Pattern ROUND_FILE = Pattern.compile("[0-9]{6,}\\.(?:log|part)|end");
+    private static final Pattern ROUND_FILE = Pattern.compile("[0-9]{6,}\\.(?:log|log\\.labels|part)|1\\.lock|end");
+    private static final Pattern LABEL = Pattern.compile("(?! *$)[ [^\\p{C}\\p{Cn}\\p{Z}]]+");
     private static final Pattern PLAIN_KEY = Pattern.compile("(?!hex:|sha:)[A-Za-z0-9_.:/-]{1,64}");
     private static final Pattern FIRST_WORD = Pattern.compile("([0-9]+)(?: (?s:.*))?");
 
@@ -219,7 +220,7 @@ public final class Recorder implements AutoCloseable {
     private final Deque<Part> idle = new ArrayDeque<>();
     private final Set<Transaction> open = new LinkedHashSet<>();
     private final Map<String, Integer> counts = new HashMap<>();
-    private final List<String> leftOpen = new ArrayList<>();
+    private final List<String> leftOpen = new ArrayList<>(), labels = new ArrayList<>();
     private long last;
     private int number;
     private String strange;
@@ -319,7 +320,24 @@ public final class Recorder implements AutoCloseable {
         }
         checkFreePath("; this run is in " + joined);
         Files.move(joined, path, StandardCopyOption.REPLACE_EXISTING, StandardCopyOption.ATOMIC_MOVE);
+        if (options.overwrite)
+            Files.deleteIfExists(labelsOf(path)); // of the log that stood there
+        writeLabels(path, labels);
         delete(folder);
+    }
+
+    private static Path labelsOf(Path log) {
+        return log.resolveSibling(log.getFileName() + ".labels");
+    }
+
+    private static void writeLabels(Path log, List<String> labels) throws IOException {
+        if (!labels.isEmpty())
+            Files.write(labelsOf(log), String.join("", labels).getBytes(StandardCharsets.UTF_8));
+    }
+
+    private static void addLabel(List<String> labels, String name, String label) {
+        if (label != null)
+            labels.add(name.replace('.', ' ') + " " + label + "\n");
     }
 
     private static void delete(Path its) throws IOException {
@@ -430,15 +448,16 @@ public final class Recorder implements AutoCloseable {
         void run(Session session);
     }
 
-    /** A transaction of unknown outcome: its name, the round in which it began, its lines but for the last, and its keys. */
+    /** A transaction of unknown outcome: its name, its label, the round in which it began, its lines but for the last, and its keys. */
     private static final class Unlearnt {
-        final String name, begin;
+        final String name, label, begin;
         final int round;
         final List<String> lines;
         final Map<String, byte[]> keys;
 
         Unlearnt(Transaction txn, int round) {
             name = String.format("%06d: %s", round, txn.name);
+            label = txn.label;
             this.round = round;
             begin = txn.lines.get(0);
             lines = new ArrayList<>(txn.lines.subList(1, txn.lines.size()));
@@ -456,7 +475,7 @@ public final class Recorder implements AutoCloseable {
     }
 
     /** What is known of a round: whether clients may begin and whether they have to end it, the keeper's fence, the keys that were written in it and
-     * the names that were read, who has come into it, the fences that its clients left, and what ended unknown. */
+     * the names that were read, who has come into it, the fences that its clients left, labels, and what ended unknown. */
     private static final class Round {
         final int number;
         boolean isOpen, isDue;
@@ -464,6 +483,7 @@ public final class Recorder implements AutoCloseable {
         String fence;
         long identity;
         List<String> keeper;
+        final List<String> labels = new ArrayList<>();
         final Map<String, byte[]> keys = new HashMap<>();
         final Set<String> seen = new HashSet<>();
         final Map<Session, Part> come = new LinkedHashMap<>();
@@ -801,7 +821,8 @@ public final class Recorder implements AutoCloseable {
                 } catch (IOException fault) {
                     // the log of the round has it all the same
                 }
-        }
+        } else
+            addLabel(its.labels, txn.name, txn.label);
         if (txn.outcome.equals("commit")) {
             its.committed++;
             its.seen.addAll(txn.looked);
@@ -934,14 +955,19 @@ public final class Recorder implements AutoCloseable {
                             next++;
                         while (its.numbers.contains(next));
                         out.write(it.text(next, its.line(), it.round < its.number).getBytes(StandardCharsets.US_ASCII));
+                        addLabel(its.labels, next + ".1", it.label);
                     }
             }
-            Files.move(made, path.resolve(String.format("%06d.log", its.number)), StandardCopyOption.ATOMIC_MOVE);
+            Path log = path.resolve(String.format("%06d.log", its.number));
+            writeLabels(log, its.labels);
+            Files.move(made, log, StandardCopyOption.ATOMIC_MOVE);
             lastRound = its.number;
         }
         held.putAll(reads);
         delete(at);
         synchronized (this) {
+            // a client that idles knows the round that it left, which must not know those who go on
+            its.come.clear();
             if (options.durable && round != its)
                 for (Unlearnt it : carried)
                     keepUnknown(round, it, true);
@@ -1063,13 +1089,20 @@ public final class Recorder implements AutoCloseable {
 
         /** Begins a transaction: before its first statement is sent. */
         public Transaction begin() {
+            return begin(null);
+        }
+
+        /** The same; the label says on a line what it is for, beside the log in a file of its own. */
+        public Transaction begin(String label) {
+            if (label != null && !LABEL.matcher(label).matches())
+                throw new Misuse("a label is a printable text on one line, and not '%s'", label);
             for (;;) {
                 Act act;
                 synchronized (Recorder.this) {
                     checkFree();
                     act = options.rounds > 0 ? nextAct(this) : null;
                     if (act == null)
-                        return begun();
+                        return begun(label);
                 }
                 act.run(this);
             }
@@ -1083,7 +1116,7 @@ public final class Recorder implements AutoCloseable {
                 throw new Misuse("%s is still open: end it first; clients that run at once have a session each", txn.name);
         }
 
-        private Transaction begun() {
+        private Transaction begun(String label) {
             List<String> lines = new ArrayList<>();
             if (number == 0) {
                 number = nextNumber();
@@ -1093,7 +1126,7 @@ public final class Recorder implements AutoCloseable {
             place++;
             lines.add(lineOfBegin());
             add("overlaps", open.isEmpty() ? 0 : 1);
-            txn = new Transaction(this, number + "." + place, lines);
+            txn = new Transaction(this, number + "." + place, label, lines);
             open.add(txn);
             return txn;
         }
@@ -1127,7 +1160,7 @@ public final class Recorder implements AutoCloseable {
     /** What one transaction did. */
     public final class Transaction {
         private final Session session;
-        private final String name;
+        private final String name, label;
         private final List<String> lines;
         private final Map<Long, String> written = new HashMap<>();
         private final Map<String, Long> reads = new HashMap<>();
@@ -1139,9 +1172,10 @@ public final class Recorder implements AutoCloseable {
         private boolean isCutOff;
         private Unlearnt unlearnt;
 
-        private Transaction(Session session, String name, List<String> lines) {
+        private Transaction(Session session, String name, String label, List<String> lines) {
             this.session = session;
             this.name = name;
+            this.label = label;
             this.lines = lines;
         }
 
@@ -1157,10 +1191,14 @@ public final class Recorder implements AutoCloseable {
 
         /** It read the key, and saw the write of this identity: 0 where there was nothing. */
         public void read(String key, long wid) {
-            read(bytes(key), wid, 0);
+            read(key, wid, 0);
         }
 
         /** The same, for a statement that reads and writes at once: it has read before its write of the identity `before`, where that is not 0. */
+        public void read(String key, long wid, long before) {
+            read(bytes(key), wid, before);
+        }
+
         public void read(byte[] key, long wid, long before) {
             String its = Recorder.name(key);
             synchronized (Recorder.this) {
@@ -1251,6 +1289,8 @@ public final class Recorder implements AutoCloseable {
             }
             if (options.rounds > 0)
                 endInRound(this);
+            else
+                addLabel(labels, name, label);
             add(its, 1);
             if (its.equals("commit")) {
                 add("reads", reads.size());

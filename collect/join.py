@@ -4,8 +4,9 @@
 It refuses what does not fit together: logs of different versions, a session that stands twice, an identity that was written twice, a log
 that is not complete. With --died such logs are taken, as killed runs leave them, and the folders of recorders that were not closed: what
 cannot be read is left out, a transaction without an end is unknown, and an identity that was read and that no log has is written by a new
-transaction of unknown outcome. With --slack D each transaction begins D microseconds earlier and ends D later than its log says: where no
-clock was wrong by more than D, the log then claims no order that did not hold. docs/COLLECTING.md says what a clock's error does.
+transaction of unknown outcome. Labels that stand beside logs are joined too. With --slack D each transaction begins D microseconds earlier
+and ends D later than its log says: where no clock was wrong by more than D, the log then claims no order that did not hold.
+docs/COLLECTING.md says what a clock's error does.
 
 Statuses: 0, the log was written; 65, the logs do not fit together; 70, a file cannot be read or written, or may not be replaced."""
 import argparse, os, re, sys, tempfile
@@ -34,7 +35,7 @@ def parts_of(path):
     """The files of a log: those of its clients, where it is the folder of a recorder."""
     if not os.path.isdir(path):
         return [path]
-    names = sorted(name for name in os.listdir(path) if re.fullmatch('[0-9]+|unknown', name))
+    names = sorted(name for name in os.listdir(path) if re.fullmatch(r'[0-9.]+|unknown(\.[0-9]+)?', name))
     if not names:
         raise Stop('%s: it has no files of a recorder' % path)
     return [os.path.join(path, name) for name in names]
@@ -211,7 +212,21 @@ def joined(arguments):
         except BaseException:
             os.remove(out.name)
             raise
+    join_labels([path + '.labels' for path in arguments.logs], arguments.out + '.labels')
     return whole.doubts()
+
+
+def join_labels(paths, out):
+    """Writes what stands in these files, where they are there, to one; what stood there is of another log."""
+    lines = []
+    for path in filter(os.path.exists, paths):
+        with open(path, 'rb') as file:
+            lines += [line.rstrip(b'\n') + b'\n' for line in file]
+    if lines:
+        with open(out, 'wb') as file:
+            file.writelines(lines)
+    elif os.path.exists(out):
+        os.remove(out)
 
 
 def microseconds(text):

@@ -4,7 +4,7 @@
 It needs PyMySQL. It makes a table of its own, of InnoDB's, and drops it in the end. Only at the level serializable does the store promise to
 be that. At repeatable-read it promises snapshot isolation where `--snapshot-isolation on` sets innodb_snapshot_isolation, and without that
 not even that no update is lost. docs/COLLECTING.md says how a log is collected."""
-import contextlib, os, socket
+import contextlib, os, random, socket
 import clients
 try:
     import pymysql as driver
@@ -30,7 +30,7 @@ class Store(clients.Store):
     def __init__(self, arguments):
         # BEGIN and COMMIT are ours alone
         self.connection = driver.connect(autocommit=True, **arguments.address)
-        self.cursor, self.table = self.connection.cursor(), arguments.run
+        self.cursor, self.table, self.ways = self.connection.cursor(), arguments.run, ('', ' FOR UPDATE')[:1 + arguments.for_update]
         # PyMySQL has no other name for its socket
         self.wire = socket.socket(fileno=os.dup(self.connection._sock.fileno()))
         self.cursor.execute('SET SESSION TRANSACTION ISOLATION LEVEL ' + self.level)
@@ -49,7 +49,7 @@ class Store(clients.Store):
         self.do('BEGIN')
 
     def read(self, key):
-        self.do('SELECT value FROM TABLE WHERE name = %s', key)
+        self.do('SELECT value FROM TABLE WHERE name = %s' + random.choice(self.ways), key)
         row = self.cursor.fetchone()
         return row and row[0]
 
@@ -117,5 +117,6 @@ if __name__ == '__main__':
     levels = {'serializable': Store, 'repeatable-read': RepeatableRead, 'read-committed': ReadCommitted,
               'read-uncommitted': ReadUncommitted}
     how = {'choices': ('on', 'off'), 'help': 'innodb_snapshot_isolation for these clients: what the server has'}
-    clients.main(__doc__, levels, options={'--snapshot-isolation': how},
+    lock = {'action': 'store_true', 'help': 'half of the reads lock their row'}
+    clients.main(__doc__, levels, options={'--snapshot-isolation': how, '--for-update': lock},
                  address="the database, in PyMySQL's words: 'unix_socket=/run/mysqld/mysqld.sock user=test database=test'")

@@ -30,6 +30,8 @@ import (
 	"strings"
 	"sync"
 	"time"
+	"unicode"
+	"unicode/utf8"
 )
 
 const (
@@ -140,7 +142,7 @@ type Recorder struct {
 	open             map[*Transaction]bool
 	counts           map[string]int
 	strange          string
-	leftOpen         []string
+	leftOpen, labels []string
 	warnings         []string
 	closed, isShared bool
 	// Of rounds: the one that goes on; what keys hold behind the last closing; transactions of unknown outcome that nobody read yet; by how
@@ -295,7 +297,23 @@ func (run *Recorder) join() error {
 	if err = os.Rename(joined, run.path); err != nil {
 		return err
 	}
+	if len(run.labels) > 0 {
+		err = writeLabels(run.path, run.labels)
+	} else if run.options.Overwrite {
+		_ = os.Remove(run.path + ".labels") // of the log that stood there
+	}
+	if err != nil {
+		return err
+	}
 	return os.RemoveAll(run.folder)
+}
+
+func writeLabels(path string, labels []string) error {
+	return os.WriteFile(path+".labels", []byte(strings.Join(labels, "")), 0o666)
+}
+
+func lineOfLabel(name, label string) string {
+	return fmt.Sprintf("%s %s\n", strings.Replace(name, ".", " ", 1), label)
 }
 
 func (its *part) copyTo(out io.Writer) error {
@@ -434,6 +452,8 @@ func (run *Recorder) end(txn *Transaction, outcome string) {
 	}
 	if run.options.Rounds > 0 {
 		run.endInRound(txn)
+	} else if txn.label != "" {
+		run.labels = append(run.labels, lineOfLabel(txn.Name, txn.label))
 	}
 	run.counts[outcome]++
 	if outcome == "commit" {
@@ -500,12 +520,12 @@ func (run *Recorder) cutOff(txn *Transaction) {
 // What follows is of rounds, and is called with the lock held too. The keeper is a goroutine of its own, which opens and closes them; clients read
 // and write fences in theirs.
 
-// unlearnt is a transaction of unknown outcome: its name, the round in which it began, its lines but for the last, and its keys.
+// unlearnt is a transaction of unknown outcome: its name, its label, the round in which it began, its lines but for the last, and its keys.
 type unlearnt struct {
-	name, begin string
-	round       int
-	lines       []string
-	keys        map[string]string
+	name, label, begin string
+	round              int
+	lines              []string
+	keys               map[string]string
 }
 
 // text gives its lines in a session of its own, where it has read the fence first; behind the round in which it began its writes alone.
@@ -524,12 +544,12 @@ func (it *unlearnt) text(session int, line string, isCarried bool) string {
 }
 
 // round is what is known of a round: whether clients may begin and whether they have to end it, the keeper's fence, the keys that were written in it
-// and the names that were read, who has come into it, the fences that its clients left, and what ended unknown.
+// and the names that were read, who has come into it, the fences that its clients left, labels, and what ended unknown.
 type round struct {
 	number, ended, committed int
 	isOpen, isDue            bool
 	fence                    Write
-	keeper                   []string
+	keeper, labels           []string
 	keys                     map[string]string
 	seen                     map[string]bool
 	come                     map[*Session]*part
@@ -540,7 +560,7 @@ type round struct {
 
 func (its *round) line() string { return fmt.Sprintf("r %s %d\n", its.fence.Key, its.fence.Identity) }
 
-var roundFile = regexp.MustCompile(`\A(?:[0-9]{6,}\.(?:log|part)|end)\z`)
+var roundFile = regexp.MustCompile(`\A(?:[0-9]{6,}\.(?:log|log\.labels|part)|1\.lock|end)\z`)
 
 func (run *Recorder) beginRounds() error {
 	if run.options.Patience == 0 {
@@ -838,12 +858,14 @@ func (run *Recorder) endInRound(txn *Transaction) {
 	its := run.round
 	if txn.Outcome == "unknown" {
 		// it stands in a session of its own, and its client goes on in the old one
-		txn.unlearnt = &unlearnt{name: fmt.Sprintf("%06d: %s", its.number, txn.Name), begin: txn.lines[0], round: its.number, lines: txn.lines[1:], keys: txn.keys}
+		txn.unlearnt = &unlearnt{name: fmt.Sprintf("%06d: %s", its.number, txn.Name), label: txn.label, begin: txn.lines[0], round: its.number, lines: txn.lines[1:], keys: txn.keys}
 		its.unknown = append(its.unknown, txn.unlearnt)
 		txn.session.place--
 		if run.options.Durable {
 			_ = run.keepUnknown(its, txn.unlearnt, false)
 		}
+	} else if txn.label != "" {
+		its.labels = append(its.labels, lineOfLabel(txn.Name, txn.label))
 	}
 	if txn.Outcome == "commit" {
 		its.committed++
@@ -999,11 +1021,18 @@ func (run *Recorder) writeRound(its *round, folder string, paths []string, closi
 				for number++; its.numbers[number]; number++ {
 				}
 				behind += it.text(number, its.line(), it.round < its.number)
+				if it.label != "" {
+					its.labels = append(its.labels, fmt.Sprintf("%d 1 %s\n", number, it.label))
+				}
 			}
 		}
 		run.without(func() { err = writeLog(filepath.Join(folder, "log"), text, paths, behind) })
+		path := filepath.Join(run.path, fmt.Sprintf("%06d.log", its.number))
+		if err == nil && len(its.labels) > 0 {
+			err = writeLabels(path, its.labels)
+		}
 		if err == nil {
-			err = os.Rename(filepath.Join(folder, "log"), filepath.Join(run.path, fmt.Sprintf("%06d.log", its.number)))
+			err = os.Rename(filepath.Join(folder, "log"), path)
 		}
 		if err != nil {
 			return err
@@ -1013,6 +1042,8 @@ func (run *Recorder) writeRound(its *round, folder string, paths []string, closi
 	for name, wid := range reads {
 		run.held[name] = wid
 	}
+	// a client that idles knows the round that it left, which must not know those who go on
+	its.come = nil
 	for _, it := range run.carried {
 		if run.options.Durable && run.round != its && err == nil {
 			err = run.keepUnknown(run.round, it, true)
@@ -1113,16 +1144,20 @@ type Session struct {
 	place, firstWrite int
 }
 
-// Begin begins a transaction: before its first statement is sent.
-func (session *Session) Begin() *Transaction {
-	run := session.run
+// Begin begins a transaction: before its first statement is sent. A label, where one is given, says on a line what it is for, beside the log in a
+// file of its own.
+func (session *Session) Begin(label ...string) *Transaction {
+	run, its := session.run, strings.Join(label, "")
+	if len(label) > 1 || len(label) == 1 && !isLabel(its) {
+		misuse("a label is a printable text on one line, and a transaction has one at most, and not %q", label)
+	}
 	run.turn.Lock()
 	defer run.turn.Unlock()
 	session.checkFree()
 	if run.options.Rounds > 0 {
 		run.enter(session)
 	}
-	txn := &Transaction{session: session, run: run, written: map[uint64]string{}, reads: map[string]uint64{}, keys: map[string]string{}, looked: map[string]bool{}}
+	txn := &Transaction{session: session, run: run, label: its, written: map[uint64]string{}, reads: map[string]uint64{}, keys: map[string]string{}, looked: map[string]bool{}}
 	if session.Number == 0 {
 		session.Number, session.place = run.nextNumber(), 0
 		txn.lines = append(txn.lines, fmt.Sprintf("session %d\n", session.Number))
@@ -1136,6 +1171,11 @@ func (session *Session) Begin() *Transaction {
 	run.counts["begun"]++
 	txn.began, session.txn, run.open[txn] = run.counts["begun"], txn, true
 	return txn
+}
+
+func isLabel(text string) bool {
+	isOther := func(it rune) bool { return !unicode.IsPrint(it) }
+	return strings.Trim(text, " ") != "" && utf8.ValidString(text) && strings.IndexFunc(text, isOther) < 0
 }
 
 func (session *Session) checkFree() {
@@ -1176,6 +1216,7 @@ func (session *Session) Leave() {
 // or "unknown".
 type Transaction struct {
 	Name, Outcome string
+	label         string
 	session       *Session
 	run           *Recorder
 	lines         []string

@@ -11,7 +11,7 @@
 
 It gives out sessions, identities and, where that is asked for, moments. A run that does not end is written in rounds, each a log by itself.
 Nothing of it is proved; it needs Python's standard library alone, 3.8 or later."""
-import atexit, collections, hashlib, itertools, operator, os, re, shutil, sys, tempfile, threading, time
+import atexit, collections, hashlib, itertools, json, operator, os, re, shutil, sys, tempfile, threading, time
 
 # An identity is a count times CLIENTS plus its client's number: its last three digits are the client. Of N processes that write one log the
 # K-th has every N-th count and every N-th session, from K on.
@@ -38,6 +38,10 @@ class CutOff(Misuse):
 
 class Unseen(RuntimeError):
     """The store does not show what it said to be committed, so no round can begin or end."""
+
+
+class Gone(RuntimeError):
+    """Another process of the run died, gave up, or does not come, so no round can begin or end."""
 
 
 def name_of(key):
@@ -85,8 +89,24 @@ def clock_of_machine():
 def holds_something(path, rounds=None):
     """Whether a log, or a folder of rounds, that is written there would replace what somebody may need."""
     if rounds and os.path.isdir(path):
-        return bool(os.listdir(path))
+        return not all(name.endswith('.lock') for name in os.listdir(path))
     return os.path.exists(path) and (not os.path.isfile(path) or os.path.getsize(path) > 0)
+
+
+def is_held(path):
+    """Whether another process holds the lock of this file; so it may be, where no file has a lock."""
+    import fcntl
+    try:
+        file = os.open(path, os.O_RDONLY)
+    except FileNotFoundError:
+        return False
+    try:
+        fcntl.flock(file, fcntl.LOCK_SH | fcntl.LOCK_NB)
+    except OSError:
+        return True
+    finally:
+        os.close(file)
+    return False
 
 
 class _Part:
@@ -98,8 +118,9 @@ class _Part:
         self.move(folder)
 
     def move(self, folder):
-        """What comes goes to a file of this folder."""
-        self.path, self.size = os.path.join(folder, str(self.number)), 0
+        """What comes goes to a file of this folder, which several processes may share."""
+        name = str(self.number) if self._step == 1 else '%d.%d' % (self._first, self.number)
+        self.path, self.size = os.path.join(folder, name), 0
 
     def identity(self):
         self.writes += 1
@@ -129,11 +150,10 @@ class _Part:
 
 
 class _Unknown:
-    """A transaction of unknown outcome, in rounds: its name, the round in which it began, its lines but for the last, and its keys."""
+    """A transaction of unknown outcome, in rounds: its name, the round in which it began, its lines but for the last, its label and its keys."""
 
-    def __init__(self, txn, round):
-        self.name, self.round, self.begin, self.lines = '%06d: %s' % (round, txn.name), round, txn._lines[0], txn._lines[1:]
-        self.keys = {name: key for name, key in txn._written.values()}
+    def __init__(self, name, round, begin, lines, label, keys):
+        self.name, self.round, self.begin, self.lines, self.label, self.keys = name, round, begin, lines, label, keys
 
     def text(self, session, fence, is_carried):
         """Its lines in a session of its own, where it has read the fence first; behind the round in which it began its writes alone."""
@@ -143,26 +163,116 @@ class _Unknown:
 
 class _Round:
     """What is known of a round: whether clients may begin and whether they have to end it, the keeper's fence, the keys that were written
-    in it and the names that were read, who has come into it, the fences that its clients left, and what ended unknown."""
+    in it and the names that were read, who has come into it under which numbers, the fences that its clients left, labels, and what ended
+    unknown."""
 
     def __init__(self, number):
         self.number, self.is_open, self.is_due, self.ended, self.committed = number, False, False, 0, 0
         self.fence, self.keeper, self.keys, self.seen, self.come, self.fences, self.unknown = None, [], {}, set(), {}, {}, []
+        self.numbers, self.labels = set(), []
 
     def line(self):
         return 'r %s %d\n' % self.fence
+
+    def told(self):
+        """What the keeper must know of it, where it is another process."""
+        return dict(keys=self.keys, seen=sorted(self.seen), fences=self.fences, numbers=sorted(self.numbers), committed=self.committed,
+                    labels=self.labels, unknown=[vars(it) for it in self.unknown])
+
+    def add(self, keys, seen, fences, numbers, committed, labels, unknown):
+        """Takes what another process told."""
+        self.keys.update(keys)
+        self.seen.update(seen)
+        self.fences.update(fences)
+        self.numbers.update(numbers)
+        self.committed += committed
+        self.labels += map(tuple, labels)
+        self.unknown += [_Unknown(**it) for it in unknown]
+
+
+class _Company:
+    """The processes of one machine that write one run in rounds. Each holds the lock of a file of its own for as long as it takes part; what
+    it tells the others of a round is a file in the folder of that round. The first is the keeper."""
+
+    def __init__(self, folder, share, limit):
+        # the keeper may wait itself for the others, and then for the store
+        self.folder, (self.place, self.count), self.file = folder, share, None
+        self.limit = limit if self.place == 1 else 3 * limit
+        # of the keeper: those that it waits for at the end of a round
+        self.others = set(range(2, self.count + 1)) if self.place == 1 else set()
+        self.check_free(self.is_there(self.place))
+
+    def check_free(self, is_taken):
+        if is_taken:
+            raise Misuse('%s: share %s is taken by another process' % (self.folder, (self.place, self.count)))
+
+    def lock(self, place):
+        return os.path.join(self.folder, '%d.lock' % place)
+
+    def is_there(self, place):
+        return is_held(self.lock(place))
+
+    def take(self):
+        """Takes part. The file is there when its lock is held: so that of the keeper says that it has cleaned the folder."""
+        import fcntl
+        new = os.path.join(self.folder, 'new-%d.lock' % self.place)
+        self.file = os.open(new, os.O_RDWR | os.O_CREAT | os.O_TRUNC, 0o666)
+        # the lock ends with this process, where no child keeps it; follow.py asks for it where it is on this machine
+        os.register_at_fork(after_in_child=self.let_go)
+        try:
+            fcntl.flock(self.file, fcntl.LOCK_EX | fcntl.LOCK_NB)
+        except OSError as fault:
+            # one process alone can do without
+            self.check_free(self.count > 1 or isinstance(fault, BlockingIOError))
+        self.check_free(self.is_there(self.place))
+        os.write(self.file, os.uname().nodename.encode())
+        os.replace(new, self.lock(self.place))
+
+    def let_go(self):
+        if self.file is not None:
+            os.close(self.file)
+            self.file = None
+
+    def leave(self):
+        os.remove(self.lock(self.place))
+        self.let_go()
+
+    def tell(self, path, what):
+        with open(path + '.new', 'w') as file:
+            # JSON has no bytes, which keys may be
+            json.dump(what, file, default=lambda key: {' ': bytes(key).hex()})
+        os.replace(path + '.new', path)
+
+    def told(self, path):
+        with open(path) as file:
+            return json.load(file, object_hook=lambda it: bytes.fromhex(it[' ']) if ' ' in it else it)
+
+    def await_all(self, what, is_here, may_come=False, is_late=lambda: True):
+        """Waits until this is so of all others, or of the keeper, and names those that do not come. At first they may come still."""
+        began, missing = None, set(self.others) if self.place == 1 else {1}
+        came = set() if may_come else missing
+        while missing:
+            there = {it for it in missing if self.is_there(it)}
+            missing = {it for it in missing if not is_here(it)}
+            gone, came, began = missing & came - there, came | there, began or is_late() and time.monotonic()
+            if gone or missing and began and time.monotonic() > began + self.limit:
+                raise Gone('%s: of %d processes number %s %s' % (
+                    what, self.count, ', '.join(map(str, sorted(gone or missing))), 'died or gave up' if gone else 'does not come'))
+            if missing:
+                time.sleep(AGAIN / 4)
 
 
 class Recorder:
     """The log of one run, which `close` writes to `path`. It may be used by any number of threads.
 
     overwrite      whether a file that stands there may be replaced: else a recorder for it is refused
-    share          (K, N) for the K-th of N processes that write one log, each to a path of its own; join.py joins them
+    share          (K, N) for the K-th of N processes that write one log, each to a path of its own; join.py joins them. In rounds they are
+                   of one machine, and have one path; the first keeps the rounds, and its `close` waits until the others are closed
     moments        'all': when each transaction began and was committed, for a store that promises strict serializability; None: no moments
     aborted        exceptions that say that a transaction was rolled back; where one leaves a transaction's block, it goes no further
     unknown        the same of those behind which nobody knows whether it was committed
     clock          whole numbers that never fall, one clock for all clients; microseconds since now where it is not given, and of a share
-                   `clock_of_day`. Where this may be set during a run, processes of one machine take `clock_of_machine`
+                   `clock_of_day`, in rounds `clock_of_machine`. Where the first may be set during a run, processes of one machine take the other
     durable        what a client writes is in its file before the store hears of it: a harness that is killed loses nothing that another
                    client could have read
     rounds         for a run of any length: behind so many transactions of all clients together they pause, and go on in a new round, which
@@ -185,13 +295,12 @@ class Recorder:
         for name, value in dict(rounds=rounds, bound=bound).items():
             if value is not None and not (isinstance(value, int) and value >= 1):
                 raise Misuse('%s is a whole number from 1, and not %r' % (name, value))
-        if rounds and share is not None:
-            raise Misuse('rounds are those of one process: rounds=N goes without share=(K, N)')
         began = time.monotonic_ns()
         self.path, self._may_replace = os.path.abspath(os.fspath(path)), overwrite
-        self._check_free_path(rounds=rounds)
+        if not rounds or not share or share[0] == 1:
+            self._check_free_path(rounds=rounds)
         alone = lambda: (time.monotonic_ns() - began) // 1000
-        self._clock, self._last = clock or (clock_of_day if share else alone), 0
+        self._clock, self._last = clock or (alone if not share else clock_of_machine if rounds else clock_of_day), 0
         self._is_shared, self._share = share is not None, share or (1, 1)
         if not isinstance(self._clock(), int) or self._clock() < 0:
             raise Misuse('a clock gives whole numbers from 0, as time.monotonic_ns does, and not %r' % (self._clock(),))
@@ -293,11 +402,16 @@ class Recorder:
         self._check_free_path('; this run is in ' + new)
         os.replace(new, self.path)
         if self._labels:
-            with open(self.path + '.labels', 'w', encoding='utf-8', newline='\n') as out:
-                out.writelines(self._labels)
+            self._write_labels(self.path, self._labels)
         elif self._may_replace and os.path.exists(self.path + '.labels'):
             os.remove(self.path + '.labels')  # of the log that stood there
         shutil.rmtree(self._folder, ignore_errors=True)
+
+    @staticmethod
+    def _write_labels(path, labels):
+        """Labels, pairs of a transaction's name and its text, beside a log."""
+        with open(path + '.labels', 'w', encoding='utf-8', newline='\n') as out:
+            out.writelines('%s %s\n' % (name.replace('.', ' '), label) for name, label in labels)
 
     def _worth_little(self):
         counts = self._counts
@@ -390,6 +504,7 @@ class Recorder:
             self._end_in_round(txn)
         else:
             part.lines += txn._lines + [self._line_of_end(outcome)]
+            self._labels += [(txn.name, txn.label)] if txn.label is not None else []
         self._counts[outcome] += 1
         if outcome == 'commit':
             self._counts['reads'] += len(txn._reads)
@@ -403,10 +518,12 @@ class Recorder:
 
     def _begin_rounds(self):
         os.makedirs(self.path, exist_ok=True)
-        for name in os.listdir(self.path):
-            if re.fullmatch(r'[0-9]{6,}\.(log|part)|end', name):
+        self._company = _Company(self.path, self._share, self._patience * PATIENCE)
+        for name in os.listdir(self.path) if self._share[0] == 1 else ():
+            if re.fullmatch(r'[0-9]{6,}\.(log(\.labels)?|part)|end', name):
                 its = os.path.join(self.path, name)
                 shutil.rmtree(its) if os.path.isdir(its) else os.remove(its)
+        self._company.take()
         # what keys hold behind the last closing; transactions of unknown outcome that nobody read yet; by how much fences have other keys
         self._held, self._worn, self._fault, self._fences = {}, {}, None, _Part(0, self.path, self._share)
         self._begin_round(1)
@@ -415,7 +532,8 @@ class Recorder:
 
     def _begin_round(self, number):
         self._round, self._folder = _Round(number), os.path.join(self.path, '%06d.part' % number)
-        os.mkdir(self._folder)
+        if self._share[0] == 1:
+            os.mkdir(self._folder)
         for part in [*self._parts, self._fences]:
             part.move(self._folder)
         self._numbers, self._taken = itertools.count(*self._share), {it.number for it in self._sessions}
@@ -426,18 +544,28 @@ class Recorder:
             self._open_round()
             while True:
                 with self._turn:
-                    self._turn.wait_for(lambda: self._round.is_due or self._closed)
+                    while not self._round.is_due and not self._closed:
+                        self._turn.wait(AGAIN if self._is_shared else None)
+                        self._round.is_due |= self._is_shared and os.path.exists(os.path.join(self._folder, 'due'))
                     round, folder = self._round, self._folder
+                    if round.is_due and self._is_shared:
+                        open(os.path.join(folder, 'due'), 'w').close()
                     round.is_due = True
                 self._gather(round)
+                if self._share[0] > 1:
+                    if self._hand_in(round, folder):
+                        return
+                    self._open_round()
+                    continue
+                self._take_in(round, folder)
                 unknown = self._carried + round.unknown
-                closings = self._read_closing(round, unknown) if round.committed or not self._closed else []
+                closings = self._read_closing(round, unknown) if round.committed or not self._is_ending() else []
                 with self._turn:
                     for part in self._parts:
                         part.flush()
-                    if not self._closed:
+                    is_last = self._is_ending()
+                    if not is_last:
                         self._begin_round(round.number + 1)
-                is_last = self._round is round
                 if not is_last:
                     self._open_round()
                 # what became known of the round is written while the next one goes on
@@ -448,6 +576,33 @@ class Recorder:
             with self._turn:
                 self._fault = fault
                 self._turn.notify_all()
+            # nobody waits for this one any longer
+            self._company.let_go()
+
+    def _is_ending(self):
+        """Whether the round that goes on is the last one."""
+        return self._closed and not self._company.others
+
+    def _hand_in(self, round, folder):
+        """Tells the keeper, which is another process, what became of the round here; and whether this process takes part no more."""
+        with self._turn:
+            for part in self._parts:
+                part.flush()
+            is_over = self._closed
+            self._begin_round(round.number + 1)
+        self._company.tell(os.path.join(folder, '%d.part' % self._share[0]), dict(is_over=is_over, **round.told()))
+        round.come.clear()
+        return is_over
+
+    def _take_in(self, round, folder):
+        """What the other processes tell of the round: the keeper waits for them."""
+        path_of, due = lambda it: os.path.join(folder, '%d.part' % it), os.path.join(folder, 'due')
+        self._company.await_all('round %d does not end' % round.number, lambda it: os.path.exists(path_of(it)), is_late=lambda: os.path.exists(due))
+        for it in sorted(self._company.others):
+            told = self._company.told(path_of(it))
+            if told.pop('is_over'):
+                self._company.others.remove(it)
+            round.add(**told)
 
     def _end_rounds(self):
         self._turn.notify_all()
@@ -459,8 +614,10 @@ class Recorder:
         atexit.unregister(self._at_exit)
         if self._fault:
             raise self._fault
-        with open(os.path.join(self.path, 'end'), 'w') as file:
-            file.write('%d\n' % self._last_round)
+        if self._share[0] == 1:
+            with open(os.path.join(self.path, 'end'), 'w') as file:
+                file.write('%d\n' % self._last_round)
+        self._company.leave()
 
     def _enter(self, txn):
         """Begins a transaction; in rounds when its client has come into one that is open."""
@@ -508,7 +665,7 @@ class Recorder:
         while not is_late:
             yield
             time.sleep(pause)
-            pause, is_late = min(2 * pause, 1), time.monotonic() - began > (max(self._patience, LATE) if self._closed else self._patience * PATIENCE)
+            pause, is_late = min(2 * pause, 1), time.monotonic() - began > (max(self._patience, LATE) if self._is_ending() else self._patience * PATIENCE)
         raise Unseen('%s, for %d seconds' % (what, time.monotonic() - began))
 
     def _put_fence(self, number, part, transact, is_over=lambda: False):
@@ -531,12 +688,24 @@ class Recorder:
                         self._worn[number] = self._worn.get(number, 1) + 1
 
     def _open_round(self):
-        lines, key, wid = self._put_fence(KEEPER, self._fences, self._transact)
+        """Writes the keeper's fence, or waits until the keeper has, which is another process."""
+        opening, is_first, company = os.path.join(self._folder, 'opening'), self._round.number == 1, self._company
+        if self._share[0] > 1:
+            company.await_all('round %d does not begin' % self._round.number, lambda it: company.is_there(it) and os.path.exists(opening), is_first)
+            lines, (key, wid, count) = [], company.told(opening)
+            if count != self._share[1]:
+                raise Misuse('the share of the first process is (1, %d), and this one is %s' % (count, self._share))
+        else:
+            if is_first:
+                company.await_all('no round begins', company.is_there, True)
+            lines, key, wid = self._put_fence(KEEPER, self._fences, self._transact)
         with self._turn:
             self._round.fence, self._round.keeper, self._round.is_open = (key, wid), lines, True
-            if self._durable:
+            if self._durable and lines:
                 self._fences.flush(['session %d\n' % KEEPER, *lines])
             self._turn.notify_all()
+        if lines and self._is_shared:
+            company.tell(opening, [key, wid, self._share[1]])
 
     def _come_in(self, session):
         """A client reads the keeper's fence, until it sees it, and is in the round."""
@@ -560,6 +729,7 @@ class Recorder:
                     session._come, session._place = round, 1
                     session._part.lines += ['session %d\n' % session.number, begin, round.line(), end]
                     round.come[session] = session.number, session._part
+                    round.numbers.add(session.number)
                     return
                 self._counts['late'] += isinstance(answer, list)
 
@@ -610,23 +780,25 @@ class Recorder:
         round, part = self._round, txn.session._part
         if txn.outcome == 'unknown':
             # it stands in a session of its own, and its client goes on in the old one
-            round.unknown.append(_Unknown(txn, round.number))
+            name, (begin, *lines) = '%06d: %s' % (round.number, txn.name), txn._lines
+            round.unknown.append(_Unknown(name, round.number, begin, lines, txn.label, dict(txn._written.values())))
             txn.session._place -= 1
             if self._durable:
                 self._keep_unknown(round, round.unknown[-1], False)
         else:
             part.lines += txn._lines + [self._line_of_end(txn.outcome)]
+            round.labels += [(txn.name, txn.label)] if txn.label is not None else []
         if txn.outcome == 'commit':
             round.seen |= txn._looked
             round.committed += 1
         round.keys.update(txn._written.values())
         round.ended += 1
-        if round.ended >= self._rounds and not round.is_due:
+        if round.ended * self._share[1] >= self._rounds and not round.is_due:
             round.is_due = True
             self._turn.notify_all()
 
     def _keep_unknown(self, round, it, is_carried):
-        with open(os.path.join(self._folder, 'unknown'), 'a') as file:
+        with open(os.path.join(self._folder, 'unknown.%d' % self._share[0] if self._is_shared else 'unknown'), 'a') as file:
             file.write(it.text(self._number(), round.line(), is_carried))
 
     def _read_closing(self, round, unknown):
@@ -665,8 +837,8 @@ class Recorder:
 
     def _write_round(self, round, folder, closings, unknown):
         """Writes the log of a round that has ended, and finds which transactions of unknown outcome took part in it."""
-        paths = [os.path.join(folder, str(part.number)) for part in self._parts]
-        paths = [path for path in paths if os.path.exists(path)]
+        names = [name for name in os.listdir(folder) if re.fullmatch(r'([0-9]+\.)?[1-9][0-9]*', name)]
+        paths = [os.path.join(folder, name) for name in sorted(names, key=lambda name: [int(it) for it in name.split('.')])]
         reads = {name: wid for _, its in closings for name, wid in its.items() if name not in round.fences}
         taken = self._taken_in(paths, [line for lines, _ in closings for line in lines], round, unknown)
         self._carried = [it for it in unknown if it not in taken]
@@ -686,12 +858,18 @@ class Recorder:
                 for path in paths:
                     with open(path, 'rb') as file:
                         shutil.copyfileobj(file, log)
-                numbers = (number for number in itertools.count(1) if number not in {it for it, _ in round.come.values()})
-                for it in taken:
-                    log.write(it.text(next(numbers), round.line(), it.round < round.number).encode('ascii'))
-            os.replace(new, os.path.join(self.path, '%06d.log' % round.number))
+                numbers = (number for number in itertools.count(1) if number not in round.numbers)
+                for number, it in zip(numbers, taken):
+                    log.write(it.text(number, round.line(), it.round < round.number).encode('ascii'))
+                    round.labels += [('%d.1' % number, it.label)] if it.label is not None else []
+            path = os.path.join(self.path, '%06d.log' % round.number)
+            if round.labels:
+                self._write_labels(path, round.labels)
+            os.replace(new, path)
             self._last_round = round.number
         self._held.update(reads)
+        # a client that idles knows the round that it left, which must not know those who go on
+        round.come.clear()
         shutil.rmtree(folder)
         if self._durable and self._round is not round:
             with self._turn:
@@ -738,14 +916,10 @@ class Session:
     def transaction(self, commit=None, label=None):
         """Begins a transaction: before its first statement is sent. Where `commit` is given, leaving its block calls it, and where it gives
         back False the transaction was aborted; without it the block itself commits in the store, as its last statement. `label` says on a
-        line what it is for: PATH.labels has that, but for a log in rounds."""
-        if label is not None and not (label.strip() and label.isprintable()):
-            raise Misuse('a label is printable and on one line, and not %r' % (label,))
-        txn = Transaction(self, commit)
-        if label is not None and not self._run._rounds:
-            with self._run._turn:
-                self._run._labels.append('%s %s\n' % (txn.name.replace('.', ' '), label))
-        return txn
+        line what it is for, beside the log in a file of its own."""
+        if label is not None and not (isinstance(label, str) and label.strip() and label.isprintable()):
+            raise Misuse('a label is a printable text on one line, and not %r' % (label,))
+        return Transaction(self, commit, label)
 
     def close(self):
         """Leaves; a transaction that is open ends as unknown."""
@@ -791,8 +965,8 @@ class Transaction:
     Leaving its block ends it: without an exception as committed, with one that the recorder's harness named as that says, and it goes no
     further, with any other one as unknown. Where the session has a `commit` that was not called yet, a named exception says abort."""
 
-    def __init__(self, session, commit):
-        self.session, self.name, self.outcome, self._commit = session, None, None, commit
+    def __init__(self, session, commit, label):
+        self.session, self.name, self.outcome, self.label, self._commit = session, None, None, label, commit
         self._lines, self._written, self._reads, self._looked, self._is_cut_off = [], {}, {}, set(), False
         self._run = session._run
         self._run._enter(self)

@@ -11,8 +11,8 @@ trap '[ $? -eq 0 ] || exit 70' EXIT
 self=$(readlink -f "${BASH_SOURCE[0]}")
 top=${self%/*/*}
 store=sqlite folder='' program=$top/run temporary='' server=''
-# where a package has it
-[ -x "$program" ] || program=$(readlink -f "$top/../../bin/cobra_poly")
+# where a package has it, else what is on the path
+[ -x "$program" ] || program=$(readlink -f "$top/../../bin/cobra_poly") && [ -x "$program" ] || program=cobra_poly
 
 say() {
     echo "quickstart.sh: $1"
@@ -97,4 +97,5 @@ for seed in 1 2 3 4 5; do
 done
 [ "$status" -eq 1 ] || stop 'no run showed a fault of this store: once more'
 python3 "$top/tools/picture.py" --program "$program" "$folder/run.log" -o "$folder/why.html" || stop 'no page was made'
+[ "$store" = sqlite ] || say "read committed promises less, so this store did nothing wrong: ask audit --level monotonic-atomic-view $folder/run.log"
 say "the page is $folder/why.html, for any browser"

@@ -109,6 +109,9 @@ class Checks:
         ran = java(self.folder, 'Load', url + more, level, self.log, 'kill=10', 'transactions=200', jar=jar)
         text = self.text() if os.path.exists(self.log) else ''
         self.expect(ran.returncode == 0 and '\ncommit' in text and '\nabort' in text, '%s: %s' % (name, ran.stderr[-500:]))
+        with open(self.log + '.labels') as file:
+            labels = file.readlines()
+        self.expect(len(labels) == 200 and all(re.fullmatch('[0-9]+ [0-9]+ random\n', line) for line in labels), '%s: labels: %s' % (name, labels[:3]))
         judged = subprocess.run([self.program, 'audit', '--quiet', '--level', kept, self.log], stdout=subprocess.PIPE)
         self.expect(judged.returncode == 0, '%s: %s' % (name, judged.stdout))
 

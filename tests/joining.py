@@ -138,7 +138,7 @@ def shares(checks):
         found = set()
         for _ in range(3):
             for session in sessions:
-                txn = session.transaction()
+                txn = session.transaction(label=name)
                 found.add(txn.write('x'))
                 txn.commit()
         run.close()
@@ -149,6 +149,12 @@ def shares(checks):
     checks.expect(len(set.union(*(it for _, it in found))) == 4 * 9, 'identities of four: %s' % found)
     whole = ({1, 2, 3}, {count * 1000 + client for count in (1, 2, 3) for client in (1, 2, 3)})
     checks.expect(numbers('one.log', (1, 1)) == numbers('alone.log', None) == whole, 'one process')
+    out, logs = checks.path('labelled.log'), [checks.path('share-%d.log' % share) for share in range(1, 5)]
+    got = checks.join(*logs, '-o', out)
+    labels = b''.join(checks.text(log + '.labels') for log in logs)
+    checks.expect(got[0] == 0 and checks.text(out + '.labels') == labels and labels.count(b'.log\n') == 36, 'labels: %s' % (got,))
+    got = checks.join(checks.file('bare.log', 'log 3\nsession 1\nbegin\ncommit\n'), '-o', out, '--overwrite')
+    checks.expect(got[0] == 0 and not os.path.exists(out + '.labels'), 'labels of another log: %s' % (got,))
 
 
 def slack(checks):

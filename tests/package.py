@@ -4,7 +4,7 @@
 Made twice, in other places, of files of other times, the packages must have the same bytes, and SHA256SUMS those sums. The Debian package is
 unpacked by dpkg-deb, and installed and removed by dpkg in a folder; the tarball is unpacked by Python; all must have the same files. There the
 program judges, and the scripts import, join, draw and collect logs, with nothing on the path but the system's commands. The commands of the
-package's README.md do what it says, and it speaks of nothing that only the repository has. PROVED names the kit
+package's README.md do what it says, and no page for its users speaks of what only the repository has. PROVED names the kit
 where the program was proved, and no kit otherwise. Where there is no dpkg, a line says so. Last line: 'package: N passed, M failed'."""
 import gzip, hashlib, os, re, shutil, subprocess, sys, tarfile, tempfile
 
@@ -137,18 +137,25 @@ class Checks:
         self.expect(content(os.path.join(work, 'joined.log')) == content(os.path.join(work, 'honest.log')), '%s: join' % what)
         for name in ('recorder.go', 'Recorder.java'):
             self.expect(os.path.isfile(os.path.join(home, 'collect', name)), '%s: %s' % (what, name))
-        for script in ('cobra_poly-import', 'cobra_poly-picture', 'cobra_poly-join'):
+        with open(os.path.join(work, 'cut.log'), 'wb') as out:
+            out.write(content(os.path.join(work, 'honest.log'))[:-20])
+        call('cobra_poly-mend', 'cut.log', says='cut.mended.log: ')
+        call(os.path.join(home, 'collect', 'sqlite.py'), '--transactions', '50', '--rounds', '20', 'rounds')
+        call('cobra_poly-follow', 'rounds', '--level', 'serializable', says='000001: serializable')
+        for script in ('cobra_poly-import', 'cobra_poly-picture', 'cobra_poly-join', 'cobra_poly-told'):
             call(script, '--help')
 
     def page(self, at):
-        """README.md speaks of what a package has, and its commands do what it says."""
+        """Pages for those who have a package speak of what it has, and the commands of README.md do what it says."""
         work, tools = self.path('page'), self.path('solvers')
         shutil.copytree(os.path.join(at, 'share', 'cobra-poly'), work)
         os.mkdir(tools)
         readme.stand_ins(tools)
         text = content(os.path.join(work, 'README.md')).decode()
-        strange = [word for word in ('./run', './check', './prove', './install', './solve', './package', 'toolchain', 'clone', '<!--', 'tools/') if word in text]
-        self.expect(not strange, 'README.md speaks of %s' % strange)
+        of_repository = './run', './check', './prove', './install', './solve', './package', 'toolchain', 'clone', '<!--', 'tools/'
+        for name in ('README.md', 'examples/README.md', 'examples/EXPLAINED.md', *('docs/%s.md' % it for it in 'COLLECTING FORMATS SCALE CI IMPORTING JEPSEN'.split())):
+            strange = [word for word in of_repository if word in content(os.path.join(work, name)).decode()]
+            self.expect(not strange, '%s speaks of %s' % (name, strange))
         links = re.findall(r'\]\(([^)#:]+)', text)
         self.expect('PROVED' in links and all(os.path.exists(os.path.join(work, it)) for it in links), 'README.md links to %s' % links)
         page, commands = readme.Page(work, os.path.join(at, 'bin') + os.pathsep + tools), readme.transcripts(text)

@@ -416,6 +416,11 @@ class Checks:
             self.expect(ran.returncode == 0 and re.sub(r' \((transfer, <b>thread</b> 4|audit of 1\.1)\)', '', got) == said, 'told %r: %r' % (at, got))
             named, keys = re.compile('1[.]1 .transfer'), re.compile(r"(?:reads|wrote|writes|write|version of|update of|see 2[.]1's|\]) 1[.]1 \(tr")
             self.expect(all(named.search(line) for line in got.split('\n') if re.search('which 1[.]1|1[.]1 and|1[.]1 before|by 1[.]1', line)) and not keys.search(got), 'told %r: %r' % (at, got))
+        reader, writer = os.pipe()
+        os.close(reader)
+        ran = subprocess.run([sys.executable, TOLD, path], input=said.encode(), stdout=writer, stderr=subprocess.PIPE)
+        os.close(writer)
+        self.expect(ran.returncode == AROUND and not ran.stderr, 'nobody reads: %r' % ran)
         for text, said in (('1 1\n', 'labels:1: not a label'), ('1 1 x\n1 1 y\n', 'labels:2: a second label of 1.1'), ('1 1 x\x1b[1m\n', 'labels:1: '), ('0 1 x\n', 'labels:1: ')):
             self.put('labelled.log.labels', text)
             answer = self.call(path, '-o', os.path.join(self.folder, 'none.html'), *words)

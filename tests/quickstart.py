@@ -67,6 +67,8 @@ class Checks:
         self.expect(not left and not processes('/tmp/qs.'), '%s: a store is left: %s' % (store, left))
         run, small = os.path.join(out, 'run.log'), os.path.join(out, 'small.log')
         self.expect(self.judged('audit', '--quiet', run) == (1, 'not serializable\n'), store + ': the log is not refused')
+        promised = self.judged('audit', '--quiet', '--level', 'monotonic-atomic-view', run)[0]
+        self.expect(store == 'sqlite' or promised == 0 and 'did nothing wrong' in got[1], '%s: what it promises: %d %s' % (store, promised, got[1]))
         self.expect(content(os.path.join(out, 'why.txt')).startswith('not serializable\n'), store + ': why.txt')
         status, said = self.judged('check', small)
         self.expect(status == 1 and content(small).count('\nbegin') <= 20, '%s: the small log: %d %s' % (store, status, said[:100]))

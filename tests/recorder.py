@@ -737,7 +737,7 @@ def quiet():
 
 
 def labels(checks):
-    """Labels stand beside the log, and go with the log that they are of; none stands in rounds."""
+    """Labels stand beside the log, and go with the log that they are of."""
     path = checks.path('labels.log')
     for number, wanted in enumerate(('1 1 transfer, thread 4\n2 1 ö\n', None)):
         run = Recorder(path, overwrite=True)
@@ -747,7 +747,7 @@ def labels(checks):
                     txn.write('x')
                 with session.transaction() as txn:
                     txn.read('x', None)
-                for wrong in ('', ' ', 'a\nb', '\x1b[1m'):
+                for wrong in ('', ' ', 'a\nb', '\x1b[1m', 7, b'x'):
                     try:
                         session.transaction(label=wrong)
                     except Misuse:

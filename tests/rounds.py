@@ -3,15 +3,16 @@
 
 Runs of some twenty rounds, of a sound store and of broken ones, with commits that are lost, take effect rounds later, or never, clients that
 die, leave and come back: each round must be one, as follow.py checks it, and at each level they are all kept exactly if the run as one log
-is, which is made of them here; those of the sound store are kept. Then faults that are put into one round, at the seam before it and in
-it: that round and no other is refused for each. Fences that are shown late, a client that hangs, outcomes that nobody learns; and what
-follow.py refuses, removes and keeps. Last line: 'rounds: N passed, M failed'."""
-import argparse, concurrent.futures, contextlib, importlib.util, io, os, random, re, shutil, subprocess, sys, tempfile, threading, time
+is, which is made of them here; those of the sound store are kept. Labels stand beside each round, each at its transaction. Then faults
+that are put into one round, at the seam before it and in it: that round and no other is refused for each. Fences that are shown late, a
+client that hangs, outcomes that nobody learns; several processes that write rounds together, of which one leaves, dies or does not come; and
+what follow.py refuses, removes and keeps. Last line: 'rounds: N passed, M failed'."""
+import argparse, concurrent.futures, contextlib, gc, importlib.util, io, os, random, re, shutil, signal, subprocess, sys, tempfile, threading, time
 
 HERE = os.path.dirname(os.path.abspath(__file__))
 TOP = os.path.dirname(HERE)
 sys.path[:0] = [os.path.join(TOP, 'collect'), os.path.join(TOP, 'tools'), HERE]
-import generate, recorder, reference
+import clients, generate, recorder, reference, scripts, sqlite
 from recorder import Misuse, Recorder
 
 spec = importlib.util.spec_from_file_location('stores_of_recorder', os.path.join(HERE, 'recorder.py'))
@@ -20,7 +21,7 @@ spec.loader.exec_module(stores)
 Aborted, Lost, Died = stores.Aborted, stores.Lost, stores.Died
 
 LEVELS = 'strict-serializable', 'serializable', 'strict-snapshot', 'snapshot', 'prefix'
-FOLLOW = os.path.join(TOP, 'tools', 'follow.py')
+FOLLOW, MEND = (os.path.join(TOP, 'tools', name) for name in ('follow.py', 'mend.py'))
 EVERY, ROUNDS = 25, 20
 
 
@@ -74,13 +75,22 @@ def transact_by(connection):
 
 
 class Client(stores.Client):
-    def __init__(self, run, connection, seed, way, turns):
+    def __init__(self, run, connection, seed, way, turns, labelled=None):
         super().__init__(run, connection, seed, way)
-        self.turns = turns
+        self.turns, self.labelled = turns, {} if labelled is None else labelled
+
+    def label(self, session):
+        """Gives each transaction of a session a label, by which it is found."""
+        def transaction(commit=None, begin=session.transaction):
+            label = '%s, transaction %d' % (threading.current_thread().name, len(self.labelled))
+            self.labelled[label] = begin(commit, label)
+            return self.labelled[label]
+        session.transaction = transaction
 
     def work(self):
         while self.turns:
             with contextlib.suppress(Died), self.run.session(transact_by(self.connection)) as self.session:
+                self.label(self.session)
                 for _ in range(self.dice.randint(1, 60)):
                     if self.turns:
                         self.turns.pop()
@@ -100,8 +110,8 @@ def quiet():
     return contextlib.redirect_stderr(io.StringIO())
 
 
-def made(folder, seed, kind=stores.Connection, count=EVERY * (ROUNDS + 4), hook=None, **given):
-    """The warnings of a run, whose rounds are in the folder."""
+def made(folder, seed, kind=stores.Connection, count=EVERY * (ROUNDS + 4), hook=None, labelled=None, **given):
+    """The warnings of a run, whose rounds are in the folder; `labelled` gets its transactions, each by its label."""
     shutil.rmtree(folder, ignore_errors=True)
     dice = random.Random(seed)
     way, store = Way(dice, **given), stores.Store(random.Random(seed))
@@ -110,7 +120,7 @@ def made(folder, seed, kind=stores.Connection, count=EVERY * (ROUNDS + 4), hook=
         keeper = hook(store, keeper)
     run = Recorder(folder, way.moments, aborted=Aborted, unknown=(Lost,), rounds=EVERY, transact=keeper, patience=5)
     turns = [None] * count
-    threads = [threading.Thread(target=Client(run, kind(store, n), dice.random(), way, turns).work) for n in range(way.clients)]
+    threads = [threading.Thread(target=Client(run, kind(store, n), dice.random(), way, turns, labelled).work) for n in range(way.clients)]
     for thread in threads:
         thread.start()
     for thread in threads:
@@ -160,6 +170,22 @@ class Checks:
         return ran.returncode, ran.stdout, ran.stderr
 
 
+def labels(checks, path, labelled):
+    """Each transaction of a round has its label, but for those of its keeper and of fences; one that is carried has its writes alone."""
+    found, strange = scripts.labels_of(path, is_needed=True), []
+    with open(path, 'rb') as log:
+        sessions = reference.read_log(log.read())
+    for session, its in sessions:
+        for place, txn in enumerate(its, 1):
+            is_fence = session == recorder.KEEPER or len(txn.ops) == 1 and str(txn.ops[0][1]).startswith('fence/')
+            label = found.pop('%d.%d' % (session, place), None)
+            wrote = [op[2] for op in txn.ops if op[0] == 'w']
+            wanted = label and [int(line.split()[2]) for line in labelled[label]._lines if line[0] == 'w']
+            if wanted != (None if is_fence else wrote):
+                strange.append((session, place, label))
+    checks.expect(not found and not strange, '%s: labels of nothing %s, strange ones %s' % (path, found, strange[:3]))
+
+
 def beside(checks, runs, seed):
     """Rounds and the run that they are have one verdict at each level, and those of the sound store are kept."""
     met = {}
@@ -167,8 +193,11 @@ def beside(checks, runs, seed):
         for n in range(runs):
             name = list(STORES)[n % len(STORES)]
             folder = checks.path('run')
-            told = made(folder, seed + n, STORES[name])
+            labelled = {}
+            told = made(folder, seed + n, STORES[name], labelled=labelled)
             paths = logs_of(folder)
+            for path in paths:
+                labels(checks, path, labelled)
             texts = [open(path, 'rb').read() for path in paths] + [run_of(paths)]
             for level in LEVELS:
                 *rounds, whole = pool.map(lambda text: checks.audit(level, text), texts)
@@ -230,7 +259,7 @@ def faults(checks, seed):
                 last = said[:said.find('not ' + level)].count('\n') + 1
                 checks.expect(status == 1 and last == place, '%s in round %d at %s: status %d at %d: %s%s' % (kind, place, level, status, last, said, error))
                 older = 'which was written in round' in said or 'A1' not in said
-                checks.expect('shown by' in said and older and open(on).read().strip() == os.path.join(folder, '%06d.log' % place), '%s: it is told why' % kind)
+                checks.expect('shown by' in said and re.search(r'[0-9] [(]Thread-|^transactions 65535[^,]*$', said, re.M) and older and open(on).read().strip() == os.path.join(folder, '%06d.log' % place), '%s: it is told why' % kind)
 
 
 def small(checks, name, store=None, **words):
@@ -338,6 +367,25 @@ def stuck(checks):
         checks.expect(status == 0 and said.count('\n') >= 3, 'a client that %s: %d %s %s' % (what, status, said, error))
         checks.expect(took < 10 and ('did not come' in told) == True, 'a client that %s: %.1f s, %s' % (what, took, told))
         checks.expect(outcome == (['unknown'] if what == 'hangs' else []), 'a client that %s: %s' % (what, outcome))
+
+
+def forgets(checks):
+    """A client that idles, while others come and go, keeps no round in memory but the one that it left."""
+    folder, store, run = small(checks, 'forgets', rounds=20)
+    idle, connection = run.session(), stores.Connection(store, 1)
+    one(idle, stores.Connection(store, 2), 'x')
+
+    def work(n):
+        for _ in range(60):
+            with run.session(transact_by(connection)) as session:
+                for _ in range(10):
+                    one(session, connection, 'y')
+    in_threads(work, 1)
+    gc.collect()
+    known = [it.number for it in gc.get_objects() if isinstance(it, recorder._Round) and it is not run._round]
+    checks.expect(run._round.number > 20 and len(known) <= 4, 'round %d, and these are known: %s' % (run._round.number, known))
+    with quiet():
+        run.close()
 
 
 def unknown(checks):
@@ -475,9 +523,8 @@ def followed(checks):
     changed(6, lambda text: re.sub(r'\nr (x|7) [0-9]+\n(?=(r|commit))', '\n', text, count=1), '', status=2)
     changed(6, lambda text: text.replace('session 65535', 'session 65534'), 'no committed opening')
     changed(6, lambda text: text.replace('log 3\n', 'log 3\nrubbish\n', 1), '(L')
-    first = re.search(r'w fence/1 ([0-9]+)', open(os.path.join(folder, names[2])).read())[1]
-    own = re.search(r'w fence/1 ([0-9]+)', open(os.path.join(folder, names[7])).read())[1]
-    changed(8, lambda text: re.sub(r'(fence/1) %s\n' % own, r'\1 %s\n' % first, text), 'an earlier round has')
+    (_, first), (key, own) = (re.search(r'w (fence/[0-9]{1,2}) ([0-9]+)', open(os.path.join(folder, names[n])).read()).groups() for n in (2, 7))
+    changed(8, lambda text: text.replace('%s %s\n' % (key, own), '%s %s\n' % (key, first)), 'an earlier round has')
     changed(9, lambda text: re.sub(r'(begin|commit) ([0-9]+)', lambda it: '%s %d' % (it[1], int(it[2]) // 4), text), 'had both one clock', level='strict-serializable')
     changed(9, lambda text: re.sub(r'(begin|commit) ([0-9]+)', lambda it: '%s %d' % (it[1], int(it[2]) // 4), text), '', status=0)
     for level in ('read-committed', 'read-atomic', 'causal', 'monotonic-atomic-view', 'rubbish'):
@@ -491,7 +538,7 @@ def followed(checks):
     found, said, error = checks.follow(copy, '--workers', '3', '--', '--at-least', '1000')
     checks.expect(found == 3 and said.count(' unknown: ') == len(names) and 'not decided' in error, 'unknown rounds: %d %s' % (found, error))
     found, said, error = checks.follow(copy, '--forget')
-    checks.expect(found == 0 and sorted(os.listdir(copy)) == [names[-1], 'end'], 'what is forgotten: %s' % os.listdir(copy))
+    checks.expect(found == 0 and sorted(os.listdir(copy)) == [names[-1], names[-1] + '.labels', 'end'], 'what is forgotten: %s' % os.listdir(copy))
     found, said, error = checks.follow(copy)
     checks.expect(found == 70 and 'the first round here' in error, 'a folder without its first rounds: %d %s' % (found, error))
     shutil.rmtree(copy)
@@ -525,7 +572,106 @@ def alongside(checks):
     checks.expect(len(logs_of(folder)) == 1, 'alongside: %s' % os.listdir(folder))
 
 
+class Unsure(sqlite.Store):
+    """Gives no answer now and then, whether it has committed or not."""
+    lost = (Lost,)
+
+    def commit(self):
+        if random.random() < 0.03:
+            self.do(random.choice(('COMMIT', 'ROLLBACK')))
+            raise Lost
+        super().commit()
+
+
+class Member(clients.Client):
+    """A client whose keys are text, bytes and numbers."""
+
+    def transaction(self, operations, *more):
+        super().transaction([(kind, {'k1': 7, 'k2': b'z\x00'}.get(key, key)) for kind, key in operations], *more)
+
+
+def process(folder, database, place, count, turns, end, patience):
+    """One of several processes, which write the rounds of a run together."""
+    store = sqlite.WeakStore if end == 'weak' else Unsure
+    turns = map(lambda left: left or 'dies' not in end or os.kill(os.getpid(), signal.SIGKILL), range(int(turns), -1, -1))
+    given = argparse.Namespace(database=database, run='t', keys=8, mix=(5, 1, 4), pause=0.5, kill=0, seed=int(place))
+    run = Recorder(folder, 'all', aborted=store.aborted, unknown=Lost, rounds=45, transact=clients.Connection(Unsure, given).transact,
+                   share=(int(place), int(count)), patience=float(patience), durable='durable' in end)
+    members = [Member(run, store, given, number) for number in range(3)]
+    with concurrent.futures.ThreadPoolExecutor(3) as pool:
+        for it in [pool.submit(member.work, turns) for member in members]:
+            it.result()
+    run.close()
+
+
+def several(checks):
+    """Three processes write rounds together; one may leave early, die, be broken, or not come."""
+    folder = checks.path('several')
+    database = checks.path('several.db')
+    count = 200
+
+    def ran(*members):
+        """The statuses of processes and what they told: each has a share, turns and an end."""
+        shutil.rmtree(folder, ignore_errors=True)
+        for name in os.listdir(checks.folder):
+            if name.startswith('several.db'):
+                os.remove(checks.path(name))
+        sqlite.Store.prepare(argparse.Namespace(database=database, run='t'))
+        started = [subprocess.Popen([sys.executable, os.path.abspath(__file__), '--process', folder, database, *map(str, it)], stdin=subprocess.DEVNULL,
+                                    stdout=subprocess.PIPE, stderr=subprocess.STDOUT, universal_newlines=True) for it in members]
+        told = [it.communicate(timeout=300)[0][-300:] for it in started]
+        return [it.returncode for it in started], told
+
+    def follow(*words):
+        return checks.follow(folder, '--clients', '3000', *words)
+
+    def of(place, turns=count, end='', patience=2):
+        return place, 3, turns, end, patience
+
+    for name, members in {'all': (of(1), of(2), of(3)), 'one leaves': (of(1), of(2, 60), of(3)), 'the first leaves': (of(1, 60), of(2), of(3)),
+                          'durable': [of(n, count, 'durable') for n in (3, 2, 1)]}.items():
+        statuses, told = ran(*members)
+        status, said, error = follow()
+        paths, names = logs_of(folder), sorted(os.listdir(folder))
+        checks.expect(statuses == [0, 0, 0] and status == 0, 'several, %s: %s %s, follow: %d %s %s' % (name, statuses, told, status, said, error))
+        checks.expect(len(paths) > 5 and names == [*map(os.path.basename, paths), 'end'], 'several, %s: %s' % (name, names))
+        numbers = [int(it) for it in re.findall('session ([0-9]+)', ''.join(open(path).read() for path in paths))]
+        checks.expect({it % 3 for it in numbers if it != recorder.KEEPER} == {0, 1, 2}, 'several, %s: sessions %s' % (name, set(numbers)))
+        for level in ('strict-serializable', 'prefix'):
+            checks.expect(checks.audit(level, run_of(paths)), 'several, %s: the run is not %s' % (name, level))
+    statuses, told = ran(of(1), of(2, count, 'weak'), of(3))
+    status, said, error = follow()
+    checks.expect(status == 1, 'several, a broken store: %d %s %s' % (status, said, error))
+    for place in (1, 2):
+        for end in ('', 'durable'):
+            name = 'number %d dies, %s' % (place, end)
+            statuses, told = ran(*(of(n, 90 if n == place else 10 ** 6, end + ' dies' * (n == place)) for n in (1, 2, 3)))
+            others = ' '.join(text for n, text in enumerate(told, 1) if n != place)
+            checks.expect(statuses.pop(place - 1) == -signal.SIGKILL and statuses == [1, 1], 'several, %s: %s' % (name, statuses))
+            checks.expect('of 3 processes number %d died or gave up' % place in others, 'several, %s: %s' % (name, others))
+            status, said, error = follow('--once')
+            checks.expect(status == 0, 'several, %s: follow: %d %s %s' % (name, status, said, error))
+            status, said, error = follow()
+            checks.expect(status == 70 and 'died or gave up' in error, 'several, %s: follow: %d %s %s' % (name, status, said, error))
+            # of the one that ended, and of the one that had begun, which may have nothing yet
+            parts, mended = [os.path.join(folder, it) for it in sorted(os.listdir(folder)) if it.endswith('.part')], checks.path('mended.log')
+            done = [subprocess.run([sys.executable, MEND, it, '--overwrite', '-o', mended], stdout=subprocess.PIPE, stderr=subprocess.STDOUT,
+                                   universal_newlines=True) for it in parts]
+            checks.expect(done and all(it.returncode == 0 or 'has no files' in it.stdout for it in done), 'several, %s: mended: %s' % (name, done))
+            if done[-1].returncode == 0:
+                with open(mended, 'rb') as log:
+                    checks.expect(checks.audit('serializable', log.read()) is not False, 'several, %s: mended, and refused: %s' % (name, done[-1].stdout))
+    statuses, told = ran(of(1, patience=0.05), of(3, patience=0.05))
+    checks.expect(statuses == [1, 1] and 'of 3 processes number 2 does not come' in told[0], 'several: one does not come: %s' % told)
+    statuses, told = ran(of(1, patience=0.1), of(2, patience=0.1), of(2, patience=0.1))
+    checks.expect(statuses == [1, 1, 1] and sum('is taken by another process' in it for it in told[1:]) == 1, 'several: one share twice: %s' % told)
+    statuses, told = ran(of(1), (2, 4, count, '', 2), of(3))
+    checks.expect('the share of the first process is (1, 3)' in told[1], 'several: shares of two runs: %s' % told)
+
+
 def main():
+    if sys.argv[1:2] == ['--process']:
+        return process(*sys.argv[2:])
     words = argparse.ArgumentParser(description=__doc__, formatter_class=argparse.RawDescriptionHelpFormatter)
     words.add_argument('program')
     words.add_argument('--runs', type=int, default=12, help='how many runs of twenty rounds (12)')
@@ -533,7 +679,7 @@ def main():
     words = words.parse_args()
     with tempfile.TemporaryDirectory() as folder:
         checks = Checks(os.path.abspath(words.program), folder)
-        for part in (misuse, late, stuck, unknown, bounded, followed, alongside, lambda checks: faults(checks, words.seed),
+        for part in (misuse, late, stuck, forgets, unknown, bounded, several, followed, alongside, lambda checks: faults(checks, words.seed),
                      lambda checks: beside(checks, words.runs, words.seed)):
             began = time.monotonic()
             part(checks)

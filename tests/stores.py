@@ -1,20 +1,22 @@
 #!/usr/bin/env python3
 """stores.py PROGRAM [LARGE]: logs of real stores, by the collectors in collect/, against what the stores promise.
 
-H2, HSQLDB and Derby run in the process of their clients, by JDBC. PostgreSQL, MariaDB, Redis and etcd are started here, as a user that is not root, with all that they have in a temporary folder and on
-sockets in it, etcd on ports of this machine; where a package of Debian's is missing it is installed, and what cannot be had is passed over,
-with a note. Each way of a store promises a level, or none: each of its logs must keep that level, also where connections are cut, and some
-log must break a level above it, or where nothing is promised one of the weaker levels. Logs are judged by `audit --level`, and a long one of
-each sound way is too, of LARGE transactions; each must be decided. For each way a line says how many transactions and seconds there were.
-Last line: 'stores: N passed, M failed'."""
-import argparse, contextlib, functools, http.client, os, pwd, re, shutil, socket, subprocess, sys, tempfile, time
+H2, HSQLDB and Derby run in the process of their clients, by JDBC, and so do Firebird and Tarantool, by loads/. PostgreSQL, MariaDB, Redis and
+etcd are started here, as a user that is not root, with all that they have in a temporary folder and on sockets in it, etcd on ports of this
+machine; where a package of Debian's is missing it is installed, and what cannot be had is passed over, with a note. Each way of a store
+promises a level, or none: each of its logs must keep that level, also where connections are cut, and some log must break a level above it, or
+where nothing is promised one of the weaker levels. Logs are judged by `audit --level`, and a long one of each sound way is too, of LARGE
+transactions; each must be decided. For each way a line says how many transactions and seconds there were. Last line: 'stores: N passed, M
+failed'."""
+import argparse, contextlib, functools, glob, http.client, os, pwd, re, shutil, socket, subprocess, sys, tempfile, time
 import jdbc
 from levels import LEVELS
 
 TOP = os.path.dirname(os.path.dirname(os.path.abspath(__file__)))
+LOADS = os.path.join(TOP, 'tests', 'loads')
 PACKAGES = {'initdb': 'postgresql-15', 'psycopg2': 'python3-psycopg2', 'mariadbd': 'mariadb-server', 'pymysql': 'python3-pymysql',
             'redis-server': 'redis-server', 'etcd': 'etcd-server', 'javac': 'default-jdk-headless', 'h2.jar': 'libh2-java',
-            'hsqldb.jar': 'libhsqldb-java', 'derby.jar': 'libderby-java'}
+            'hsqldb.jar': 'libhsqldb-java', 'derby.jar': 'libderby-java', 'libEngine12.so': 'firebird3.0-server-core', 'tarantool': 'tarantool'}
 # Another test installs what it needs meanwhile, and of two that read the lists of packages at once one would fail.
 ALONE = 'flock', '--no-fork', '/var/lib/apt'
 # PostgreSQL starts for no root; nobody is somebody everywhere.
@@ -208,6 +210,23 @@ def embedded(jar, url):
         yield collector
 
 
+@contextlib.contextmanager
+def firebird():
+    installed(lambda: glob.glob('/usr/lib/*/firebird/*/plugins/libEngine12.so') or None, 'libEngine12.so')
+    with tempfile.TemporaryDirectory() as folder:
+        yield [sys.executable, os.path.join(LOADS, 'firebird.py'), folder]
+
+
+@contextlib.contextmanager
+def tarantool():
+    path = server('tarantool')
+
+    def collector(words, seed, transactions, keys, log):
+        with tempfile.TemporaryDirectory() as folder:
+            return run([path, os.path.join(LOADS, 'tarantool.lua'), *words, str(transactions), str(keys), str(seed), folder, log], timeout=600)
+    yield collector
+
+
 class Way:
     """Words for a collector; the level that each log must keep, or None; and the level that some log must break, or None."""
 
@@ -245,10 +264,19 @@ STORES = {
         Way('--level repeatable-read --snapshot-isolation on --kill 20', 'snapshot'),
         Way('--level repeatable-read --snapshot-isolation on --moments all', 'strict-snapshot'),
         Way('--level repeatable-read --snapshot-isolation off', 'prefix', 'snapshot'),
+        Way('--level repeatable-read --snapshot-isolation on --for-update', 'snapshot', 'serializable'),
+        Way('--level repeatable-read --snapshot-isolation off --for-update', 'read-committed', 'monotonic-atomic-view'),
         Way('--level read-committed', 'monotonic-atomic-view', 'read-atomic'), Way('--level read-uncommitted', None, 'read-committed')]),
     'Redis': (redis, [
         Way('', 'serializable'), Way('--kill 20', 'serializable'), Way('--moments all', 'strict-serializable'),
         Way('--level multi', 'monotonic-atomic-view', 'read-atomic')]),
+    'Firebird': (firebird, [
+        Way('', 'snapshot', 'serializable'), Way('--moments all', 'strict-snapshot'),
+        Way('--level table-stability --sessions 3 --keys 4 --pause 1', None, 'serializable'),
+        Way('--level reserved', 'serializable', part=5), Way('--level reserved --moments all', 'strict-serializable'),
+        Way('--level read-committed', 'monotonic-atomic-view', 'read-atomic'), Way('--level one-version', 'monotonic-atomic-view', 'read-atomic')]),
+    'Tarantool': (tarantool, [
+        Way('vinyl none', 'serializable'), Way('vinyl all', 'strict-serializable'), Way('memtx all', 'strict-serializable')]),
     'etcd': (etcd, [
         Way('', 'serializable', part=2), Way('--kill 20', 'serializable', part=2), Way('--moments all', 'strict-serializable'),
         Way('--level snapshot', 'snapshot', 'serializable', part=2), Way('--level snapshot --moments all', 'strict-snapshot'),
@@ -292,7 +320,7 @@ class Checks:
         """Runs of one way: where it promises a level small ones and a large one; then, until one breaks the level that some must break."""
         name, answers, is_broken = ' '.join([store, *way.words]), [], False
         sizes = [SMALL] * RUNS if way.kept else []
-        if way.kept and not {'--moments', 'moments=1'} & {*way.words}:
+        if way.kept and not {'--moments', 'moments=1', 'all'} & {*way.words}:
             sizes.insert(1, max(SMALL, self.large // way.part))
         for seed in range(TRIES):
             is_late = answers and self.late and time.monotonic() > self.late

@@ -2,19 +2,20 @@
 """writers.py PROGRAM: collect/recorder.go and collect/Recorder.java, against collect/recorder.py.
 
 First the lines that docs/COLLECTING.md has for each are compiled and run. Then all get the same script of events, whose clock is part of it: sessions that begin, leave and come back, outcomes of each kind, odd
-keys, writes that are refused, shares, files that are there already, and what a harness may do wrong. What comes of each event, the warnings
-and the logs must be the same, byte for byte. Then threads of each language use a small store at once, whose log PROGRAM must find to be
-serializable, and so must their rounds be, by tools/follow.py; and a log of which each language wrote a share must fit together. A language whose compiler is not installed is passed over,
+keys, labels, writes that are refused, shares, files that are there already, and what a harness may do wrong. What comes of each event, the
+warnings, the logs and the labels must be the same, byte for byte. Then threads of each language use a small store at once, whose log PROGRAM must find to be
+serializable, and so must their rounds be, by tools/follow.py; labels must stand beside both, and be those of their transactions; and a log of which each language wrote a share must fit together. A language whose compiler is not installed is passed over,
 with a line that says so. Last line: 'writers: N passed, M failed'.
 
 The events, one a line: open OUT all|none K N yes|no (N 0: no share; whether OUT may be replaced), clock N, name KEY, text UTF-16 KEY,
-session S, begin S, read S KEY SEEN, before S KEY SEEN W, write S KEY W, refused S W, commit S, abort S, unknown S, leave S, close, load OUT
-THREADS TRANSACTIONS, rounds DIR THREADS TRANSACTIONS EVERY. A KEY is hexadecimal, or - for none; SEEN is none, @W, or text: and hexadecimal."""
+session S, begin S [LABEL], read S KEY SEEN, before S KEY SEEN W, write S KEY W, refused S W, commit S, abort S, unknown S, leave S, close, load OUT
+THREADS TRANSACTIONS, rounds DIR THREADS TRANSACTIONS EVERY. A KEY is hexadecimal, or - for none, and so is a LABEL; SEEN is none, @W, or text: and hexadecimal."""
 import contextlib, io, os, random, re, shutil, subprocess, sys, tempfile
 
 HERE = os.path.dirname(os.path.abspath(__file__))
 COLLECT, WRITERS = os.path.join(os.path.dirname(HERE), 'collect'), os.path.join(HERE, 'writers')
-sys.path.insert(0, COLLECT)
+sys.path[:0] = [COLLECT, os.path.join(os.path.dirname(HERE), 'tools'), HERE]
+import reference, scripts
 from recorder import Misuse, Recorder, name_of
 
 SCRIPTS, EVENTS = 150, 60
@@ -22,6 +23,9 @@ KEYS = [b'x', b'stock/7', b'', b' ', b'\xff', b'hex:ff', b'hex:', b'sha:', b'\xc
 TEXTS = ['x', 'ö', '\ud800', '\udfff x', '\U0001f600', 'a' * 40 + '\ud800']
 # What a store may give back, and what no value begins with.
 SEEN = [b'17', b'17 red', b'0', b'18446744073709551615', b'18446744073709551616', b'', b'red 17', b'-1', b'17red', b' 17', b'1001 x y']
+
+# What a label may be, and what none is.
+LABELS = ['transfer, thread 4', 'ö \u20ac \U0001f600', ' x ', '1 1 x', '', '  ', 'a\nb', 'a\r', '\x1b[1m', '\xa0', 'a\u2028b', 'a\u200bb', '\ue000', '\u0378']
 
 
 def hexadecimal(text):
@@ -54,7 +58,8 @@ class InPython:
         elif kind == 'session':
             self.sessions[words[0]] = self.run.session()
         elif kind == 'begin':
-            self.transactions[words[0]] = self.sessions[words[0]].transaction()
+            label = {'label': key(1).decode()} if words[1:] else {}
+            self.transactions[words[0]] = self.sessions[words[0]].transaction(**label)
             return self.transactions[words[0]].name
         elif kind == 'read':
             txn.read(key(1), self.seen(words[2]))
@@ -184,7 +189,8 @@ def script(seed, out):
         elif kind == 'refused':
             yield 'refused %s %s' % (name, known)
         else:
-            yield '%s %s' % (kind, name)
+            label = hexadecimal(dice.choice(LABELS[:dice.choice((4, 4, len(LABELS)))]).encode()) if kind == 'begin' and dice.random() < 0.5 else ''
+            yield ('%s %s %s' % (kind, name, label)).rstrip()
             mine[name] = [] if kind == 'begin' else None
             if kind == 'leave' and dice.random() < 0.9:
                 yield 'session ' + name
@@ -262,6 +268,17 @@ class Checks:
             self.expect(logs[0] == logs[1], '%s: log %s: %r' % (language, name, logs))
         print('writers: %s: %d events, of which %d are misuse, %d logs' % (language, len(lines), wanted.count('misuse'), len(names)))
 
+    def labels(self, out, name):
+        """Each label says with which key its transaction begins, behind a fence."""
+        labels, found, wrong = scripts.labels_of(out, is_needed=True), 0, []
+        for session, its in reference.read_log(self.text(out)):
+            for place, txn in enumerate(its, 1):
+                keys, label = [key for _, key, _ in txn.ops if not str(key).startswith('fence/')], labels.pop('%d.%d' % (session, place), None)
+                found += label is not None
+                if label != ('first %s' % keys[0] if keys and session != 65535 else None):
+                    wrong.append((session, place, label))
+        self.expect(found and not wrong and not labels, '%s: %d labels, wrong %s, of nothing %s' % (name, found, wrong[:3], labels))
+
     def load(self, language, words):
         """Threads at once: what they write is serializable, and strictly so."""
         for number in range(3):
@@ -269,6 +286,7 @@ class Checks:
             self.expect(self.told(words, ['load %s 4 60' % out]) == ['ok'], '%s: no load' % language)
             ran = subprocess.run([self.program, 'check', '--strategy', 'forced', out], stdout=subprocess.PIPE)
             self.expect(ran.returncode == 0 and self.text(out).count(b'\nbegin ') == 240, '%s: load %d: %s' % (language, number, ran.stdout[:100]))
+            self.labels(out, '%s: load' % language)
 
     def rounds(self, language, words):
         """Rounds of threads at once, of a store that loses answers."""
@@ -278,7 +296,10 @@ class Checks:
         for level in ('strict-serializable', 'snapshot'):
             ran = subprocess.run([sys.executable, '-B', follow, out, '--level', level, '--program', self.program], stdout=subprocess.PIPE, stderr=subprocess.PIPE, timeout=600)
             self.expect(ran.returncode == 0 and ran.stdout.count(b'\n') >= 8, '%s: rounds: %s' % (language, ran))
-        texts = [self.text(os.path.join(out, name)) for name in os.listdir(out)]
+        logs = [os.path.join(out, name) for name in os.listdir(out) if name.endswith('.log')]
+        for log in logs:
+            self.labels(log, '%s: %s' % (language, os.path.basename(log)))
+        texts = [self.text(log) for log in logs]
         self.expect(any(b'\nunknown\n' in text for text in texts), '%s: rounds: no unknown outcome' % language)
 
     def shares(self, started):

@@ -7,11 +7,14 @@ keeps the level exactly if each round does. That takes for granted what is check
 what the one before it left, that no identity was written twice, and at strict levels that no transaction of a round ended before one of
 an earlier round began.
 
-It ends when the run has ended (its recorder writes DIR/end), or with --once when the rounds that are there are judged. Statuses: 0, each
+It ends when the run has ended (its recorder writes DIR/end) or died, or with --once when the rounds that are there are judged. Statuses: 0, each
 round keeps the level; 1, one does not; 2, one is refused, or is no round of this run; 3, some are unknown; 70, something around is wrong."""
-import argparse, array, bisect, collections, concurrent.futures, itertools, json, os, re, subprocess, sys, time
-import scripts
+import argparse, array, bisect, collections, concurrent.futures, contextlib, itertools, json, os, re, subprocess, sys, time
+import scripts, told
 from scripts import AROUND, NOT_SERIALIZABLE, REFUSED, UNKNOWN, Stop
+
+sys.path.insert(0, os.path.join(os.path.dirname(os.path.dirname(os.path.realpath(__file__))), 'collect'))
+from recorder import is_held
 
 LEVELS = ('serializable', 'strict-serializable', 'snapshot', 'strict-snapshot', 'prefix')
 KEEPER, FENCE = b'65535', b'fence/'
@@ -211,7 +214,7 @@ class Follower:
                 number += 1
             elif there and there[-1] > number:
                 raise Stop('round %06d is missing' % number, REFUSED)
-            elif self.given.once or os.path.exists(self.path('end')):
+            elif self.given.once or self.has_died() or os.path.exists(self.path('end')):
                 if not self.has_come(number):
                     return
             else:
@@ -221,8 +224,16 @@ class Follower:
         """Whether a round came between looking for it and looking whether the run has ended."""
         return os.path.exists(self.path(number or 1))
 
+    def has_died(self):
+        """Whether the recorder ended and wrote no end. It holds a lock while it goes on, which names its machine."""
+        path = self.path('1.lock')
+        with contextlib.suppress(OSError):
+            with open(path) as file:
+                return file.read() == os.uname().nodename and not is_held(path)
+        return False
+
     def path(self, number):
-        return os.path.join(self.given.folder, number if number == 'end' else '%06d.log' % number)
+        return os.path.join(self.given.folder, '%06d.log' % number if isinstance(number, int) else number)
 
     def follow(self):
         waiting = collections.deque()
@@ -237,6 +248,9 @@ class Follower:
                     time.sleep(PAUSE)
             while waiting:
                 self.tell(*waiting.popleft(), len(waiting))
+        if self.has_died() and not self.given.once and not os.path.exists(self.path('end')):
+            raise Stop('the recorder of %s died or gave up, and this is judged up to round %06d: tools/mend.py makes a log of what is behind it' % (
+                self.given.folder, self.judged))
         if not self.judged:
             raise Stop('there is no round in %s' % self.given.folder)
         return UNKNOWN if self.unknown else 0
@@ -270,15 +284,18 @@ class Follower:
         # the one before it is beside no fault any more
         if self.given.forget and verdict == self.last == 'kept':
             os.remove(self.path(number - 1))
+            with contextlib.suppress(FileNotFoundError):
+                os.remove(self.path(number - 1) + '.labels')
         self.last = verdict
         self.show(waiting)
 
     def fault(self, number, path):
         words = [self.given.program, 'audit', '--level', self.given.level, '--explain', *self.given.words, path]
-        sys.stdout.flush()
-        subprocess.run(words, stdin=subprocess.DEVNULL)
+        ran, labels = subprocess.run(words, stdin=subprocess.DEVNULL, stdout=subprocess.PIPE), scripts.labels_of(path)
+        for line in ran.stdout.decode().splitlines():
+            self.say(told.labelled(line, labels))
         for it in itertools.islice(self.run.older(number, path), 3):
-            self.say(it)
+            self.say(told.labelled(it, labels))
         self.on_fault(path)
         raise Stop('%s does not keep the level: it stays, and so do the rounds beside it' % path, NOT_SERIALIZABLE)
 

@@ -2,7 +2,7 @@
 """package.py PROGRAM KIT FOLDER: makes a Debian package and a tarball of a built program, with sums, in a folder.
 
 Both have the program, its manual page, the scripts that need the program alone, what collects logs, the examples and the pages, as files of the
-last commit, a README.md that speaks of them alone, and PROVED, which says what was proved by which kit; KIT is that kit's version, or empty where nothing was proved or it is not
+last commit, where pages speak of them alone, and PROVED, which says what was proved by which kit; KIT is that kit's version, or empty where nothing was proved or it is not
 known. All moments in them are those of the commit, or of SOURCE_DATE_EPOCH, so that the same program and commit have the same bytes. ./package
 calls it."""
 import gzip, hashlib, io, os, re, subprocess, sys, tarfile
@@ -13,13 +13,13 @@ TOP = os.path.dirname(os.path.dirname(os.path.abspath(__file__)))
 NAME, ARCHITECTURE = 'cobra-poly', 'amd64'
 # What stands beside the program, below HOME: as in the repository, so that links between pages hold.
 FILES = ('README.md', 'CHANGELOG.md', 'docs', 'examples', 'collect', *('tools/' + name for name in (
-    'import.py', 'lists.py', 'back.py', 'picture.py', 'picture.css', 'picture.js', 'lanes.py', 'scripts.py', 'told.py')))
+    'import.py', 'lists.py', 'back.py', 'picture.py', 'picture.css', 'picture.js', 'lanes.py', 'scripts.py', 'told.py', 'follow.py', 'mend.py')))
 HOME = 'share/cobra-poly'
 # Of a page, what the repository alone has, and what a package has in its place; and calls and links that a package has under other names.
 OF_REPOSITORY, OF_PACKAGE = re.compile(r'(?s)(?m:^)<!-- repository -->.*?<!-- end -->\n|<!-- repository -->.*?<!-- end -->'), re.compile(r'<!-- package: (.*?) -->', re.S)
 CALLED, LINKED = re.compile(r'\./run (?=[a-z-])'), re.compile(r'\[([^]]*)\]\(([^)#:]+)(#[^)]*)?\)')
-COMMANDS = {'cobra_poly-import': 'tools/import.py', 'cobra_poly-picture': 'tools/picture.py',
-            'cobra_poly-join': 'collect/join.py'}
+COMMANDS = {'cobra_poly-import': 'tools/import.py', 'cobra_poly-picture': 'tools/picture.py', 'cobra_poly-told': 'tools/told.py',
+            'cobra_poly-follow': 'tools/follow.py', 'cobra_poly-mend': 'tools/mend.py', 'cobra_poly-join': 'collect/join.py'}
 CONTROL = '''Package: %(name)s
 Version: %(version)s
 Architecture: %(architecture)s
@@ -114,12 +114,12 @@ def names():
     return walked + [it for it in FILES if os.path.isfile(os.path.join(TOP, it))]
 
 
-def of_package(page, known):
-    """README.md for who has a package alone: no call of what the repository has, and links to files that are known."""
+def of_package(page, at, known):
+    """A page in this folder, for who has a package alone: no call of what the repository has, and links to files that are known."""
     page = CALLED.sub('cobra_poly ', OF_PACKAGE.sub(r'\1', OF_REPOSITORY.sub('', page)))
     for name, leads in COMMANDS.items():
         page = page.replace(leads, name)
-    return LINKED.sub(lambda link: link[0] if link[2] in known else link[1], re.sub('\n{3,}', '\n\n', page))
+    return LINKED.sub(lambda link: link[0] if os.path.normpath(os.path.join(at, link[2])) in known else link[1], re.sub('\n{3,}', '\n\n', page))
 
 
 def content(path):
@@ -138,7 +138,9 @@ class Tree:
         known = {*names(), 'PROVED'}
         for name in names():
             path = os.path.join(TOP, name)
-            data = of_package(content(path).decode(), known).encode() if name == 'README.md' else content(path)
+            data = content(path)
+            if name.endswith('.md') and name != 'CHANGELOG.md':
+                data = of_package(data.decode(), os.path.dirname(name), known).encode()
             self.files[HOME + '/' + name] = (data, 0o755 if os.access(path, os.X_OK) else 0o644)
         is_proved = version.endswith(', proved)') and kit
         changed = '\nThese were not the sources of that commit alone: the + says that some were changed since.' if '+, ' in version else ''

@@ -4,8 +4,9 @@ import json, os, re, subprocess, sys, traceback
 TOP = os.path.dirname(os.path.dirname(os.path.realpath(__file__)))
 RUN = os.path.join(TOP, 'run')
 if not os.path.exists(RUN):
-    # as a package has it
+    # as a package has it, else what is on the path
     RUN = os.path.normpath(os.path.join(TOP, '..', '..', 'bin', 'cobra_poly'))
+    RUN = RUN if os.path.exists(RUN) else 'cobra_poly'
 # What goes wrong around the program has this status; 0 to 5 are the program's.
 AROUND = 70
 SERIALIZABLE, NOT_SERIALIZABLE, REFUSED, UNKNOWN, OUT_OF_MEMORY, DEVICE_FAILED = range(6)
@@ -36,6 +37,10 @@ def run(main):
     except KeyboardInterrupt:
         say('interrupted')
         sys.exit(130)
+    except BrokenPipeError:
+        # whoever reads, as head, has read enough
+        os.dup2(os.open(os.devnull, os.O_WRONLY), 1)
+        sys.exit(AROUND)
     except (OSError, UnicodeDecodeError) as fault:
         name = getattr(fault, 'filename', None)
         say('%s: %s' % (name, fault.strerror) if name else fault)

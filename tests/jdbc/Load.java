@@ -101,7 +101,7 @@ public final class Load {
                 ends.add(pool.submit(() -> {
                     try (Jdbc client = new Jdbc(run, () -> connect(url, level))) {
                         while (turns.getAndIncrement() < how.get("transactions"))
-                            client.transaction((connection, txn) -> make(connection, txn, dice, how));
+                            client.transaction("random", (connection, txn) -> make(connection, txn, dice, how));
                     }
                     return null;
                 }));

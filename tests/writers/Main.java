@@ -67,7 +67,7 @@ public final class Main {
                 SESSIONS.put(words[1], run.session());
                 return "ok";
             case "begin":
-                TRANSACTIONS.put(words[1], SESSIONS.get(words[1]).begin());
+                TRANSACTIONS.put(words[1], SESSIONS.get(words[1]).begin(words.length < 3 ? null : new String(bytes(words[2]), java.nio.charset.StandardCharsets.UTF_8)));
                 return TRANSACTIONS.get(words[1]).name();
             case "leave":
                 SESSIONS.get(words[1]).close();
@@ -155,14 +155,15 @@ public final class Main {
     }
 
     private static void transaction(Recorder.Session session, Random dice, Map<String, String> values) {
-        Recorder.Transaction txn = session.begin();
+        String key = "k" + dice.nextInt(5);
+        Recorder.Transaction txn = session.begin("first " + key);
         Thread.yield();
         synchronized (values) {
             for (int operation = 0; operation < 3; operation++) {
-                String key = "k" + dice.nextInt(5);
                 txn.read(key, Recorder.identity(values.get(key)));
                 if (dice.nextBoolean())
                     values.put(key, txn.write(key) + " red");
+                key = "k" + dice.nextInt(5);
             }
         }
         if (dice.nextInt(20) == 0)

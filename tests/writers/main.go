@@ -69,7 +69,11 @@ func do(words []string) string {
 	case "session":
 		sessions[words[1]] = run.Session()
 	case "begin":
-		transactions[words[1]] = sessions[words[1]].Begin()
+		labels := []string{}
+		for _, label := range words[2:] {
+			labels = append(labels, key(label))
+		}
+		transactions[words[1]] = sessions[words[1]].Begin(labels...)
 		return transactions[words[1]].Name
 	case "read":
 		transactions[words[1]].Read(key(words[2]), seen(words[3]))
@@ -154,16 +158,17 @@ func load(path string, threads, count int, options recorder.Options, small store
 			session := its.Session()
 			defer session.Leave()
 			for turn := 0; turn < count; turn++ {
-				txn := session.Begin()
+				key := fmt.Sprint("k", dice.Intn(5))
+				txn := session.Begin("first " + key)
 				time.Sleep(time.Duration(dice.Intn(200)) * time.Microsecond)
 				lock.Lock()
 				for operation := 0; operation < 3; operation++ {
-					key := fmt.Sprint("k", dice.Intn(5))
 					value, found := values[key]
 					txn.Read(key, recorder.Identity(value, found))
 					if dice.Intn(2) == 0 {
 						values[key] = fmt.Sprintf("%d red", txn.Write(key))
 					}
+					key = fmt.Sprint("k", dice.Intn(5))
 				}
 				lock.Unlock()
 				if dice.Intn(20) == 0 {
