@@ -2,6 +2,7 @@
 
 ghost use Rattle.std.specs.Prelude.{◌≡◌, true, IfOk, IfErr};
 ghost use Rattle.cobra_calls.specs.Calls.{Reads, is_plain, IsDone, IsEnded};
+ghost use Rattle.cobra_calls.specs.Endings.{output_failures};
 
 use crate::ending::Ending;
 use crate::explains::explain_log;
@@ -40,6 +41,7 @@ pub fn run_on<R: Threads + Wait + Clock + Sync, W: Outlet>(
         (W.bytes sink.old) (W.bytes sink.new)) }
     ensures ended { IfErr result (IsEnded request.now (record { log = log.now; named = named.now })
         (W.bytes sink.old) (W.bytes sink.new)) }
+    ensures count { W.failures sink.new ≡ output_failures (W.failures sink.old) result }
 {
     let options = Options {
         plain: request.plain,

@@ -1,12 +1,13 @@
 -- What the matches of a command's words ask for: each field of a request, by the rows that `clap`
 -- found for the command.
-use Rattle.std.specs.Prelude.{◌≡◌, ◌⊎◌, ◌<◌, ◌^◌, ℕ, Bool, true, false, if◌then◌else◌, List, codes}
+use Rattle.std.specs.Prelude.{◌≡◌, ◌≢◌, ◌⊎◌, ◌<◌, ◌≤◌, ◌^◌, ℕ, Bool, true, false, if◌then◌else◌, List, codes}
 use Rattle.std.specs.Prelude.{Option, None, Some, option_map, unwrap_or}
 use Rattle.std.specs.Option.{option_map_or}
 use Rattle.std.specs.Str.{bytes_eq}
 use Rattle.std.specs.Str.Parse.{IsNumeral, digits_value, without_leading_plus}
 use Rattle.clap.specs.declared.parser.matches.ArgMatches.{ArgMatches}
-use Rattle.clap.specs.Simple.{subcommand_rows_of}
+use Rattle.clap.specs.Simple.{App, HasMatchesOf, subcommand_rows_of}
+use Rattle.clap.specs.Takes.{takes}
 use Rattle.clap.specs.Walk.{Row, Text, first_of, one_of}
 use Rattle.call_options.specs.declared.format.Format.{Format}
 use Rattle.call_options.specs.declared.format.Format.TheVariants as format
@@ -20,6 +21,8 @@ use Rattle.cobra_words.specs.declared.request.Request.{Request}
 use Rattle.cobra_words.specs.declared.request.AuditWords.{AuditWords}
 use Rattle.cobra_words.specs.declared.request.Command.{Command}
 use Rattle.cobra_words.specs.declared.request.Command.TheVariants as command
+use Rattle.cobra_words.specs.declared.request.Words.{Words}
+use Rattle.cobra_words.specs.declared.request.Words.TheVariants.{Request as Asked, Shown}
 
 -- ---- one value
 
@@ -140,3 +143,8 @@ pub record IsAskedBy (m : ArgMatches) (r : Request) : Type 0 where
   pub rows : List Row
   pub entered : subcommand_rows_of m ≡ Some (name, rows)
   pub request : IsRequest name rows r
+
+-- they ask for nothing whose numbers are in their ranges
+abbrev pub AsksNothing : ArgMatches → Type 0
+AsksNothing m = (r : Request) → IsAskedBy m r → 0 < r.workers → r.workers ≤ 16
+    → 0 < r.budget → r.budget ≤ 1000000 → ⊥

@@ -2,9 +2,12 @@
 
 ghost use Rattle.std.specs.Prelude.{IfOk};
 ghost use Rattle.clap.specs.Simple.{App};
+ghost use Rattle.clap.specs.declared.builder.value_parser.ValueParser.{ValueParser};
 ghost use Rattle.cobra_words.specs.Commands.{verify_app, encode_app, decode_app, refute_app};
 ghost use Rattle.cobra_words.specs.Commands.{solve_app, stats_app, split_app, with_workers};
-ghost use Rattle.cobra_words.specs.Commands.{with_formula, HasApp};
+ghost use Rattle.cobra_words.specs.Commands.{with_formula, with_search, with_report, with_audit};
+ghost use Rattle.cobra_words.specs.Commands.{check_app, explain_app, audit_app, Lists, program_app};
+ghost use Rattle.cobra_words.specs.Commands.{HasApp};
 
 use crate::{answers, options};
 use call_options::{AUDIT_DEFAULTS, CHECK_DEFAULTS, SearchDefaults};
@@ -44,7 +47,10 @@ fn with_search<'a>(
     command: Command<'a>,
     budget: &'a str,
     defaults: SearchDefaults,
-) -> Result<Command<'a>, AllocError> {
+) -> Result<Command<'a>, AllocError>
+    ensures app { (a : App) → HasApp a command.entry → IfOk result (λ c. (p : ValueParser)
+        × HasApp (with_search defaults.entry.strategy.now defaults.entry.budget.now p a) c) }
+{
     let command = command
         .arg(options::strategy(alloc, defaults.strategy))?
         .arg(options::budget(alloc, budget, defaults.budget))?;
@@ -90,7 +96,9 @@ fn solve<'a>(alloc: Global) -> Result<Command<'a>, AllocError>
     with_formula(alloc, command)
 }
 
-fn check<'a>(alloc: Global) -> Result<Command<'a>, AllocError> {
+fn check<'a>(alloc: Global) -> Result<Command<'a>, AllocError>
+    ensures app { IfOk result (λ c. (p : ValueParser) × HasApp (check_app p) c) }
+{
     let command = Command::new(alloc, "check")
         .about("Decide whether some serial order explains a log")
         .after_help(answers::CHECK);
@@ -116,7 +124,9 @@ fn stats<'a>(alloc: Global) -> Result<Command<'a>, AllocError>
     with_formula(alloc, command)
 }
 
-fn explain<'a>(alloc: Global) -> Result<Command<'a>, AllocError> {
+fn explain<'a>(alloc: Global) -> Result<Command<'a>, AllocError>
+    ensures app { IfOk result (λ c. (p q s : ValueParser) × HasApp (explain_app p q s) c) }
+{
     let command = Command::new(alloc, "explain")
         .about("Say why no serial order explains a log")
         .after_help(answers::EXPLAIN)
@@ -126,7 +136,10 @@ fn explain<'a>(alloc: Global) -> Result<Command<'a>, AllocError> {
 }
 
 /// Such a command that reports.
-fn with_report<'a>(alloc: Global, command: Command<'a>) -> Result<Command<'a>, AllocError> {
+fn with_report<'a>(alloc: Global, command: Command<'a>) -> Result<Command<'a>, AllocError>
+    ensures app { (a : App) → HasApp a command.entry
+        → IfOk result (λ c. (p : ValueParser) × HasApp (with_report p a) c) }
+{
     command
         .arg(options::report_format(alloc))?
         .arg(options::quiet(alloc))?
@@ -134,10 +147,12 @@ fn with_report<'a>(alloc: Global, command: Command<'a>) -> Result<Command<'a>, A
         .arg(options::progress(alloc))
 }
 
-fn audit<'a>(alloc: Global) -> Result<Command<'a>, AllocError> {
-    let command = Command::new(alloc, "audit")
-        .about("Decide whether some serial order explains a log of any length")
-        .after_help(answers::AUDIT)
+/// Such a command with what is asked of `audit` alone.
+fn with_audit<'a>(alloc: Global, command: Command<'a>) -> Result<Command<'a>, AllocError>
+    ensures app { (a : App) → HasApp a command.entry
+        → IfOk result (λ c. (p : ValueParser) × HasApp (with_audit p a) c) }
+{
+    command
         .arg(options::explain(alloc))?
         .arg(options::faults(alloc))?
         .arg(options::part(alloc))?
@@ -145,8 +160,16 @@ fn audit<'a>(alloc: Global) -> Result<Command<'a>, AllocError> {
         .arg(options::level(alloc))?
         .arg(options::only(alloc))?
         .arg(options::no_moments(alloc))?
-        .arg(options::at_least(alloc))?;
-    let command = with_report(alloc, command)?;
+        .arg(options::at_least(alloc))
+}
+
+fn audit<'a>(alloc: Global) -> Result<Command<'a>, AllocError>
+    ensures app { IfOk result (λ c. (p q s : ValueParser) × HasApp (audit_app p q s) c) }
+{
+    let command = Command::new(alloc, "audit")
+        .about("Decide whether some serial order explains a log of any length")
+        .after_help(answers::AUDIT);
+    let command = with_report(alloc, with_audit(alloc, command)?)?;
     with_search(alloc, command, CUBES_AND_CONFLICTS, AUDIT_DEFAULTS)
 }
 
@@ -160,7 +183,9 @@ fn split<'a>(alloc: Global) -> Result<Command<'a>, AllocError>
 }
 
 /// The program, with its commands.
-pub fn program<'a>(alloc: Global) -> Result<Command<'a>, AllocError> {
+pub fn program<'a>(alloc: Global) -> Result<Command<'a>, AllocError>
+    ensures app { IfOk result (λ c. (l : Lists) × HasApp (program_app l) c) }
+{
     Command::new(alloc, "cobra_poly")
         .about(
             "Decides by a formula whether some serial order explains what the clients of a store saw",

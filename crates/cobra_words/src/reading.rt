@@ -1,11 +1,13 @@
 //! From words to what they ask for.
 
-ghost use Rattle.std.specs.Prelude.{◌≡◌, ◌<◌, ◌≤◌, codes, IfSome, IsSome};
+ghost use Rattle.std.specs.Prelude.{◌<◌, ◌≤◌, codes};
+ghost use Rattle.std.specs.Prelude.{IfSome, IfNone, IsSome};
 ghost use Rattle.clap.specs.Matches.{found_of};
 ghost use Rattle.clap.specs.Walk.{rows_of};
 ghost use Rattle.cobra_words.specs.declared.request.Command.{Command};
 ghost use Rattle.cobra_words.specs.declared.request.Request.{Request};
 ghost use Rattle.cobra_words.specs.Asked.{AreAuditWords, IsCommand, IsRequest, IsAskedBy};
+ghost use Rattle.cobra_words.specs.Asked.{AsksNothing};
 
 use crate::commands::program;
 use crate::request::{AuditWords, Command, Request, Words};
@@ -100,6 +102,7 @@ fn request_at<'a>(name: &str, matches: &ArgMatches<'a>) -> Option<Request<'a>>
 
 fn request_of<'a>(program: &ArgMatches<'a>) -> Option<Request<'a>>
     ensures request { IfSome result (IsAskedBy program.now) }
+    ensures known { IfNone result (AsksNothing program.now) }
 {
     let (name, matches) = program.subcommand()?;
     request_at(name, matches)
