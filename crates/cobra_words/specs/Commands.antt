@@ -165,3 +165,24 @@ program_app l = with_command (with_command (with_command (with_command (with_com
     refute_app) solve_app) (check_app l.check_strategies)) verify_app) stats_app)
     (explain_app l.explain_forms l.explain_levels l.explain_strategies))
     (audit_app l.audit_levels l.audit_forms l.audit_strategies)) split_app
+
+-- a command walks so with some lists
+pub record HasListApp (app : ValueParser → App) (c : Command) : Type 0 where
+  pub parser : ValueParser
+  pub has : HasApp (app parser) c
+
+pub record IsExplain (c : Command) : Type 0 where
+  pub forms : ValueParser
+  pub levels : ValueParser
+  pub strategies : ValueParser
+  pub has : HasApp (explain_app forms levels strategies) c
+
+pub record IsAudit (c : Command) : Type 0 where
+  pub levels : ValueParser
+  pub forms : ValueParser
+  pub strategies : ValueParser
+  pub has : HasApp (audit_app levels forms strategies) c
+
+pub record IsProgram (c : Command) : Type 0 where
+  pub lists : Lists
+  pub has : HasApp (program_app lists) c

@@ -2,12 +2,11 @@
 
 ghost use Rattle.std.specs.Prelude.{IfOk};
 ghost use Rattle.clap.specs.Simple.{App};
-ghost use Rattle.clap.specs.declared.builder.value_parser.ValueParser.{ValueParser};
 ghost use Rattle.cobra_words.specs.Commands.{verify_app, encode_app, decode_app, refute_app};
 ghost use Rattle.cobra_words.specs.Commands.{solve_app, stats_app, split_app, with_workers};
 ghost use Rattle.cobra_words.specs.Commands.{with_formula, with_search, with_report, with_audit};
-ghost use Rattle.cobra_words.specs.Commands.{check_app, explain_app, audit_app, Lists, program_app};
-ghost use Rattle.cobra_words.specs.Commands.{HasApp};
+ghost use Rattle.cobra_words.specs.Commands.{check_app, program_head, HasApp, HasListApp, IsExplain};
+ghost use Rattle.cobra_words.specs.Commands.{IsAudit, IsProgram};
 
 use crate::{answers, options};
 use call_options::{AUDIT_DEFAULTS, CHECK_DEFAULTS, SearchDefaults};
@@ -48,8 +47,8 @@ fn with_search<'a>(
     budget: &'a str,
     defaults: SearchDefaults,
 ) -> Result<Command<'a>, AllocError>
-    ensures app { (a : App) → HasApp a command.entry → IfOk result (λ c. (p : ValueParser)
-        × HasApp (with_search defaults.entry.strategy.now defaults.entry.budget.now p a) c) }
+    ensures app { (a : App) → HasApp a command.entry → IfOk result (HasListApp (λ p.
+        with_search defaults.strategy.now defaults.budget.now p a)) }
 {
     let command = command
         .arg(options::strategy(alloc, defaults.strategy))?
@@ -97,7 +96,7 @@ fn solve<'a>(alloc: Global) -> Result<Command<'a>, AllocError>
 }
 
 fn check<'a>(alloc: Global) -> Result<Command<'a>, AllocError>
-    ensures app { IfOk result (λ c. (p : ValueParser) × HasApp (check_app p) c) }
+    ensures app { IfOk result (HasListApp check_app) }
 {
     let command = Command::new(alloc, "check")
         .about("Decide whether some serial order explains a log")
@@ -125,7 +124,7 @@ fn stats<'a>(alloc: Global) -> Result<Command<'a>, AllocError>
 }
 
 fn explain<'a>(alloc: Global) -> Result<Command<'a>, AllocError>
-    ensures app { IfOk result (λ c. (p q s : ValueParser) × HasApp (explain_app p q s) c) }
+    ensures app { IfOk result IsExplain }
 {
     let command = Command::new(alloc, "explain")
         .about("Say why no serial order explains a log")
@@ -138,7 +137,7 @@ fn explain<'a>(alloc: Global) -> Result<Command<'a>, AllocError>
 /// Such a command that reports.
 fn with_report<'a>(alloc: Global, command: Command<'a>) -> Result<Command<'a>, AllocError>
     ensures app { (a : App) → HasApp a command.entry
-        → IfOk result (λ c. (p : ValueParser) × HasApp (with_report p a) c) }
+        → IfOk result (HasListApp (λ p. with_report p a)) }
 {
     command
         .arg(options::report_format(alloc))?
@@ -150,7 +149,7 @@ fn with_report<'a>(alloc: Global, command: Command<'a>) -> Result<Command<'a>, A
 /// Such a command with what is asked of `audit` alone.
 fn with_audit<'a>(alloc: Global, command: Command<'a>) -> Result<Command<'a>, AllocError>
     ensures app { (a : App) → HasApp a command.entry
-        → IfOk result (λ c. (p : ValueParser) × HasApp (with_audit p a) c) }
+        → IfOk result (HasListApp (λ p. with_audit p a)) }
 {
     command
         .arg(options::explain(alloc))?
@@ -164,7 +163,7 @@ fn with_audit<'a>(alloc: Global, command: Command<'a>) -> Result<Command<'a>, Al
 }
 
 fn audit<'a>(alloc: Global) -> Result<Command<'a>, AllocError>
-    ensures app { IfOk result (λ c. (p q s : ValueParser) × HasApp (audit_app p q s) c) }
+    ensures app { IfOk result IsAudit }
 {
     let command = Command::new(alloc, "audit")
         .about("Decide whether some serial order explains a log of any length")
@@ -182,9 +181,9 @@ fn split<'a>(alloc: Global) -> Result<Command<'a>, AllocError>
     with_workers(alloc, command)
 }
 
-/// The program, with its commands.
-pub fn program<'a>(alloc: Global) -> Result<Command<'a>, AllocError>
-    ensures app { IfOk result (λ c. (l : Lists) × HasApp (program_app l) c) }
+/// The program, without its commands.
+fn program_head<'a>(alloc: Global) -> Command<'a>
+    ensures app { HasApp program_head result }
 {
     Command::new(alloc, "cobra_poly")
         .about(
@@ -192,6 +191,13 @@ pub fn program<'a>(alloc: Global) -> Result<Command<'a>, AllocError>
         )
         .version(VERSION)
         .subcommand_required(true)
+}
+
+/// The program, with its commands.
+pub fn program<'a>(alloc: Global) -> Result<Command<'a>, AllocError>
+    ensures app { IfOk result IsProgram }
+{
+    program_head(alloc)
         .subcommand(encode(alloc)?)?
         .subcommand(decode(alloc)?)?
         .subcommand(refute(alloc)?)?

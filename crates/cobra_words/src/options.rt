@@ -189,9 +189,8 @@ pub fn level<'a>(alloc: Global) -> Arg<'a>
 pub fn level_of_explain<'a>(alloc: Global) -> Result<Arg<'a>, AllocError>
     ensures rule { IfOk result (HasListRule level_of_explain) }
 {
-    valued(alloc, "level", "LEVEL")
+    level(alloc)
         .help("Say what audit --explain says of this promise")
-        .value_parser(ValueParser::Names(&LEVELS))
         .conflicts_with("format")
 }
 
