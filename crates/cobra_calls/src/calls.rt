@@ -28,6 +28,7 @@ pub fn is_plain(command: &Command<'_>) -> bool
 
 /// Runs a command on the log, and on the file that the request names beside it: what it answers is
 /// put into the sink.
+#[tactic(auto, using(crate::proofs::Failures::by_refusal))]
 pub fn run_on<R: Threads + Wait + Clock + Sync, W: Outlet>(
     rt: &R,
     alloc: Global,

@@ -1,4 +1,4 @@
-use Rattle.std.proofs.Common.{ℕ, List, Option, refl, sym, subst, inl, inr}
+use Rattle.std.proofs.Common.{◌≡◌, ℕ, List, Option, refl, sym, subst, inl, inr, ◌∙◌}
 use Rattle.std.specs.declared.time.Instant.{Instant}
 use Rattle.audit_command.specs.declared.options.AuditOptions.{AuditOptions}
 use Rattle.audit_command.specs.declared.outcome.Refusal.{Refusal}
@@ -12,8 +12,27 @@ use Rattle.cobra_calls.specs.Audits.{Asks, IsRefusalTold, IsAuditEnding, by_memo
 use Rattle.std.proofs.lemmas.Result.{err_from_is_err_and}
 use Rattle.audit_command.specs.Audited.{IsRefused}
 use Rattle.cobra_calls.specs.Handed.{TellsFront}
-use Rattle.cobra_calls.specs.Audits.{IsHandedOn, by_log, cut_refusal, cut_report, cut_files}
+use Rattle.cobra_calls.specs.Audits.{IsHandedOn, twice_line, by_names, by_log, cut_refusal, cut_report, cut_files}
+use Rattle.cobra_calls.specs.Endings.{IsUnusableLine}
+use Rattle.cobra_calls.proofs.Failures.{by_line}
 use Rattle.cobra_calls.proofs.audits.audit_log.Goals as goal
+
+pub returns-in_err-refuse_same_files-clause-ended : goal.returns-in_err-refuse_same_files-clause-ended
+returns-in_err-refuse_same_files-clause-ended g c =
+    let p = err_from_is_err_and c.from_residual-in_err-refuse_same_files.result c.from_residual-in_err-refuse_same_files.ensures.1 in
+    rw (p.1, p.2) (by_names c.in_err-refuse_same_files.ensures.refused refl refl)
+
+pub returns-in_err-refuse_same_files-clause-count : goal.returns-in_err-refuse_same_files-clause-count
+returns-in_err-refuse_same_files-clause-count g c =
+    let p = err_from_is_err_and c.from_residual-in_err-refuse_same_files.result c.from_residual-in_err-refuse_same_files.ensures.1 in
+    let named = c.in_err-refuse_same_files.ensures.refused in
+    rw (p.1, p.2) (sym (by_line (λ l. l ≡ twice_line named.name) 2 (g.W.Sink.failures c.args.sink.now) _ named.told))
+
+pub returns-in_err-put_files-in-Ok-clause-count : goal.returns-in_err-put_files-in-Ok-clause-count
+returns-in_err-put_files-in-Ok-clause-count g c =
+    let p = err_from_is_err_and c.from_residual-in_err-put_files-in-Ok.result c.from_residual-in_err-put_files-in-Ok.ensures.1 in
+    let cut = c.in_err-put_files-in-Ok.ensures.unwritten in
+    rw (p.1, p.2) (c.in_ok-hand_on-in-Ok.ensures.count ∙ sym (by_line (IsUnusableLine cut.failed.0) 5 (g.W.Sink.failures c.args.sink.now) _ cut.told))
 
 pub returns-in_err-hand_on-in-Ok-clause-ended : goal.returns-in_err-hand_on-in-Ok-clause-ended
 returns-in_err-hand_on-in-Ok-clause-ended g c =
