@@ -1,19 +1,30 @@
-use Rattle.std.proofs.Common.{rules, codes, map, string_bytes, IfOk, IfSome, IfNone, IsSome, ◌≡◌, ℕ, ◌+◌, ◌-◌, ◌*◌, ◌<◌, ◌≤◌, length, ◌/◌, ◌%◌, Bool, true, false, nat_eq, nat_lt, List, [], ◌∷◌, ◌++◌, slice_index_or, slice_set, bit_and, bit_or, Fits, w8, w32, w64, Bor, MutBor}
-use Rattle.clap.specs.Matches.{found_of}
-use Rattle.clap.specs.Walk.{rows_of}
-use Rattle.cobra_words.specs.declared.request.Command.{Command}
-use Rattle.cobra_words.specs.declared.request.Request.{Request}
-use Rattle.cobra_words.specs.Asked.{AreAuditWords, IsCommand, IsRequest, IsAskedBy, IsInRange, IsRead}
+use Rattle.std.proofs.Common.{◌≡◌, true, map, string_bytes, sym, subst, ◌∙◌}
+use Rattle.clap.specs.Simple.{HasMatchesOf}
+use Rattle.clap.specs.Takes.{takes}
+use Rattle.cobra_words.proofs.Entering.{words_enter, words_entered}
 use Rattle.cobra_words.proofs.reading.words_of.Goals as goal
 
--- src/reading.rt:114:1
 pub returns-in-Err : goal.returns-in-Err
-returns-in-Err c = ?
+returns-in-Err c =
+    let p = c.in_ok-program.ensures.app in
+    let words = map string_bytes c.args.words.now in
+    record {
+      read = record {
+        lists = p.lists;
+        read_as = λ taken. c.in_default.not-OutOfMemory (c.kind.ensures ∙ c.in-Err.ensures.passes (subst (λ a. takes a words ≡ true) (sym p.has.is) taken));
+      };
+    }
 
--- src/reading.rt:114:1
 pub returns-in-Some : goal.returns-in-Some
-returns-in-Some c = ?
+returns-in-Some c =
+    let p = c.in_ok-program.ensures.app in
+    let words = map string_bytes c.args.words.now in
+    let has = subst (λ a. HasMatchesOf a words c.in-Ok.matches) p.has.is c.in-Ok.ensures.matches in
+    record { read = record { lists = p.lists; read_as = words_enter p.lists words c.in-Ok.matches c.in-Some.request has c.in-Some.ensures.request } }
 
--- src/reading.rt:112:1
 pub returns : goal.returns
-returns c = ?
+returns c =
+    let p = c.in_ok-program.ensures.app in
+    let words = map string_bytes c.args.words.now in
+    let has = subst (λ a. HasMatchesOf a words c.in-Ok.matches) p.has.is c.in-Ok.ensures.matches in
+    record { read = record { lists = p.lists; read_as = λ r h range. c.in-None.ensures.known r (words_entered p.lists words c.in-Ok.matches r has h) range } }
