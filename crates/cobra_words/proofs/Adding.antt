@@ -1,5 +1,5 @@
 -- A command with one more argument or subcommand.
-use Rattle.std.proofs.Common.{◌≡◌, Bool, false, ap, ◌∙◌}
+use Rattle.std.proofs.Common.{ap, ◌∙◌}
 use Rattle.std.specs.Prelude.{◌||◌}
 use Rattle.clap.specs.Built.{AddsArg, AddsSubcommand}
 use Rattle.clap.specs.Walk.{Rule, rule_of}

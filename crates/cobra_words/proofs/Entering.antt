@@ -1,8 +1,8 @@
 -- The command that a parse entered, by its name and by its matches.
-use Rattle.std.proofs.Common.{◌≡◌, ℕ, List, Option, None, Some, ap, subst, sym, ◌∙◌, refl}
+use Rattle.std.proofs.Common.{◌≡◌, List, Option, None, Some, ap, sym, ◌∙◌, refl}
 use Rattle.std.specs.Prelude.{option_map, true}
 use Rattle.clap.specs.Walk.{Row, Text}
-use Rattle.clap.specs.Simple.{App, is_simple, HasMatchesOf, subcommand_of}
+use Rattle.clap.specs.Simple.{is_simple, HasMatchesOf}
 use Rattle.clap.specs.declared.parser.matches.ArgMatches.{ArgMatches}
 use Rattle.cobra_words.specs.declared.request.Request.{Request}
 use Rattle.cobra_words.specs.Commands.{Lists, program_app}
