@@ -1,46 +1,58 @@
--- Files that are put one after the other, and that are cut short.
-use Rattle.std.proofs.Common.{◌≡◌, ℕ, List, [], ◌∷◌, ◌++◌, Option, Some, None, Result, Ok, Err, refl, sym, ap, ◌∙◌, subst, append_assoc, append-nil}
-use Rattle.std.specs.Prelude.{OnErr}
-use Rattle.cobra_calls.specs.Files.{File, Adds, IsBegun, AreCutShort}
+-- Files that are written one after the other, of which one fails.
+use Rattle.std.proofs.Common.{◌≡◌, ℕ, List, [], ◌∷◌, ◌++◌, Option, Some, None, refl, sym, ap, ◌∙◌, append_assoc, append-nil}
+use Rattle.cobra_calls.specs.declared.ending.Ending.{Ending}
+use Rattle.cobra_calls.specs.Endings.{IsUnusable}
+use Rattle.cobra_calls.specs.Files.{File, Disk, Grows, Adds, FailsAt}
+use Rattle.cobra_calls.specs.Audits.{IsUnwritten}
 
 pub file_is : (a b x y : List ℕ) → a ≡ b → x ≡ y → (let f : File = (a, x) in f) ≡ (b, y)
 file_is a b x y e h = ap (λ n. let f : File = (n, x) in f) e ∙ ap (λ m. let f : File = (b, m) in f) h
 
-pub adds_both : (a b c : Option (List File)) (xs ys : List File) → Adds a b xs → Adds b c ys → Adds a c (xs ++ ys)
-adds_both None b c xs ys h k = tt
-adds_both (Some fs) None c xs ys h k = absurd h
-adds_both (Some fs) (Some gs) None xs ys h k = absurd k
-adds_both (Some fs) (Some gs) (Some hs) xs ys h k = k ∙ ap (λ l. l ++ ys) h ∙ append_assoc fs xs ys
+grows_both : (a b c : Option (List File)) (xs ys : List File) → Grows a b xs → Grows b c ys → Grows a c (xs ++ ys)
+grows_both None b c xs ys h k = tt
+grows_both (Some fs) None c xs ys h k = absurd h
+grows_both (Some fs) (Some gs) None xs ys h k = absurd k
+grows_both (Some fs) (Some gs) (Some hs) xs ys h k = k ∙ ap (λ l. l ++ ys) h ∙ append_assoc fs xs ys
 
-begun_more : (back more begun : List File) → IsBegun back begun → IsBegun (back ++ more) begun
-begun_more back more [] h = tt
-begun_more [] more (f ∷ fs) h = absurd h
-begun_more (b ∷ back) more (f ∷ []) h = h
-begun_more (b ∷ back) more (f ∷ g ∷ fs) h = absurd h
+grows_none : (a : Option (List File)) → Grows a a []
+grows_none None = tt
+grows_none (Some fs) = sym (append-nil fs)
 
-pub cut_none : (files : List File) (old new : Option (List File)) → Adds old new [] → AreCutShort files old new
-cut_none files old new h = record { front = []; back = files; begun = []; all = refl; next = tt; told = h }
+pub adds_both : (a b c : Disk) (xs ys : List File) → Adds a b xs → Adds b c ys → Adds a c (xs ++ ys)
+adds_both a b c xs ys h k = record { files = grows_both a.files b.files c.files xs ys h.files k.files; failures = k.failures ∙ h.failures }
 
-pub cut_before : (xs ys : List File) (old new : Option (List File)) → AreCutShort xs old new → AreCutShort (xs ++ ys) old new
-cut_before xs ys old new h = record {
+pub cut_at : (file : File) (back : List File) (old new : Disk) (e : Ending) → FailsAt old new file → IsUnusable file.0 e → IsUnwritten (file ∷ back) old new e
+cut_at file back old new e h told = record {
+  front = [];
+  failed = file;
+  back = back;
+  all = refl;
+  between = old;
+  written = record { files = grows_none old.files; failures = refl };
+  cut = h;
+  told = told;
+}
+
+pub cut_before : (xs ys : List File) (old new : Disk) (e : Ending) → IsUnwritten xs old new e → IsUnwritten (xs ++ ys) old new e
+cut_before xs ys old new e h = record {
   front = h.front;
+  failed = h.failed;
   back = h.back ++ ys;
-  begun = h.begun;
-  all = ap (λ l. l ++ ys) h.all ∙ append_assoc h.front h.back ys;
-  next = begun_more h.back ys h.begun h.next;
+  all = ap (λ l. l ++ ys) h.all ∙ append_assoc h.front (h.failed ∷ h.back) ys;
+  between = h.between;
+  written = h.written;
+  cut = h.cut;
   told = h.told;
 }
 
-pub cut_behind : (xs ys : List File) (old mid new : Option (List File)) → Adds old mid xs → AreCutShort ys mid new → AreCutShort (xs ++ ys) old new
-cut_behind xs ys old mid new a h = record {
+pub cut_behind : (xs ys : List File) (old mid new : Disk) (e : Ending) → Adds old mid xs → IsUnwritten ys mid new e → IsUnwritten (xs ++ ys) old new e
+cut_behind xs ys old mid new e a h = record {
   front = xs ++ h.front;
+  failed = h.failed;
   back = h.back;
-  begun = h.begun;
-  all = ap (λ l. xs ++ l) h.all ∙ sym (append_assoc xs h.front h.back);
-  next = h.next;
-  told = subst (Adds old new) (sym (append_assoc xs h.front h.begun)) (adds_both old mid new xs (h.front ++ h.begun) a h.told);
+  all = ap (λ l. xs ++ l) h.all ∙ sym (append_assoc xs h.front (h.failed ∷ h.back));
+  between = h.between;
+  written = adds_both old mid h.between xs h.front a h.written;
+  cut = h.cut;
+  told = h.told;
 }
-
-pub on_any_err : {A E : Type 0} (r : Result A E) (Q : Type 0) → Q → OnErr r Q
-on_any_err (Ok x) Q q = tt
-on_any_err (Err e) Q q = q

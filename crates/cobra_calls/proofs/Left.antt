@@ -10,14 +10,14 @@ use Rattle.cobra_calls.specs.Worlds.{Held, IsReading, IsLogRead, IsNamedRead, Is
 pub reading_of : (r : Request) (given : Option (List ℕ)) (held later : Held) (log named : List ℕ) → IsLogRead r given held log → later ≡ held → IsNamedRead r.command later named → IsReading r given held (record { log = log; named = named })
 reading_of r given held later log named l e n = record { log = l; named = subst (λ (h : Held). IsNamedRead r.command h named) e n }
 
-pub ended_by_command : (r : Request) (given : Option (List ℕ)) (held later : Held) (log named : List ℕ) (old new : Option (List ℕ)) (e : Ending) → IsLogRead r given held log → later ≡ held → IsNamedRead r.command later named → IsEnded r (record { log = log; named = named }) old new e → IsEnding r given held old new e
-ended_by_command r given held later log named old new e l s n h = by_command (record { log = log; named = named }) (reading_of r given held later log named l s n) h
+pub ended_by_command : (r : Request) (given : Option (List ℕ)) (held later : Held) (log named : List ℕ) (before after : ℕ) (old new : Option (List ℕ)) (e : Ending) → IsLogRead r given held log → later ≡ held → IsNamedRead r.command later named → IsEnded r (record { log = log; named = named }) old new e → after ≡ before → IsEnding r given held before after old new e
+ended_by_command r given held later log named before after old new e l s n h c = by_command (record { log = log; named = named }) (reading_of r given held later log named l s n) h c
 
 pub answered_so : (r : Request) (given : Option (List ℕ)) (held later : Held) (log named : List ℕ) (old told new : Option (List ℕ)) (s : Status) → IsLogRead r given held log → later ≡ held → IsNamedRead r.command later named → IsDone r (record { log = log; named = named }) old told s → Keeps told new → IsAnswer r given held old new s
 answered_so r given held later log named old told new s l e n d k = record {
   read = record { log = log; named = named };
   reading = reading_of r given held later log named l e n;
-  told = told;
+  between = told;
   done = d;
   handed = k;
 }

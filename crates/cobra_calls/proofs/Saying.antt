@@ -1,10 +1,13 @@
 -- Why a log is refused, said behind what a command left in the output.
-use Rattle.std.proofs.Common.{ℕ, List, Option, None, Some, inl, inr, refl, subst, ◌∙◌}
+use Rattle.std.proofs.Common.{◌≡◌, ℕ, Bool, true, false, if◌then◌else◌, List, Option, None, Some, inl, inr, refl, ap, subst, ◌∙◌}
 use Rattle.std.specs.Io.KnownBytes.{Keeps, Appends}
 use Rattle.session_log.specs.Version.{version_of}
 use Rattle.session_log.specs.declared.fault.LogFault.{LogFault}
 use Rattle.log_definitions.specs.WellFormed.{IsLogFault}
 use Rattle.call_options.specs.declared.format.Format.{Format}
+use Rattle.call_options.specs.declared.format.Format.TheVariants as form
+use Rattle.cobra_answers.specs.declared.fault.Fault.{Fault}
+use Rattle.cobra_answers.specs.Refusals.{is_memory}
 use Rattle.cobra_answers.specs.Answers.{IsRefused, by_log, by_command}
 use Rattle.cobra_answers.specs.declared.fault.Fault.TheVariants as fault
 use Rattle.cobra_answers.specs.declared.stop.Stop.TheVariants as stop
@@ -13,7 +16,7 @@ use Rattle.cobra_cli.specs.Explained.{IsExplanation}
 use Rattle.cobra_calls.specs.declared.ending.Ending.{Ending}
 use Rattle.cobra_calls.specs.declared.ending.Ending.TheVariants.{Stop}
 use Rattle.cobra_calls.specs.Explains as explains
-use Rattle.cobra_calls.specs.Explains.{IsSaid, IsUnsaid, IsExplainEnding}
+use Rattle.cobra_calls.specs.Explains.{IsSaid, IsUnsaid, said_fault, IsExplainEnding}
 
 kept_appends : (a b c : Option (List ℕ)) (text : List ℕ) → Keeps a b → Appends b c text → Appends a c text
 kept_appends None b c text k h = tt
@@ -27,23 +30,33 @@ kept_twice (Some xs) None c k h = absurd k
 kept_twice (Some xs) (Some ys) None k h = absurd h
 kept_twice (Some xs) (Some ys) (Some zs) k h = h ∙ k
 
-log_refused : (budget : ℕ) (log : List ℕ) (format : Format) (old mid : Option (List ℕ)) (f : LogFault) → IsRefused (IsExplanation budget (version_of log) format) IsUndecided log old mid (fault.Log f) → IsLogFault log f × Keeps old mid
+pub log_refused : (budget : ℕ) (log : List ℕ) (format : Format) (old mid : Option (List ℕ)) (f : LogFault) → IsRefused (IsExplanation budget (version_of log) format) IsUndecided log old mid (fault.Log f) → IsLogFault log f × Keeps old mid
 log_refused budget log format old mid f (by_log _ h k) = (h, k)
 log_refused budget log format old mid f (by_command _ ss w u k) = absurd u
 
-pub said_behind : (name log : List ℕ) (budget : ℕ) (format : Format) (old mid new : Option (List ℕ)) (f : LogFault) → IsRefused (IsExplanation budget (version_of log) format) IsUndecided log old mid (fault.Log f) → IsSaid name f mid new → IsExplainEnding name log budget format old new (Stop (stop.Refused (fault.Log f)))
-said_behind name log budget format old mid new f r s =
+told_is : (b : Bool) (f g : LogFault) → (if b then None else Some f) ≡ Some g → f ≡ g
+told_is true f g e = cc
+told_is false f g e = cc
+
+-- the fault that is said is the log's
+pub said_is : (format : Format) (refused : Fault) (f : LogFault) → said_fault format refused ≡ Some f → refused ≡ fault.Log f
+said_is form.Dot refused f e = cc
+said_is form.Text (fault.Log g) f e = ap fault.Log (told_is (is_memory g) g f e)
+said_is form.Text _ f e = cc
+
+pub said_behind : (name log : List ℕ) (budget : ℕ) (format : Format) (old mid new : Option (List ℕ)) (f : LogFault) → said_fault format (fault.Log f) ≡ Some f → IsRefused (IsExplanation budget (version_of log) format) IsUndecided log old mid (fault.Log f) → IsSaid name f mid new → IsExplainEnding name log budget format old new (Stop (stop.Refused (fault.Log f)))
+said_behind name log budget format old mid new f is r s =
     let l = log_refused budget log format old mid f r in
-    explains.by_log f l.0 (record {
+    explains.by_log f is l.0 (record {
       line = s.line;
       says = s.says;
-      told = record { told = s.told.told; all = kept_appends old mid s.told.told _ l.1 s.told.all; handed = s.told.handed };
+      told = record { between = s.told.between; told = kept_appends old mid s.told.between _ l.1 s.told.told; handed = s.told.handed };
     }) refl
 
-pub unsaid_behind : (name log : List ℕ) (budget : ℕ) (format : Format) (old mid new : Option (List ℕ)) (f : LogFault) (e : Ending) → IsRefused (IsExplanation budget (version_of log) format) IsUndecided log old mid (fault.Log f) → IsUnsaid name f mid new e → IsExplainEnding name log budget format old new e
-unsaid_behind name log budget format old mid new f e r (inl m) =
+pub unsaid_behind : (name log : List ℕ) (budget : ℕ) (format : Format) (old mid new : Option (List ℕ)) (f : LogFault) (e : Ending) → said_fault format (fault.Log f) ≡ Some f → IsRefused (IsExplanation budget (version_of log) format) IsUndecided log old mid (fault.Log f) → IsUnsaid name f mid new e → IsExplainEnding name log budget format old new e
+unsaid_behind name log budget format old mid new f e is r (inl m) =
     let l = log_refused budget log format old mid f r in
-    explains.unsaid f l.0 (inl (m.0, kept_twice old mid new l.1 m.1))
-unsaid_behind name log budget format old mid new f e r (inr d) =
+    explains.unsaid f is l.0 (inl (m.0, kept_twice old mid new l.1 m.1))
+unsaid_behind name log budget format old mid new f e is r (inr d) =
     let l = log_refused budget log format old mid f r in
-    explains.unsaid f l.0 (inr (d.0, record { line = d.1.line; says = d.1.says; cut = (d.1.cut.0, kept_appends old mid new _ l.1 d.1.cut.1) }))
+    explains.unsaid f is l.0 (inr (d.0, record { line = d.1.line; says = d.1.says; cut = (d.1.cut.0, kept_appends old mid new _ l.1 d.1.cut.1) }))

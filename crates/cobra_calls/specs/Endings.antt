@@ -3,9 +3,11 @@ use Rattle.std.specs.Prelude.{◌≡◌, ◌⊎◌, ℕ, List, ◌++◌, codes, 
 use Rattle.std.specs.declared.alloc.Global.{Global}
 use Rattle.session_log.specs.declared.fault.LogFault.{LogFault}
 use Rattle.fault_words.specs.Codes.{IsRefusalLine}
+use Rattle.output.specs.Sinks.{one_more}
 use Rattle.proof_text.specs.Refusals.{proof_refusal, proof_status}
 use Rattle.cobra_answers.specs.declared.fault.Fault.TheVariants as fault
 use Rattle.cobra_answers.specs.declared.stop.Stop.TheVariants as stop
+use Rattle.cobra_answers.specs.Failures.{failures_after}
 use Rattle.cobra_answers.specs.Refusals.{stop_line, stop_status}
 use Rattle.refute_command.specs.declared.refusal.Refusal.{Refusal}
 use Rattle.refute_command.specs.declared.refusal.Refusal.TheVariants as refusal
@@ -36,30 +38,46 @@ status_of (Stop s) = stop_status s
 status_of (Proof e) = proof_status e
 status_of (Told line status) = status
 
--- a log of this name is refused for this fault: by a line that says so, or for want of memory
-abbrev pub IsLogRefusal : List ℕ → LogFault → Ending → Type 0
-IsLogRefusal name f (Stop s) = s ≡ stop.Refused fault.Memory
-IsLogRefusal name f (Proof e) = ⊥
-IsLogRefusal name f (Told line status) = IsRefusalLine name f (string_bytes line) × (status ≡ 2)
+-- ---- lines that are told
 
--- a line is told with this status, or memory was refused
-abbrev pub IsToldAs : List ℕ → ℕ → Ending → Type 0
-IsToldAs text status (Stop s) = s ≡ stop.Refused fault.Memory
-IsToldAs text status (Proof e) = ⊥
-IsToldAs text status (Told line told) = (string_bytes line ≡ text) × (told ≡ status)
+-- such a line is told with this status, or memory was refused
+abbrev pub IsToldSo : (List ℕ → Type 0) → ℕ → Ending → Type 0
+IsToldSo Says status (Stop s) = s ≡ stop.Refused fault.Memory
+IsToldSo Says status (Proof e) = ⊥
+IsToldSo Says status (Told line told) = Says (string_bytes line) × (told ≡ status)
+
+-- why a log of this name is refused
+abbrev pub IsLogRefusal : List ℕ → LogFault → Ending → Type 0
+IsLogRefusal name f e = IsToldSo (IsRefusalLine name f) 2 e
+
+-- this line, of words that ask for what there is not
+abbrev pub IsUsage : List ℕ → Ending → Type 0
+IsUsage text e = IsToldSo (λ line. line ≡ text) 2 e
 
 -- the line of a file or a directory of this name that cannot be read or written; the reason is free
 abbrev pub IsUnusableLine : List ℕ → List ℕ → Type 0
 IsUnusableLine name line = (why : List ℕ) × (line ≡ name ++ (codes ": " ++ why))
 
--- such a line is told, or memory was refused
 abbrev pub IsUnusable : List ℕ → Ending → Type 0
-IsUnusable name (Stop s) = s ≡ stop.Refused fault.Memory
-IsUnusable name (Proof e) = ⊥
-IsUnusable name (Told line status) = IsUnusableLine name (string_bytes line) × (status ≡ 5)
+IsUnusable name e = IsToldSo (IsUnusableLine name) 5 e
 
--- a file could not be read, or memory was refused
-abbrev pub IsUnread : Ending → Type 0
-IsUnread (Stop s) = (s ≡ stop.Input) ⊎ (s ≡ stop.Refused fault.Memory)
-IsUnread (Proof e) = ⊥
-IsUnread (Told line status) = ⊥
+-- ---- devices
+
+-- how many calls of the output failed, after a call of the program that ends so
+abbrev pub failures_by : ℕ → Ending → ℕ
+failures_by before (Stop (stop.Refused f)) = failures_after before (Err f)
+failures_by before (Stop stop.Output) = one_more before
+failures_by before _ = before
+
+-- the output failed in this call exactly where it is told that it did
+abbrev pub output_failures : {T : Type 0} → ℕ → Result T Ending → ℕ
+output_failures before (Ok x) = before
+output_failures before (Err e) = failures_by before e
+
+-- memory was refused; or a read failed, of which there were so many before and after, and it is told
+abbrev pub IsReadFailure : (Ending → Type 0) → ℕ → ℕ → Ending → Type 0
+IsReadFailure IsTold before after e =
+    (e ≡ out_of_memory) ⊎ (IsTold e × (after ≡ one_more before))
+
+abbrev pub IsUnread : ℕ → ℕ → Ending → Type 0
+IsUnread before after e = IsReadFailure (λ told. told ≡ Stop stop.Input) before after e

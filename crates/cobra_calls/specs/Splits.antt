@@ -8,7 +8,7 @@ use Rattle.split_command.specs.Told.{HasNoRoom, IsCutShort}
 use Rattle.cobra_answers.specs.declared.stop.Stop.TheVariants as stop
 use Rattle.cobra_calls.specs.declared.ending.Ending.{Ending}
 use Rattle.cobra_calls.specs.declared.ending.Ending.TheVariants.{Stop}
-use Rattle.cobra_calls.specs.Endings.{IsLogRefusal, IsToldAs}
+use Rattle.cobra_calls.specs.Endings.{IsLogRefusal, IsUsage}
 
 -- the line that says that the locks of a log of this name have no room
 abbrev pub no_room_line : List ℕ → NoRoom → List ℕ
@@ -22,7 +22,7 @@ no_room_line name (Identities largest writes) =
 
 -- such a line is told, or memory was refused
 abbrev pub IsNoRoomTold : List ℕ → NoRoom → Ending → Type 0
-IsNoRoomTold name why e = IsToldAs (no_room_line name why) 2 e
+IsNoRoomTold name why e = IsUsage (no_room_line name why) e
 
 -- for the log's fault or the locks, and nothing was told; or where the sink failed
 pub data IsSplitEnding (name log : List ℕ) (old new : Option (List ℕ)) (e : Ending) : Type 0 where

@@ -1,8 +1,10 @@
 -- What a call reads of the world, and what it leaves there.
 use Rattle.std.specs.Prelude.{◌≡◌, ℕ, ◌+◌, List, [], ◌∷◌, ◌++◌, take, ⊤}
 use Rattle.std.specs.Prelude.{Option, Some, None, Bool, true, false, if◌then◌else◌}
+use Rattle.std.specs.Prelude.{Result, Ok, Err}
 use Rattle.std.specs.Borrow.{Bor}
 use Rattle.std.specs.Io.KnownBytes.{Keeps, Appends}
+use Rattle.output.specs.Sinks.{one_more}
 use Rattle.session_log.specs.declared.limits.TheConstants.{MAX_LOG_BYTES}
 use Rattle.long_log_definitions.specs.declared.limits.TheConstants.{MAX_LONG_LOG_BYTES}
 use Rattle.dimacs.specs.declared.read.TheConstants.{MAX_ANSWER_BYTES}
@@ -16,9 +18,12 @@ use Rattle.cobra_words.specs.declared.request.Command.{Command}
 use Rattle.cobra_words.specs.declared.request.Command.TheVariants as command
 use Rattle.cobra_calls.specs.declared.ending.Ending.{Ending}
 use Rattle.cobra_calls.specs.declared.ending.Ending.TheVariants as ending
-pub use Rattle.cobra_calls.specs.Handed.{IsCutShort}
+pub use Rattle.cobra_calls.specs.Handed.{TellsFront}
 use Rattle.cobra_calls.specs.Calls.{Reads, log_name, IsDone, IsEnded}
-use Rattle.cobra_calls.specs.Endings.{line_of, status_of, IsUnusable, IsUnread}
+use Rattle.cobra_calls.specs.declared.world.Unread.{Unread}
+use Rattle.cobra_calls.specs.declared.world.Unread.TheVariants as unread
+use Rattle.cobra_calls.specs.Endings.{line_of, status_of, failures_by}
+use Rattle.cobra_calls.specs.Endings.{IsUnusable, IsUnread, IsReadFailure}
 
 -- the bytes of files by their names, where they are known
 abbrev pub Held : Type 0
@@ -64,13 +69,22 @@ pub record IsReading (r : Request) (given : Option (List ℕ)) (held : Held) (re
   pub log : IsLogRead r given held read.log
   pub named : IsNamedRead r.command held read.named
 
--- how a call ends whose log could not be read
-abbrev pub IsUnreadAs : Bool → List ℕ → Ending → Type 0
-IsUnreadAs true name e = IsUnusable name e
-IsUnreadAs false name e = IsUnread e
+-- how many reads failed after one that gave this
+abbrev pub failures_with : ℕ → Unread → ℕ
+failures_with before unread.Memory = before
+failures_with before (unread.Device why) = one_more before
 
-abbrev pub IsLogUnread : Request → Ending → Type 0
-IsLogUnread r e = IsUnreadAs (is_long r.command) (log_name r) e
+abbrev pub read_failures : {T : Type 0} → ℕ → Result T Unread → ℕ
+read_failures before (Ok text) = before
+read_failures before (Err why) = failures_with before why
+
+-- how a call ends whose log could not be read; so many reads failed before and after
+abbrev pub IsUnreadAs : Bool → List ℕ → ℕ → ℕ → Ending → Type 0
+IsUnreadAs true name before after e = IsReadFailure (IsUnusable name) before after e
+IsUnreadAs false name before after e = IsUnread before after e
+
+abbrev pub IsLogUnread : Request → ℕ → ℕ → Ending → Type 0
+IsLogUnread r before after e = IsUnreadAs (is_long r.command) (log_name r) before after e
 
 -- ---- what a call leaves
 
@@ -79,33 +93,40 @@ pub record IsAnswer (r : Request) (given : Option (List ℕ)) (held : Held) (old
     (s : Status) : Type 0 where
   pub read : Reads
   pub reading : IsReading r given held read
-  pub told : Option (List ℕ)
-  pub done : IsDone r read old told s
-  pub handed : Keeps told new
+  pub between : Option (List ℕ)
+  pub done : IsDone r read old between s
+  pub handed : Keeps between new
 
 -- Why a call ends without an answer: its log or the file beside it could not be read, and nothing
--- was told; or the command says so; or what it told could not be handed on.
-pub data IsEnding (r : Request) (given : Option (List ℕ)) (held : Held) (old new : Option (List ℕ))
-    (e : Ending) : Type 0 where
-  no_log : IsLogUnread r e → new ≡ old → IsEnding r given held old new e
-  no_file : IsUnread e → new ≡ old → IsEnding r given held old new e
+-- was told; or the command says so; or what it told could not be handed on. So many reads failed
+-- before and after.
+pub data IsEnding (r : Request) (given : Option (List ℕ)) (held : Held) (before after : ℕ)
+    (old new : Option (List ℕ)) (e : Ending) : Type 0 where
+  no_log : IsLogUnread r before after e → new ≡ old → IsEnding r given held before after old new e
+  no_file : IsUnread before after e → new ≡ old → IsEnding r given held before after old new e
   by_command : (read : Reads) → IsReading r given held read → IsEnded r read old new e
-      → IsEnding r given held old new e
+      → after ≡ before → IsEnding r given held before after old new e
   by_output : (s : Status) → IsAnswer r given held old new s → e ≡ ending.Stop stop.Output
-      → IsEnding r given held old new e
+      → after ≡ before → IsEnding r given held before after old new e
 
 -- the line of an ending was told, or its first bytes and the device failed
 pub data IsLineTold (lines later : Option (List ℕ)) (is_broken : Bool) (e : Ending) : Type 0 where
   whole : Appends lines later (line_of e ++ 10 ∷ []) → IsLineTold lines later is_broken e
-  cut : IsCutShort lines later (line_of e ++ 10 ∷ []) → is_broken ≡ true
+  cut : TellsFront lines later (line_of e ++ 10 ∷ []) → is_broken ≡ true
       → IsLineTold lines later is_broken e
 
 -- what is outside of the program, before and after a call
 pub record Seen : Type 0 where
   pub given : Option (List ℕ)
   pub held : Held
+  -- how many reads failed
+  pub before : ℕ
+  pub after : ℕ
   pub old : Option (List ℕ)
   pub new : Option (List ℕ)
+  -- how many calls of the output failed
+  pub failures : ℕ
+  pub later_failures : ℕ
   pub lines : Option (List ℕ)
   pub later : Option (List ℕ)
   -- what was told was handed on
@@ -113,11 +134,14 @@ pub record Seen : Type 0 where
   -- standard error failed
   pub is_broken : Bool
 
--- The call of a request, by its exit status: with an answer, and then nothing is told on standard
--- error; or without one, and then a line there says why.
+-- The call of a request, by its exit status: with an answer, and then no device failed and nothing is
+-- told on standard error; or without one, and then a line there says why, and the output failed
+-- exactly where that line says so.
 pub data IsAnswered (r : Request) (w : Seen) (status : ℕ) : Type 0 where
   by_answer : (s : Status) → IsAnswer r w.given w.held w.old w.new s → w.is_through ≡ true
+      → w.after ≡ w.before → w.later_failures ≡ w.failures
       → w.later ≡ w.lines → status ≡ code_of s → IsAnswered r w status
-  by_ending : (e : Ending) → IsEnding r w.given w.held w.old w.new e
+  by_ending : (e : Ending) → IsEnding r w.given w.held w.before w.after w.old w.new e
+      → w.later_failures ≡ failures_by w.failures e
       → IsLineTold w.lines w.later w.is_broken e → status ≡ status_of e
       → IsAnswered r w status

@@ -2,7 +2,7 @@
 
 ghost use Rattle.std.specs.Prelude.{◌≡◌, true, IfOk, IfErr, OnOk};
 ghost use Rattle.cobra_calls.specs.Calls.{is_plain};
-ghost use Rattle.cobra_calls.specs.Endings.{line_of, status_of};
+ghost use Rattle.cobra_calls.specs.Endings.{line_of, status_of, output_failures};
 ghost use Rattle.cobra_calls.specs.Worlds.{Seen, IsAnswer, IsEnding, IsLineTold, IsAnswered};
 
 use crate::calls::run_on;
@@ -30,7 +30,9 @@ fn run<R: Threads + Wait + Clock + Sync, I: Inputs, O: Outlet>(
         (O.bytes output.old) (O.bytes output.new)) }
     ensures through { OnOk result (O.is_through output.new ≡ true) }
     ensures ending { IfErr result (IsEnding request.now (I.given inputs.old) (I.held inputs.old)
-        (O.bytes output.old) (O.bytes output.new)) }
+        (I.failures inputs.old) (I.failures inputs.new) (O.bytes output.old) (O.bytes output.new)) }
+    ensures reads { OnOk result (I.failures inputs.new ≡ I.failures inputs.old) }
+    ensures count { O.failures output.new ≡ output_failures (O.failures output.old) result }
 {
     let log = read_log(alloc, request, inputs)?;
     let named = read_named(alloc, &request.command, inputs)?;
@@ -42,7 +44,7 @@ fn run<R: Threads + Wait + Clock + Sync, I: Inputs, O: Outlet>(
 }
 
 /// Says why a call ended without an answer, and gives its exit status.
-pub fn report<E: Errors>(errors: &mut E, ending: Ending) -> u8
+pub fn tell_ending<E: Errors>(errors: &mut E, ending: Ending) -> u8
     ensures told { IsLineTold (E.lines errors.old) (E.lines errors.new) (E.is_broken errors.new) ending }
     ensures status { result ≡ status_of ending }
 {
@@ -62,8 +64,12 @@ pub fn answer<R: Threads + Wait + Clock + Sync, I: Inputs, O: Outlet, E: Errors>
     ensures answered { IsAnswered request.now (record {
       given = I.given world.old.inputs;
       held = I.held world.old.inputs;
+      before = I.failures world.old.inputs;
+      after = I.failures world.new.inputs;
       old = O.bytes world.old.output;
       new = O.bytes world.new.output;
+      failures = O.failures world.old.output;
+      later_failures = O.failures world.new.output;
       lines = E.lines world.old.errors;
       later = E.lines world.new.errors;
       is_through = O.is_through world.new.output;
@@ -72,6 +78,6 @@ pub fn answer<R: Threads + Wait + Clock + Sync, I: Inputs, O: Outlet, E: Errors>
 {
     match run(rt, alloc, request, &mut world.inputs, &mut world.output) {
         Ok(status) => status.code(),
-        Err(ending) => report(&mut world.errors, ending),
+        Err(ending) => tell_ending(&mut world.errors, ending),
     }
 }

@@ -1,12 +1,15 @@
 //! A call of `audit`.
 
-ghost use Rattle.std.specs.Prelude.{◌≡◌, ◌≢◌, true, ◌∷◌, [], string_bytes, IfOk, IfErr, OnOk, OnErr};
-ghost use Rattle.cobra_calls.specs.Files.{Adds, AreCutShort};
-ghost use Rattle.cobra_calls.specs.Endings.{IsUnusable};
-ghost use Rattle.cobra_calls.specs.Worlds.{IsCutShort};
-ghost use Rattle.cobra_calls.specs.Audits.{AreOptions, deadline_of, map_path, part_files, order_files};
-ghost use Rattle.cobra_calls.specs.Audits.{files_of, IsHandedOn, IsAuditDone, IsAuditEnding};
-ghost use Rattle.cobra_calls.specs.Audits.{IsUsage, IsUnwritten, IsRefusalTold};
+ghost use Rattle.std.specs.Prelude.{◌≡◌, ◌≢◌, true, false, ◌∷◌, ◌++◌, [], string_bytes};
+ghost use Rattle.std.specs.Prelude.{IfOk, IfErr, OnOk, OnErr, IfSome, IfNone};
+ghost use Rattle.std.specs.List.{AllByRecursion};
+ghost use Rattle.cobra_calls.specs.Files.{Adds, FailsAt};
+ghost use Rattle.cobra_calls.specs.Endings.{IsUnusable, failures_by, output_failures};
+ghost use Rattle.cobra_calls.specs.Audits.{AreOptions, deadline_of, map_path, part_names};
+ghost use Rattle.cobra_calls.specs.Audits.{order_names, files_named, AreApart, StandsIn, StandsTwice};
+ghost use Rattle.cobra_calls.specs.Audits.{twice_line, IsNamedTwice, part_files, order_files, files_of};
+ghost use Rattle.cobra_calls.specs.Audits.{IsHandedOn, TellsFront, IsUnwritten, IsRefusalTold};
+ghost use Rattle.cobra_calls.specs.Audits.{IsAuditDone, IsAuditEnding};
 
 use crate::ending::Ending;
 use crate::splits::log_name;
@@ -16,7 +19,7 @@ use cobra_answers::{Status, Stop};
 use cobra_words::{AuditWords, Request, VERSION};
 use deciding::Means;
 use judging::{JudgeMeans, Level};
-use output::{Sink, SinkFailed, write_all};
+use output::{SinkFailed, write_all};
 use progress::{Deadline, Progress};
 use std::alloc::{AllocError, Global};
 use std::io::Eprint;
@@ -80,17 +83,52 @@ fn map_path(alloc: Global, part: Option<&str>) -> Result<String, AllocError>
     }
 }
 
-/// Refuses two files of a call that are one.
-fn refuse_same(alloc: Global, one: &str, other: &str) -> Result<(), Ending>
-    ensures apart { OnOk result (one.now ≢ other.now) }
-    ensures refused { IfErr result IsUsage }
+/// Whether the name is that of the part or of its map.
+fn is_of_part(name: &str, part: Option<&str>, map: &str) -> bool
+    requires map { map.now ≡ map_path part }
+    ensures same { result ≡ true → StandsIn (part_names part.entry) name.now }
+    ensures apart { result ≡ false → AllByRecursion (λ other. name.now ≢ other) (part_names part.entry) }
 {
-    if one == other {
-        return Err(Ending::usage(format!(in alloc;
-            "error: the call names {one} twice, and would write over it"
-        )));
+    match part {
+        Some(part) => name == part || name == map,
+        None => false,
     }
-    Ok(())
+}
+
+/// A name that two files of a call have.
+fn name_twice<'a>(
+    log: &'a str,
+    part: Option<&'a str>,
+    map: &str,
+    order: Option<&'a str>,
+) -> Option<&'a str>
+    requires map { map.now ≡ map_path part }
+    ensures twice { IfSome result (λ name. StandsTwice
+        (log.now ∷ part_names part.entry ++ order_names order.entry) name.now) }
+    ensures apart { IfNone result (AreApart
+        (log.now ∷ part_names part.entry ++ order_names order.entry)) }
+{
+    if is_of_part(log, part, map) {
+        return Some(log);
+    }
+    let Some(order) = order else {
+        return None;
+    };
+    if order == log {
+        return Some(order);
+    }
+    if is_of_part(order, part, map) {
+        Some(order)
+    } else {
+        None
+    }
+}
+
+/// Says that two files of a call have this name.
+fn twice_line(alloc: Global, name: &str) -> Result<String, AllocError>
+    ensures line { IfOk result (λ line. string_bytes line ≡ twice_line name.now) }
+{
+    format!(in alloc; "error: the call names {name} twice, and would write over it")
 }
 
 /// Refuses a call whose files would be written over the log or over one another.
@@ -100,17 +138,12 @@ fn refuse_same_files(
     words: &AuditWords<'_>,
     map: &str,
 ) -> Result<(), Ending>
-    ensures refused { IfErr result IsUsage }
+    requires map { map.now ≡ map_path words.now.part }
+    ensures apart { OnOk result (AreApart (files_named request.now words.now)) }
+    ensures refused { IfErr result (IsNamedTwice (files_named request.now words.now)) }
 {
-    let log = log_name(request);
-    if let Some(part) = words.part {
-        refuse_same(alloc, log, part)?;
-        refuse_same(alloc, log, map)?;
-        refuse_same(alloc, words.order.unwrap_or(log), part)?;
-        refuse_same(alloc, words.order.unwrap_or(log), map)?;
-    }
-    match words.order {
-        Some(order) => refuse_same(alloc, log, order),
+    match name_twice(log_name(request), words.part, map, words.order) {
+        Some(name) => Err(Ending::usage(twice_line(alloc, name))),
         None => Ok(()),
     }
 }
@@ -124,9 +157,8 @@ fn put_file<F: NewFiles>(
 ) -> Result<(), Ending>
     ensures put { OnOk result (Adds (F.files files.old) (F.files files.new)
         ((path.now, bytes.now) ∷ [])) }
-    ensures failed { OnErr result (AreCutShort ((path.now, bytes.now) ∷ [])
-        (F.files files.old) (F.files files.new)) }
-    ensures unwritten { IfErr result IsUnwritten }
+    ensures unwritten { IfErr result (λ e. FailsAt (F.files files.old) (F.files files.new)
+        (path.now, bytes.now) × IsUnusable path.now e) }
 {
     match files.put(path, bytes) {
         Ok(()) => Ok(()),
@@ -144,9 +176,8 @@ fn put_part<F: NewFiles>(
 ) -> Result<(), Ending>
     ensures put { OnOk result (Adds (F.files files.old) (F.files files.new)
         (part_files path.entry map.now part.now)) }
-    ensures failed { OnErr result (AreCutShort (part_files path.entry map.now part.now)
+    ensures unwritten { IfErr result (IsUnwritten (part_files path.entry map.now part.now)
         (F.files files.old) (F.files files.new)) }
-    ensures unwritten { IfErr result IsUnwritten }
 {
     let Some(path) = path else {
         return Ok(());
@@ -171,9 +202,8 @@ fn put_order<F: NewFiles>(
 ) -> Result<(), Ending>
     ensures put { OnOk result (Adds (F.files files.old) (F.files files.new)
         (order_files path.entry order.now)) }
-    ensures failed { OnErr result (AreCutShort (order_files path.entry order.now)
+    ensures unwritten { IfErr result (IsUnwritten (order_files path.entry order.now)
         (F.files files.old) (F.files files.new)) }
-    ensures unwritten { IfErr result IsUnwritten }
 {
     let Some(path) = path else {
         return Ok(());
@@ -195,9 +225,8 @@ fn put_files<F: NewFiles>(
     requires map { map.now ≡ map_path words.now.part }
     ensures put { OnOk result (Adds (F.files files.old) (F.files files.new)
         (files_of words.now audited.now)) }
-    ensures failed { OnErr result (AreCutShort (files_of words.now audited.now)
+    ensures unwritten { IfErr result (IsUnwritten (files_of words.now audited.now)
         (F.files files.old) (F.files files.new)) }
-    ensures unwritten { IfErr result IsUnwritten }
 {
     if let Err(ending) = put_part(alloc, words.part, map, &audited.part, files) {
         return Err(ending);
@@ -208,16 +237,17 @@ fn put_files<F: NewFiles>(
 /// Tells a text whole, and hands it on.
 pub fn hand_on<W: Outlet>(text: &[u8], sink: &mut W) -> Result<(), Ending>
     ensures told { OnOk result (IsHandedOn (W.bytes sink.old) (W.bytes sink.new) text.now) }
-    ensures cut { OnErr result (IsCutShort (W.bytes sink.old) (W.bytes sink.new) text.now) }
+    ensures cut { OnErr result (TellsFront (W.bytes sink.old) (W.bytes sink.new) text.now) }
     ensures through { OnOk result (W.is_through sink.new ≡ true) }
     ensures output { IfErr result (λ e. e ≡ Ending.Stop Stop.Output) }
+    ensures count { W.failures sink.new ≡ output_failures (W.failures sink.old) result }
 {
-    if write_all(sink, text).is_err() {
-        return Err(Ending::Stop(Stop::Output));
-    }
-    match sink.flush() {
-        Ok(()) => Ok(()),
-        Err(SinkFailed) => Err(Ending::Stop(Stop::Output)),
+    match write_all(sink, text) {
+        Ok(()) => match sink.flush() {
+            Ok(()) => Ok(()),
+            Err(SinkFailed) => Err(Ending::Stop(Stop::Output)),
+        },
+        Err(_) => Err(Ending::Stop(Stop::Output)),
     }
 }
 
@@ -230,6 +260,7 @@ fn refuse<W: Outlet>(
     sink: &mut W,
 ) -> Ending
     ensures told { IsRefusalTold name.now refusal.now (W.bytes sink.old) (W.bytes sink.new) result }
+    ensures count { W.failures sink.new ≡ failures_by (W.failures sink.old) result }
 {
     match refusal {
         Refusal::Memory => Ending::memory(),
@@ -258,6 +289,7 @@ pub fn audit_log<R: Threads + Wait + Clock + Eprint + Sync, W: Outlet, F: NewFil
     ensures through { OnOk result (W.is_through sink.new ≡ true) }
     ensures ended { IfErr result (IsAuditEnding request.now words.now start log.now
         (W.bytes sink.old) (W.bytes sink.new) (F.files files.old) (F.files files.new)) }
+    ensures count { W.failures sink.new ≡ output_failures (W.failures sink.old) result }
 {
     let map = map_path(alloc, words.part)?;
     refuse_same_files(alloc, request, words, &map)?;

@@ -2,6 +2,7 @@
 
 ghost use Rattle.std.specs.Prelude.{◌≡◌, true, IfOk, IfErr};
 ghost use Rattle.cobra_calls.specs.Calls.{Reads, is_plain, IsDone, IsEnded};
+ghost use Rattle.cobra_calls.specs.Endings.{output_failures};
 
 use crate::ending::Ending;
 use crate::explains::explain_log;
@@ -27,6 +28,7 @@ pub fn is_plain(command: &Command<'_>) -> bool
 
 /// Runs a command on the log, and on the file that the request names beside it: what it answers is
 /// put into the sink.
+#[tactic(auto, using(crate::proofs::Failures::by_refusal))]
 pub fn run_on<R: Threads + Wait + Clock + Sync, W: Outlet>(
     rt: &R,
     alloc: Global,
@@ -40,6 +42,7 @@ pub fn run_on<R: Threads + Wait + Clock + Sync, W: Outlet>(
         (W.bytes sink.old) (W.bytes sink.new)) }
     ensures ended { IfErr result (IsEnded request.now (record { log = log.now; named = named.now })
         (W.bytes sink.old) (W.bytes sink.new)) }
+    ensures count { W.failures sink.new ≡ output_failures (W.failures sink.old) result }
 {
     let options = Options {
         plain: request.plain,

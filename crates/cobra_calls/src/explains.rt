@@ -1,13 +1,17 @@
 //! A call of `explain`.
 
-ghost use Rattle.std.specs.Prelude.{◌≡◌, ℕ, List, Option, IfOk, IfErr, OnOk, IfSome};
+ghost use Rattle.std.specs.Prelude.{◌≡◌, ℕ, List, Option, IfOk, IfErr, OnOk};
 ghost use Rattle.session_log.specs.Version.{version_of};
 ghost use Rattle.cobra_answers.specs.Answers.{IsTold, IsRefused};
-ghost use Rattle.cobra_answers.specs.declared.fault.Fault.TheVariants as fault;
+ghost use Rattle.cobra_answers.specs.declared.status.Status.{Status};
+ghost use Rattle.cobra_answers.specs.Failures.{failures_after};
+ghost use Rattle.cobra_answers.specs.Refusals.{is_memory};
 ghost use Rattle.cobra_cli.specs.Checked.{IsUndecided};
 ghost use Rattle.cobra_cli.specs.Explained.{IsExplanation};
 ghost use Rattle.cobra_calls.specs.Calls.{log_name};
-ghost use Rattle.cobra_calls.specs.Explains.{IsRefusalText, IsSaid, IsUnsaid, IsExplainEnding};
+ghost use Rattle.cobra_calls.specs.Endings.{failures_by, output_failures};
+ghost use Rattle.cobra_calls.specs.Explains.{IsRefusalText, IsSaid, IsUnsaid, said_fault};
+ghost use Rattle.cobra_calls.specs.Explains.{IsExplainEnding};
 
 use crate::audits::hand_on;
 use crate::ending::Ending;
@@ -48,6 +52,7 @@ fn say_refused<W: Outlet>(
 ) -> Result<(), Ending>
     ensures said { OnOk result (IsSaid name.now fault (W.bytes sink.old) (W.bytes sink.new)) }
     ensures unsaid { IfErr result (IsUnsaid name.now fault (W.bytes sink.old) (W.bytes sink.new)) }
+    ensures count { W.failures sink.new ≡ output_failures (W.failures sink.old) result }
 {
     match refusal_text(alloc, name, log, fault) {
         Ok(line) => hand_on(line.as_bytes(), sink),
@@ -55,19 +60,29 @@ fn say_refused<W: Outlet>(
     }
 }
 
+/// Whether memory was refused.
+fn is_memory(fault: LogFault) -> bool
+    ensures memory { result ≡ is_memory fault }
+{
+    matches!(fault, LogFault::Memory)
+}
+
 /// The log's fault that is said in words, where one is.
 fn said_fault(format: Format, refused: Fault) -> Option<LogFault>
-    ensures said { IfSome result (λ f. refused ≡ fault.Log f) }
+    ensures said { result ≡ said_fault format refused }
 {
-    match refused {
-        Fault::Log(said) => {
-            if format == Format::Text && said != LogFault::Memory {
-                Some(said)
-            } else {
-                None
+    match format {
+        Format::Dot => None,
+        Format::Text => match refused {
+            Fault::Log(said) => {
+                if is_memory(said) {
+                    None
+                } else {
+                    Some(said)
+                }
             }
-        }
-        _ => None,
+            _ => None,
+        },
     }
 }
 
@@ -84,6 +99,8 @@ fn refuse<W: Outlet>(
         → IsRefused (IsExplanation budget (version_of log.now) format) IsUndecided log.now old
         (W.bytes sink.old) refused
         → IsExplainEnding name.now log.now budget format old (W.bytes sink.new) result }
+    ensures count { (before : ℕ) → W.failures sink.old ≡ failures_after before (Err refused)
+        → W.failures sink.new ≡ failures_by before result }
 {
     match said_fault(format, refused) {
         Some(said) => match say_refused(alloc, name, log, said, sink) {
@@ -108,6 +125,7 @@ pub fn explain_log<R: Threads + Wait + Clock + Sync, W: Outlet>(
         log.now (W.bytes sink.old) (W.bytes sink.new)) }
     ensures ended { IfErr result (IsExplainEnding (log_name request.now) log.now options.now.budget
         format (W.bytes sink.old) (W.bytes sink.new)) }
+    ensures count { W.failures sink.new ≡ output_failures (W.failures sink.old) result }
 {
     match explain(rt, alloc, log, options, format, &OpenGate, sink) {
         Ok(status) => Ok(status),

@@ -14,11 +14,11 @@ mod sources;
 mod splits;
 mod world;
 
-pub use answering::{answer, report};
+pub use answering::{answer, tell_ending};
 pub use audits::audit_log;
 pub use calls::{is_plain, run_on};
 pub use ending::{Ending, USAGE};
 pub use reading::read_log;
 pub use sources::read_up_to;
 pub use splits::log_name;
-pub use world::{Errors, Inputs, NewFiles, Outlet, Unread, World};
+pub use world::{Errors, Inputs, NewFiles, Outlet, Unread, World, one_more};

@@ -1,10 +1,10 @@
 //! What a call reads.
 
-ghost use Rattle.std.specs.Prelude.{◌≡◌, IfOk, IfErr};
+ghost use Rattle.std.specs.Prelude.{◌≡◌, ℕ, IfOk, IfErr, OnOk};
 ghost use Rattle.cobra_calls.specs.Calls.{log_name};
-ghost use Rattle.cobra_calls.specs.Endings.{IsUnusable, IsUnread, IsUnusableLine};
+ghost use Rattle.cobra_calls.specs.Endings.{IsUnusable, IsUnread};
 ghost use Rattle.cobra_calls.specs.Worlds.{is_long, limit_of, IsLogRead, IsNamedRead, IsLogUnread};
-ghost use Rattle.cobra_calls.specs.Worlds.{bytes_of, IsReadUpTo};
+ghost use Rattle.cobra_calls.specs.Worlds.{failures_with, read_failures};
 
 use crate::ending::Ending;
 use crate::splits::log_name;
@@ -16,7 +16,7 @@ use long_log_definitions::MAX_LONG_LOG_BYTES;
 use order_text::MAX_ORDER_BYTES;
 use proof_text::MAX_PROOF_BYTES;
 use session_log::MAX_LOG_BYTES;
-use std::alloc::{AllocError, Global};
+use std::alloc::Global;
 
 /// Whether the command reads a log of any length.
 fn is_long(command: &Command<'_>) -> bool
@@ -38,7 +38,7 @@ fn limit_of(command: &Command<'_>) -> usize
 
 /// How a call ends of which a file could not be read.
 fn unread(unread: Unread) -> Ending
-    ensures unread { IsUnread result }
+    ensures unread { (before : ℕ) → IsUnread before (failures_with before unread) result }
 {
     match unread {
         Unread::Memory => Ending::memory(),
@@ -48,7 +48,8 @@ fn unread(unread: Unread) -> Ending
 
 /// How a call ends whose log could not be read: of a long one, its name is told, and why.
 fn log_unread(alloc: Global, request: &Request<'_>, why: Unread) -> Ending
-    ensures unread { IsLogUnread request.now result }
+    ensures unread { (before : ℕ)
+        → IsLogUnread request.now before (failures_with before why) result }
 {
     if !is_long(&request.command) {
         return unread(why);
@@ -68,6 +69,7 @@ fn log_bytes<I: Inputs>(
     ensures log { IfOk result (λ log. IsLogRead request.now (I.given inputs.old)
         (I.held inputs.old) log.items) }
     ensures held { I.held inputs.new ≡ I.held inputs.old }
+    ensures count { I.failures inputs.new ≡ read_failures (I.failures inputs.old) result }
 {
     let limit = limit_of(&request.command);
     match request.log {
@@ -85,7 +87,9 @@ pub fn read_log<I: Inputs>(
     ensures log { IfOk result (λ log. IsLogRead request.now (I.given inputs.old)
         (I.held inputs.old) log.items) }
     ensures held { I.held inputs.new ≡ I.held inputs.old }
-    ensures unread { IfErr result (IsLogUnread request.now) }
+    ensures count { OnOk result (I.failures inputs.new ≡ I.failures inputs.old) }
+    ensures unread { IfErr result (IsLogUnread request.now
+        (I.failures inputs.old) (I.failures inputs.new)) }
 {
     match log_bytes(alloc, request, inputs) {
         Ok(log) => Ok(log),
@@ -100,6 +104,7 @@ fn named_bytes<I: Inputs>(
     inputs: &mut I,
 ) -> Result<Vec<u8>, Unread>
     ensures named { IfOk result (λ named. IsNamedRead command.now (I.held inputs.old) named.items) }
+    ensures count { I.failures inputs.new ≡ read_failures (I.failures inputs.old) result }
 {
     match command {
         Command::Decode { model } => inputs.read_held(alloc, model, MAX_ANSWER_BYTES),
@@ -116,7 +121,8 @@ pub fn read_named<I: Inputs>(
     inputs: &mut I,
 ) -> Result<Vec<u8>, Ending>
     ensures named { IfOk result (λ named. IsNamedRead command.now (I.held inputs.old) named.items) }
-    ensures unread { IfErr result IsUnread }
+    ensures count { OnOk result (I.failures inputs.new ≡ I.failures inputs.old) }
+    ensures unread { IfErr result (IsUnread (I.failures inputs.old) (I.failures inputs.new)) }
 {
     match named_bytes(alloc, command, inputs) {
         Ok(named) => Ok(named),

@@ -1,9 +1,10 @@
 //! A call of `split`.
 
 ghost use Rattle.std.specs.Prelude.{◌≡◌, ℕ, List, Option, IfOk, IfErr, string_bytes};
-ghost use Rattle.split_command.specs.Told.{IsTold, IsUntold};
+ghost use Rattle.split_command.specs.Told.{IsTold, IsUntold, failures_after};
 ghost use Rattle.cobra_answers.specs.declared.status.Status.TheVariants.{Done};
 ghost use Rattle.cobra_calls.specs.Calls.{log_name};
+ghost use Rattle.cobra_calls.specs.Endings.{failures_by, output_failures};
 ghost use Rattle.cobra_calls.specs.Splits.{no_room_line, IsSplitEnding};
 
 use crate::ending::Ending;
@@ -43,6 +44,8 @@ fn no_room_line(alloc: Global, name: &str, why: NoRoom) -> Result<String, AllocE
 fn ending_of(alloc: Global, name: &str, log: &[u8], fault: SplitFault) -> Ending
     ensures ending { (bytes : List ℕ) (old new : Option (List ℕ)) → IsUntold bytes old new fault
         → IsSplitEnding name.now bytes old new result }
+    ensures count { (before : ℕ) → failures_after {X = Unit {0}} before (Err fault)
+        ≡ failures_by before result }
 {
     match fault {
         SplitFault::Log(fault) => Ending::refused(alloc, name, log, fault),
@@ -62,6 +65,7 @@ pub fn split_log<R: Threads + Sync, W: Sink>(
     ensures done { IfOk result (λ s. IsTold log.now (W.bytes sink.old) (W.bytes sink.new) × (s ≡ Done)) }
     ensures ended { IfErr result (IsSplitEnding (log_name request.now) log.now
         (W.bytes sink.old) (W.bytes sink.new)) }
+    ensures count { W.failures sink.new ≡ output_failures (W.failures sink.old) result }
 {
     match put_split(rt, alloc, log, request.workers, sink) {
         Ok(()) => Ok(Status::Done),

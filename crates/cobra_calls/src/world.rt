@@ -1,9 +1,11 @@
 //! What is outside of the program: where bytes are read, and where they are told.
 
-ghost use Rattle.std.specs.Prelude.{◌≡◌, ℕ, ◌^◌, ◌<◌, Bool, true, List, [], ◌∷◌, Option, IfOk, OnOk, OnErr, IfSome};
+ghost use Rattle.std.specs.Prelude.{◌≡◌, ℕ, ◌^◌, ◌<◌, if◌then◌else◌, Bool, true, is_ok};
+ghost use Rattle.std.specs.Prelude.{List, [], ◌∷◌, Option, IfOk, OnOk, OnErr, IfSome};
 ghost use Rattle.std.specs.Io.KnownBytes.{Keeps, Appends};
-ghost use Rattle.cobra_calls.specs.Worlds.{IsReadUpTo, IsCutShort};
-ghost use Rattle.cobra_calls.specs.Files.{File, Adds, AreCutShort};
+ghost use Rattle.output.specs.Sinks.{one_more};
+ghost use Rattle.cobra_calls.specs.Worlds.{IsReadUpTo, TellsFront, read_failures};
+ghost use Rattle.cobra_calls.specs.Files.{Disk, Adds, FailsAt};
 
 use output::{Counted, Sink, SinkFailed};
 use std::alloc::Global;
@@ -27,18 +29,34 @@ pub trait Inputs {
     /// The bytes of the file of each name, where they are known.
     ghost held: { Self → List ℕ → Option (List ℕ) };
 
+    /// How many calls failed, up to 2^64 - 1.
+    ghost failures: { Self → ℕ };
+
     /// Reads standard input, up to one byte more than the limit.
     fn read_given(&mut self, alloc: Global, limit: usize) -> Result<Vec<u8>, Unread>
         requires { limit < 2 ^ 63 }
         ensures text { IfOk result (λ text. IsReadUpTo (given self.old) limit text.items) }
-        ensures held { held self.new ≡ held self.old };
+        ensures held { held self.new ≡ held self.old }
+        ensures count { failures self.new ≡ read_failures (failures self.old) result };
 
     /// Reads the file of this name, up to one byte more than the limit.
     fn read_held(&mut self, alloc: Global, name: &str, limit: usize) -> Result<Vec<u8>, Unread>
         requires { limit < 2 ^ 63 }
         ensures text { IfOk result (λ text. IsReadUpTo (held self.old name.now) limit text.items) }
         ensures given { given self.new ≡ given self.old }
-        ensures held { held self.new ≡ held self.old };
+        ensures held { held self.new ≡ held self.old }
+        ensures count { failures self.new ≡ read_failures (failures self.old) result };
+}
+
+/// The count of failures after one more, which stops at 2^64 - 1.
+pub fn one_more(failures: u64) -> u64
+    ensures more { result ≡ one_more failures }
+{
+    if failures < u64::MAX {
+        failures + 1
+    } else {
+        failures
+    }
 }
 
 /// A sink that hands on what it holds back: standard output.
@@ -49,7 +67,9 @@ pub trait Outlet: Sink {
     /// Hands on what is held back.
     fn flush(&mut self) -> Result<(), SinkFailed>
         ensures keeps { Keeps (Self.bytes self.old) (Self.bytes self.new) }
-        ensures through { OnOk result (is_through self.new ≡ true) };
+        ensures through { OnOk result (is_through self.new ≡ true) }
+        ensures count { Self.failures self.new ≡ (if is_ok result then Self.failures self.old
+            else one_more (Self.failures self.old)) };
 }
 
 impl<W: Write> Outlet for Counted<W> {
@@ -58,23 +78,27 @@ impl<W: Write> Outlet for Counted<W> {
     fn flush(&mut self) -> Result<(), SinkFailed> {
         match self.writer.flush() {
             Ok(()) => Ok(()),
-            Err(_) => Err(SinkFailed),
+            Err(_) => {
+                self.failures = one_more(self.failures);
+                Err(SinkFailed)
+            }
         }
     }
 }
 
 /// Files that are written beside the output.
 pub trait NewFiles {
-    /// The files so far, where they are known: of each its name and its bytes.
-    ghost files: { Self → Option (List File) };
+    /// The files so far, where they are known, of each its name and its bytes; and how many calls
+    /// failed, up to 2^64 - 1.
+    ghost files: { Self → Disk };
 
     /// Writes a file of this name and these bytes. Where that fails there is no file, or one of its
     /// first bytes.
     fn put(&mut self, name: &str, bytes: &[u8]) -> io::Result<()>
         ensures put { OnOk result (Adds (files self.old) (files self.new)
             ((name.now, bytes.now) ∷ [])) }
-        ensures failed { OnErr result (AreCutShort ((name.now, bytes.now) ∷ [])
-            (files self.old) (files self.new)) };
+        ensures failed { OnErr result (FailsAt (files self.old) (files self.new)
+            (name.now, bytes.now)) };
 }
 
 /// A place where refusals are told: standard error.
@@ -90,7 +114,7 @@ pub trait Errors {
         ensures told { OnOk result (IfSome (D.output text)
             (Appends (lines self.old) (lines self.new))) }
         ensures failed { OnErr result (IfSome (D.output text)
-            (IsCutShort (lines self.old) (lines self.new))) }
+            (TellsFront (lines self.old) (lines self.new))) }
         ensures whole { OnOk result (is_broken self.new ≡ is_broken self.old) }
         ensures broken { OnErr result (is_broken self.new ≡ true) };
 }

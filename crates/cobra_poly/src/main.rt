@@ -7,7 +7,7 @@ mod outside;
 
 use crate::audit_call::{EachSecond, tell_failure};
 use crate::outside::{SystemErrors, SystemFiles, SystemInputs};
-use cobra_calls::{Ending, Inputs, USAGE, World, answer, audit_log, is_plain, read_log, report};
+use cobra_calls::{Ending, Inputs, USAGE, World, answer, audit_log, is_plain, read_log, tell_ending};
 use cobra_cli::{Fault, Status, Stop};
 use cobra_words::{AuditWords, Command, Request, Words, words_of};
 use output::Counted;
@@ -41,7 +41,7 @@ fn run_audit<R: Runtime + Threads + Wait + Sync, I: Inputs, W: Write>(
         is_asked: words.progress,
         last: start,
     };
-    let mut files = SystemFiles { rt };
+    let mut files = SystemFiles { rt, failures: 0 };
     audit_log(
         rt,
         alloc,
@@ -99,6 +99,7 @@ fn main(rt: HostRuntime) -> ExitCode {
         inputs: SystemInputs {
             rt: &rt,
             input: Some(rt.stdin()),
+            failures: 0,
         },
         output: Counted::new(rt.stdout()),
         errors: SystemErrors {
@@ -108,7 +109,7 @@ fn main(rt: HostRuntime) -> ExitCode {
     };
     let status = match status_of(&rt, rt.alloc(), start, &mut world) {
         Ok(status) => status,
-        Err(ending) => report(&mut world.errors, ending),
+        Err(ending) => tell_ending(&mut world.errors, ending),
     };
     ExitCode::from(status)
 }

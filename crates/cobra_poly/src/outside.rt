@@ -2,9 +2,11 @@
 //! Nothing here decides anything. What is read, told and answered is said by `cobra_calls`, for each
 //! such world.
 
-ghost use Rattle.std.specs.Prelude.{◌^◌, ◌<◌, None};
+ghost use Rattle.std.specs.Prelude.{◌≡◌, ◌^◌, ◌<◌, None, OnOk, OnErr};
+ghost use Rattle.output.specs.Sinks.{one_more};
+ghost use Rattle.cobra_calls.specs.Worlds.{read_failures};
 
-use cobra_calls::{Errors, Inputs, NewFiles, Unread, read_up_to};
+use cobra_calls::{Errors, Inputs, NewFiles, Unread, one_more, read_up_to};
 use output::SinkFailed;
 use std::alloc::Global;
 use std::fmt::Display;
@@ -17,6 +19,17 @@ use std::rt::Files;
 pub struct SystemInputs<'a, R, I> {
     pub rt: &'a R,
     pub input: Option<I>,
+    pub failures: u64,
+}
+
+/// How many reads failed after one that gave this.
+fn failures_after(failures: u64, read: &Result<Vec<u8>, Unread>) -> u64
+    ensures after { result ≡ read_failures failures read.now }
+{
+    match read {
+        Err(Unread::Device(_)) => one_more(failures),
+        _ => failures,
+    }
 }
 
 impl<R: Files, I: Read + Drop> Inputs for SystemInputs<'_, R, I> {
@@ -24,18 +37,24 @@ impl<R: Files, I: Read + Drop> Inputs for SystemInputs<'_, R, I> {
 
     ghost held = { λ _ _. None };
 
+    ghost failures = { λ i. i.failures };
+
     fn read_given(&mut self, alloc: Global, limit: usize) -> Result<Vec<u8>, Unread> {
-        match self.input.take() {
+        let read = match self.input.take() {
             Some(input) => read_up_to(alloc, input, limit),
             None => Err(Unread::Device(io::Error::from(ErrorKind::NotFound))),
-        }
+        };
+        self.failures = failures_after(self.failures, &read);
+        read
     }
 
     fn read_held(&mut self, alloc: Global, name: &str, limit: usize) -> Result<Vec<u8>, Unread> {
-        match fs::open(self.rt, name) {
+        let read = match fs::open(self.rt, name) {
             Ok(file) => read_up_to(alloc, file, limit),
             Err(error) => Err(Unread::Device(error)),
-        }
+        };
+        self.failures = failures_after(self.failures, &read);
+        read
     }
 }
 
@@ -66,12 +85,19 @@ impl<R: Eprint> Errors for SystemErrors<'_, R> {
 #[derive(Drop)]
 pub struct SystemFiles<'a, R> {
     pub rt: &'a R,
+    pub failures: u64,
 }
 
 impl<R: Files> NewFiles for SystemFiles<'_, R> {
-    ghost files = { λ _. None };
+    ghost files = { λ f. record { files = None; failures = f.failures } };
 
     fn put(&mut self, name: &str, bytes: &[u8]) -> io::Result<()> {
-        fs::create(self.rt, name).and_then(|mut file| file.write_all(bytes))
+        match fs::create(self.rt, name).and_then(|mut file| file.write_all(bytes)) {
+            Ok(()) => Ok(()),
+            Err(error) => {
+                self.failures = one_more(self.failures);
+                Err(error)
+            }
+        }
     }
 }

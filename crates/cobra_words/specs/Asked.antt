@@ -1,12 +1,13 @@
 -- What the matches of a command's words ask for: each field of a request, by the rows that `clap`
 -- found for the command.
-use Rattle.std.specs.Prelude.{◌≡◌, ◌⊎◌, ◌<◌, ◌^◌, ℕ, Bool, true, false, if◌then◌else◌, List, codes}
+use Rattle.std.specs.Prelude.{◌≡◌, ◌≢◌, ◌⊎◌, ◌<◌, ◌≤◌, ◌^◌, ℕ, Bool, true, false, if◌then◌else◌, List, codes}
 use Rattle.std.specs.Prelude.{Option, None, Some, option_map, unwrap_or}
 use Rattle.std.specs.Option.{option_map_or}
 use Rattle.std.specs.Str.{bytes_eq}
 use Rattle.std.specs.Str.Parse.{IsNumeral, digits_value, without_leading_plus}
 use Rattle.clap.specs.declared.parser.matches.ArgMatches.{ArgMatches}
-use Rattle.clap.specs.Simple.{subcommand_rows_of}
+use Rattle.clap.specs.Simple.{subcommand_of, subcommand_rows_of}
+use Rattle.clap.specs.Takes.{takes}
 use Rattle.clap.specs.Walk.{Row, Text, first_of, one_of}
 use Rattle.call_options.specs.declared.format.Format.{Format}
 use Rattle.call_options.specs.declared.format.Format.TheVariants as format
@@ -20,6 +21,9 @@ use Rattle.cobra_words.specs.declared.request.Request.{Request}
 use Rattle.cobra_words.specs.declared.request.AuditWords.{AuditWords}
 use Rattle.cobra_words.specs.declared.request.Command.{Command}
 use Rattle.cobra_words.specs.declared.request.Command.TheVariants as command
+use Rattle.cobra_words.specs.Commands.{Lists, program_app}
+use Rattle.cobra_words.specs.declared.request.Words.{Words}
+use Rattle.cobra_words.specs.declared.request.Words.TheVariants.{Request as Asked, Shown}
 
 -- ---- one value
 
@@ -140,3 +144,26 @@ pub record IsAskedBy (m : ArgMatches) (r : Request) : Type 0 where
   pub rows : List Row
   pub entered : subcommand_rows_of m ≡ Some (name, rows)
   pub request : IsRequest name rows r
+
+-- the numbers of the request are in their ranges
+abbrev pub IsInRange : Request → Type 0
+IsInRange r = (0 < r.workers) × (r.workers ≤ 16) × (0 < r.budget) × (r.budget ≤ 1000000)
+
+-- ---- words
+
+-- these words ask for it: they enter a command, and have its own matches
+pub record AreWordsOf (l : Lists) (words : List Text) (r : Request) : Type 0 where
+  pub name : Text
+  pub rows : List Row
+  pub entered : subcommand_of (program_app l) words ≡ Some (name, rows)
+  pub request : IsRequest name rows r
+
+-- what the words ask for, or nothing; or what is shown, since they are not taken
+abbrev pub IsReadAs : Lists → List Text → Option Words → Type 0
+IsReadAs l words None = (r : Request) → AreWordsOf l words r → IsInRange r → ⊥
+IsReadAs l words (Some (Asked r)) = AreWordsOf l words r
+IsReadAs l words (Some (Shown text)) = takes (program_app l) words ≢ true
+
+pub record IsRead (words : List Text) (read : Option Words) : Type 0 where
+  pub lists : Lists
+  pub read_as : IsReadAs lists words read

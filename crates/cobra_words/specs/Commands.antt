@@ -1,9 +1,10 @@
 -- The options and commands that the words are read by, as `clap` walks over words.
 use Rattle.std.specs.Prelude.{◌≡◌, ℕ, pos, true, false, [], ◌∷◌, codes, Some}
 use Rattle.clap.specs.Walk.{Rule, Text, rule_of}
-use Rattle.clap.specs.Simple.{App, new_rule, new_app, with_rule, app_of}
+use Rattle.clap.specs.Simple.{App, new_rule, new_app, with_rule, with_subcommand, on_top, app_of}
 use Rattle.clap.specs.declared.builder.arg.Arg.{Arg}
 use Rattle.clap.specs.declared.builder.action.ArgAction.TheVariants.{Set, SetTrue}
+use Rattle.clap.specs.declared.builder.value_parser.ValueParser.{ValueParser}
 use Rattle.clap.specs.declared.builder.value_parser.ValueParser.TheVariants as vp
 use Rattle.clap.specs.declared.builder.command.Command.{Command}
 use Rattle.clap.specs.declared.builder.command.Command.TheViews.{out-Command}
@@ -40,10 +41,45 @@ conflicts = record (new_rule (codes "conflicts")) {
   defaults = codes "1000000" ∷ [];
 }
 
+-- an option whose value is one of the names of a list, which this parser takes; the names are free
+abbrev pub listed : Text → ValueParser → Rule
+listed name parser = record (valued name) { parser = Some parser }
+
+abbrev pub strategy : Text → ValueParser → Rule
+strategy default parser = with_default default (listed (codes "strategy") parser)
+
+abbrev pub budget : Text → Rule
+budget default = with_default default (numbered (codes "budget") 1000000)
+
+abbrev pub form : ValueParser → Rule
+form parser = with_default (codes "text") (listed (codes "format") parser)
+
+abbrev pub level : ValueParser → Rule
+level parser = listed (codes "level") parser
+
+-- a level of `explain` excludes its form
+abbrev pub level_of_explain : ValueParser → Rule
+level_of_explain parser = record (level parser) { is_free = false }
+
+abbrev pub at_least : Rule
+at_least = with_default (codes "1")
+    (record (valued (codes "at-least")) { parser = Some (vp.Signed (pos 0) (pos 4294967295)) })
+
+abbrev pub faults : Rule
+faults = with_default (codes "1") (numbered (codes "faults") 1000)
+
+abbrev pub seconds : Rule
+seconds = numbered (codes "seconds") 1000000
+
 -- the argument has this rule, and is no global one
 pub record HasRule (rule : Rule) (a : Arg) : Type 0 where
   pub is : rule_of a ≡ rule
   pub own : a.global ≡ false
+
+-- such an argument has this rule with some list
+pub record HasListRule (rule : ValueParser → Rule) (a : Arg) : Type 0 where
+  pub parser : ValueParser
+  pub has : HasRule (rule parser) a
 
 -- the command walks over words so, and has no global argument
 pub record HasApp (app : App) (c : Command) : Type 0 where
@@ -76,3 +112,77 @@ stats_app = with_formula (new_app (codes "stats"))
 
 abbrev pub split_app : App
 split_app = with_workers (new_app (codes "split"))
+
+-- with these defaults of the strategy and the budget
+abbrev pub with_search : Text → Text → ValueParser → App → App
+with_search picked spent parser app =
+    with_workers (with_rule (with_rule app (strategy picked parser)) (budget spent))
+
+abbrev pub check_app : ValueParser → App
+check_app strategies =
+    with_search (codes "first") (codes "10000") strategies (new_app (codes "check"))
+
+abbrev pub explain_app : ValueParser → ValueParser → ValueParser → App
+explain_app forms levels strategies = with_search (codes "first") (codes "10000") strategies
+    (with_rule (with_rule (new_app (codes "explain")) (form forms)) (level_of_explain levels))
+
+abbrev pub with_report : ValueParser → App → App
+with_report forms app = with_rule (with_rule (with_rule (with_rule app (form forms))
+    (flag (codes "quiet"))) seconds) (flag (codes "progress"))
+
+-- what is asked of `audit` alone
+abbrev pub with_audit : ValueParser → App → App
+with_audit levels app = with_rule (with_rule (with_rule (with_rule (with_rule (with_rule (with_rule
+    (with_rule app (flag (codes "explain"))) faults) (valued (codes "part")))
+    (valued (codes "order"))) (level levels)) (flag (codes "only"))) (flag (codes "no-moments")))
+    at_least
+
+abbrev pub audit_app : ValueParser → ValueParser → ValueParser → App
+audit_app levels forms strategies = with_search (codes "forced") (codes "100000") strategies
+    (with_report forms (with_audit levels (new_app (codes "audit"))))
+
+-- the lists that options take their names from
+pub record Lists : Type 0 where
+  pub check_strategies : ValueParser
+  pub explain_forms : ValueParser
+  pub explain_levels : ValueParser
+  pub explain_strategies : ValueParser
+  pub audit_levels : ValueParser
+  pub audit_forms : ValueParser
+  pub audit_strategies : ValueParser
+
+-- the program, with each of its commands
+abbrev pub with_command : App → App → App
+with_command program command = with_subcommand program command.top
+
+abbrev pub program_head : App
+program_head = on_top (λ s. record s { has_version = true; subcommand_required = true })
+    (new_app (codes "cobra_poly"))
+
+abbrev pub program_app : Lists → App
+program_app l = with_command (with_command (with_command (with_command (with_command (with_command
+    (with_command (with_command (with_command (with_command program_head encode_app) decode_app)
+    refute_app) solve_app) (check_app l.check_strategies)) verify_app) stats_app)
+    (explain_app l.explain_forms l.explain_levels l.explain_strategies))
+    (audit_app l.audit_levels l.audit_forms l.audit_strategies)) split_app
+
+-- a command walks so with some lists
+pub record HasListApp (app : ValueParser → App) (c : Command) : Type 0 where
+  pub parser : ValueParser
+  pub has : HasApp (app parser) c
+
+pub record IsExplain (c : Command) : Type 0 where
+  pub forms : ValueParser
+  pub levels : ValueParser
+  pub strategies : ValueParser
+  pub has : HasApp (explain_app forms levels strategies) c
+
+pub record IsAudit (c : Command) : Type 0 where
+  pub levels : ValueParser
+  pub forms : ValueParser
+  pub strategies : ValueParser
+  pub has : HasApp (audit_app levels forms strategies) c
+
+pub record IsProgram (c : Command) : Type 0 where
+  pub lists : Lists
+  pub has : HasApp (program_app lists) c

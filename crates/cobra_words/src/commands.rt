@@ -4,7 +4,9 @@ ghost use Rattle.std.specs.Prelude.{IfOk};
 ghost use Rattle.clap.specs.Simple.{App};
 ghost use Rattle.cobra_words.specs.Commands.{verify_app, encode_app, decode_app, refute_app};
 ghost use Rattle.cobra_words.specs.Commands.{solve_app, stats_app, split_app, with_workers};
-ghost use Rattle.cobra_words.specs.Commands.{with_formula, HasApp};
+ghost use Rattle.cobra_words.specs.Commands.{with_formula, with_search, with_report, with_audit};
+ghost use Rattle.cobra_words.specs.Commands.{check_app, program_head, HasApp, HasListApp, IsExplain};
+ghost use Rattle.cobra_words.specs.Commands.{IsAudit, IsProgram};
 
 use crate::{answers, options};
 use call_options::{AUDIT_DEFAULTS, CHECK_DEFAULTS, SearchDefaults};
@@ -44,7 +46,10 @@ fn with_search<'a>(
     command: Command<'a>,
     budget: &'a str,
     defaults: SearchDefaults,
-) -> Result<Command<'a>, AllocError> {
+) -> Result<Command<'a>, AllocError>
+    ensures app { (a : App) → HasApp a command.entry → IfOk result (HasListApp (λ p.
+        with_search defaults.strategy.now defaults.budget.now p a)) }
+{
     let command = command
         .arg(options::strategy(alloc, defaults.strategy))?
         .arg(options::budget(alloc, budget, defaults.budget))?;
@@ -90,7 +95,9 @@ fn solve<'a>(alloc: Global) -> Result<Command<'a>, AllocError>
     with_formula(alloc, command)
 }
 
-fn check<'a>(alloc: Global) -> Result<Command<'a>, AllocError> {
+fn check<'a>(alloc: Global) -> Result<Command<'a>, AllocError>
+    ensures app { IfOk result (HasListApp check_app) }
+{
     let command = Command::new(alloc, "check")
         .about("Decide whether some serial order explains a log")
         .after_help(answers::CHECK);
@@ -116,7 +123,9 @@ fn stats<'a>(alloc: Global) -> Result<Command<'a>, AllocError>
     with_formula(alloc, command)
 }
 
-fn explain<'a>(alloc: Global) -> Result<Command<'a>, AllocError> {
+fn explain<'a>(alloc: Global) -> Result<Command<'a>, AllocError>
+    ensures app { IfOk result IsExplain }
+{
     let command = Command::new(alloc, "explain")
         .about("Say why no serial order explains a log")
         .after_help(answers::EXPLAIN)
@@ -126,7 +135,10 @@ fn explain<'a>(alloc: Global) -> Result<Command<'a>, AllocError> {
 }
 
 /// Such a command that reports.
-fn with_report<'a>(alloc: Global, command: Command<'a>) -> Result<Command<'a>, AllocError> {
+fn with_report<'a>(alloc: Global, command: Command<'a>) -> Result<Command<'a>, AllocError>
+    ensures app { (a : App) → HasApp a command.entry
+        → IfOk result (HasListApp (λ p. with_report p a)) }
+{
     command
         .arg(options::report_format(alloc))?
         .arg(options::quiet(alloc))?
@@ -134,10 +146,12 @@ fn with_report<'a>(alloc: Global, command: Command<'a>) -> Result<Command<'a>, A
         .arg(options::progress(alloc))
 }
 
-fn audit<'a>(alloc: Global) -> Result<Command<'a>, AllocError> {
-    let command = Command::new(alloc, "audit")
-        .about("Decide whether some serial order explains a log of any length")
-        .after_help(answers::AUDIT)
+/// Such a command with what is asked of `audit` alone.
+fn with_audit<'a>(alloc: Global, command: Command<'a>) -> Result<Command<'a>, AllocError>
+    ensures app { (a : App) → HasApp a command.entry
+        → IfOk result (HasListApp (λ p. with_audit p a)) }
+{
+    command
         .arg(options::explain(alloc))?
         .arg(options::faults(alloc))?
         .arg(options::part(alloc))?
@@ -145,8 +159,16 @@ fn audit<'a>(alloc: Global) -> Result<Command<'a>, AllocError> {
         .arg(options::level(alloc))?
         .arg(options::only(alloc))?
         .arg(options::no_moments(alloc))?
-        .arg(options::at_least(alloc))?;
-    let command = with_report(alloc, command)?;
+        .arg(options::at_least(alloc))
+}
+
+fn audit<'a>(alloc: Global) -> Result<Command<'a>, AllocError>
+    ensures app { IfOk result IsAudit }
+{
+    let command = Command::new(alloc, "audit")
+        .about("Decide whether some serial order explains a log of any length")
+        .after_help(answers::AUDIT);
+    let command = with_report(alloc, with_audit(alloc, command)?)?;
     with_search(alloc, command, CUBES_AND_CONFLICTS, AUDIT_DEFAULTS)
 }
 
@@ -159,14 +181,23 @@ fn split<'a>(alloc: Global) -> Result<Command<'a>, AllocError>
     with_workers(alloc, command)
 }
 
-/// The program, with its commands.
-pub fn program<'a>(alloc: Global) -> Result<Command<'a>, AllocError> {
+/// The program, without its commands.
+fn program_head<'a>(alloc: Global) -> Command<'a>
+    ensures app { HasApp program_head result }
+{
     Command::new(alloc, "cobra_poly")
         .about(
             "Decides by a formula whether some serial order explains what the clients of a store saw",
         )
         .version(VERSION)
         .subcommand_required(true)
+}
+
+/// The program, with its commands.
+pub fn program<'a>(alloc: Global) -> Result<Command<'a>, AllocError>
+    ensures app { IfOk result IsProgram }
+{
+    program_head(alloc)
         .subcommand(encode(alloc)?)?
         .subcommand(decode(alloc)?)?
         .subcommand(refute(alloc)?)?

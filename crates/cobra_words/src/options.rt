@@ -1,8 +1,10 @@
 //! The options of commands.
 
-ghost use Rattle.std.specs.Prelude.{codes};
+ghost use Rattle.std.specs.Prelude.{codes, IfOk};
 ghost use Rattle.cobra_words.specs.Commands.{valued, flag, required_file, log_file, HasRule};
-ghost use Rattle.cobra_words.specs.Commands.{workers, conflicts};
+ghost use Rattle.cobra_words.specs.Commands.{workers, conflicts, strategy, budget, form, level};
+ghost use Rattle.cobra_words.specs.Commands.{level_of_explain, at_least, faults, seconds};
+ghost use Rattle.cobra_words.specs.Commands.{HasListRule};
 
 use clap::builder::ValueParser;
 use clap::{Arg, ArgAction};
@@ -77,7 +79,9 @@ pub fn plain<'a>(alloc: Global) -> Arg<'a>
     flag(alloc, "plain").help("Use the plain formula, of at most 100 transactions")
 }
 
-pub fn strategy<'a>(alloc: Global, default: &'a str) -> Arg<'a> {
+pub fn strategy<'a>(alloc: Global, default: &'a str) -> Arg<'a>
+    ensures rule { HasListRule (strategy default.entry.now) result }
+{
     valued(alloc, "strategy", "NAME")
         .help(
             "Which choice a search decides next: the first, one with the most or the least edges, or one that the edges force",
@@ -86,7 +90,9 @@ pub fn strategy<'a>(alloc: Global, default: &'a str) -> Arg<'a> {
         .default_value(default)
 }
 
-pub fn budget<'a>(alloc: Global, help: &'a str, default: &'a str) -> Arg<'a> {
+pub fn budget<'a>(alloc: Global, help: &'a str, default: &'a str) -> Arg<'a>
+    ensures rule { HasRule (budget default.entry.now) result }
+{
     valued(alloc, "budget", "N")
         .help(help)
         .value_parser(clap::value_parser!(u32).range(1..=1_000_000))
@@ -105,7 +111,9 @@ pub fn conflicts<'a>(alloc: Global) -> Arg<'a>
         .default_value(DEFAULT_CONFLICTS)
 }
 
-pub fn format<'a>(alloc: Global) -> Arg<'a> {
+pub fn format<'a>(alloc: Global) -> Arg<'a>
+    ensures rule { HasListRule form result }
+{
     valued(alloc, "format", "FORM")
         .help("Lines of text, or a graph for Graphviz")
         .value_parser(ValueParser::Names(&FORMATS))
@@ -118,24 +126,32 @@ pub fn required_file<'a>(alloc: Global, name: &'a str, help: &'a str) -> Arg<'a>
     valued(alloc, name, "FILE").help(help).required(true)
 }
 
-pub fn at_least<'a>(alloc: Global) -> Arg<'a> {
+pub fn at_least<'a>(alloc: Global) -> Arg<'a>
+    ensures rule { HasRule at_least result }
+{
     valued(alloc, "at-least", "N")
         .help("How many lines commit the log must have: with fewer the answer is unknown")
         .value_parser(clap::value_parser!(u32))
         .default_value(DEFAULT_AT_LEAST)
 }
 
-pub fn seconds<'a>(alloc: Global) -> Arg<'a> {
+pub fn seconds<'a>(alloc: Global) -> Arg<'a>
+    ensures rule { HasRule seconds result }
+{
     valued(alloc, "seconds", "N")
         .help("Begin nothing further so many seconds after the start, 1 to 1000000")
         .value_parser(clap::value_parser!(u32).range(1..=1_000_000))
 }
 
-pub fn explain<'a>(alloc: Global) -> Arg<'a> {
+pub fn explain<'a>(alloc: Global) -> Arg<'a>
+    ensures rule { HasRule (flag (codes "explain")) result }
+{
     flag(alloc, "explain").help("Say why no serial order explains the log")
 }
 
-pub fn faults<'a>(alloc: Global) -> Arg<'a> {
+pub fn faults<'a>(alloc: Global) -> Arg<'a>
+    ensures rule { HasRule faults result }
+{
     valued(alloc, "faults", "N")
         .help(
             "Tell up to N parts that no serial order explains, 1 to 1000, and how many have each code",
@@ -144,19 +160,25 @@ pub fn faults<'a>(alloc: Global) -> Arg<'a> {
         .default_value("1")
 }
 
-pub fn part<'a>(alloc: Global) -> Arg<'a> {
+pub fn part<'a>(alloc: Global) -> Arg<'a>
+    ensures rule { HasRule (valued (codes "part")) result }
+{
     valued(alloc, "part", "FILE").help(
         "Write the part that no serial order explains as a log, and into FILE.map the line of the log for each of its lines",
     )
 }
 
-pub fn order<'a>(alloc: Global) -> Arg<'a> {
+pub fn order<'a>(alloc: Global) -> Arg<'a>
+    ensures rule { HasRule (valued (codes "order")) result }
+{
     valued(alloc, "order", "FILE").help(
         "Write the order, a line SESSION PLACE for each transaction, or of snapshots and commits a line for each of these",
     )
 }
 
-pub fn level<'a>(alloc: Global) -> Arg<'a> {
+pub fn level<'a>(alloc: Global) -> Arg<'a>
+    ensures rule { HasListRule level result }
+{
     valued(alloc, "level", "LEVEL")
         .help(
             "Which promise is judged: else strict-serializable where moments are stated, and serializable where none are",
@@ -164,34 +186,45 @@ pub fn level<'a>(alloc: Global) -> Arg<'a> {
         .value_parser(ValueParser::Names(&LEVELS))
 }
 
-pub fn level_of_explain<'a>(alloc: Global) -> Result<Arg<'a>, AllocError> {
-    valued(alloc, "level", "LEVEL")
+pub fn level_of_explain<'a>(alloc: Global) -> Result<Arg<'a>, AllocError>
+    ensures rule { IfOk result (HasListRule level_of_explain) }
+{
+    level(alloc)
         .help("Say what audit --explain says of this promise")
-        .value_parser(ValueParser::Names(&LEVELS))
         .conflicts_with("format")
 }
 
-pub fn only<'a>(alloc: Global) -> Arg<'a> {
+pub fn only<'a>(alloc: Global) -> Arg<'a>
+    ensures rule { HasRule (flag (codes "only")) result }
+{
     flag(alloc, "only").help(
         "Judge nothing but the level: no weaker one, and nothing without moments",
     )
 }
 
-pub fn no_moments<'a>(alloc: Global) -> Arg<'a> {
+pub fn no_moments<'a>(alloc: Global) -> Arg<'a>
+    ensures rule { HasRule (flag (codes "no-moments")) result }
+{
     flag(alloc, "no-moments").help("Judge the log as if it stated no moments")
 }
 
-pub fn report_format<'a>(alloc: Global) -> Arg<'a> {
+pub fn report_format<'a>(alloc: Global) -> Arg<'a>
+    ensures rule { HasListRule form result }
+{
     valued(alloc, "format", "FORM")
         .help("Lines of text, or one object of JSON")
         .value_parser(ValueParser::Names(&REPORTS))
         .default_value("text")
 }
 
-pub fn quiet<'a>(alloc: Global) -> Arg<'a> {
+pub fn quiet<'a>(alloc: Global) -> Arg<'a>
+    ensures rule { HasRule (flag (codes "quiet")) result }
+{
     flag(alloc, "quiet").help("Write the first line alone, or of JSON the verdict")
 }
 
-pub fn progress<'a>(alloc: Global) -> Arg<'a> {
+pub fn progress<'a>(alloc: Global) -> Arg<'a>
+    ensures rule { HasRule (flag (codes "progress")) result }
+{
     flag(alloc, "progress").help("Tell once a second on standard error how far it is")
 }

@@ -1,11 +1,12 @@
 //! From words to what they ask for.
 
-ghost use Rattle.std.specs.Prelude.{◌≡◌, ◌<◌, ◌≤◌, codes, IfSome, IsSome};
+ghost use Rattle.std.specs.Prelude.{codes, map, string_bytes, IfOk, IfSome, IfNone, IsSome};
 ghost use Rattle.clap.specs.Matches.{found_of};
 ghost use Rattle.clap.specs.Walk.{rows_of};
 ghost use Rattle.cobra_words.specs.declared.request.Command.{Command};
 ghost use Rattle.cobra_words.specs.declared.request.Request.{Request};
 ghost use Rattle.cobra_words.specs.Asked.{AreAuditWords, IsCommand, IsRequest, IsAskedBy};
+ghost use Rattle.cobra_words.specs.Asked.{IsInRange, IsRead};
 
 use crate::commands::program;
 use crate::request::{AuditWords, Command, Request, Words};
@@ -83,7 +84,7 @@ fn command_of<'a>(name: &str, matches: &ArgMatches<'a>) -> Option<Command<'a>>
 fn request_at<'a>(name: &str, matches: &ArgMatches<'a>) -> Option<Request<'a>>
     ensures request { IfSome result (IsRequest name.now (rows_of (found_of matches.now))) }
     ensures known { (r : Request) → IsRequest name.now (rows_of (found_of matches.now)) r
-        → 0 < r.workers → r.workers ≤ 16 → 0 < r.budget → r.budget ≤ 1000000 → IsSome result }
+        → IsInRange r → IsSome result }
 {
     let command = command_of(name, matches)?;
     let number = byte_of(matches, "workers").unwrap_or(4);
@@ -100,6 +101,7 @@ fn request_at<'a>(name: &str, matches: &ArgMatches<'a>) -> Option<Request<'a>>
 
 fn request_of<'a>(program: &ArgMatches<'a>) -> Option<Request<'a>>
     ensures request { IfSome result (IsAskedBy program.now) }
+    ensures known { IfNone result ((r : Request) → IsAskedBy program.now r → IsInRange r → ⊥) }
 {
     let (name, matches) = program.subcommand()?;
     request_at(name, matches)
@@ -107,7 +109,9 @@ fn request_of<'a>(program: &ArgMatches<'a>) -> Option<Request<'a>>
 
 /// What these words ask for, the first of which is the program's name. `None` is never given for
 /// words that the command line lets through.
-pub fn words_of<'a>(alloc: Global, words: &'a [String]) -> Result<Option<Words<'a>>, AllocError> {
+pub fn words_of<'a>(alloc: Global, words: &'a [String]) -> Result<Option<Words<'a>>, AllocError>
+    ensures read { IfOk result (IsRead (map string_bytes words.entry.now)) }
+{
     let program = program(alloc)?;
     match program.try_get_matches_from(words) {
         Err(error) => match error.kind() {

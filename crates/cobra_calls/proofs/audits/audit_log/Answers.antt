@@ -1,19 +1,38 @@
-use Rattle.std.proofs.Common.{ℕ, List, Option, refl, sym, subst, inl, inr}
+use Rattle.std.proofs.Common.{◌≡◌, ℕ, List, Option, refl, sym, subst, inl, inr, ◌∙◌}
 use Rattle.std.specs.declared.time.Instant.{Instant}
 use Rattle.audit_command.specs.declared.options.AuditOptions.{AuditOptions}
 use Rattle.audit_command.specs.declared.outcome.Refusal.{Refusal}
 use Rattle.audit_command.specs.declared.outcome.Refusal.TheVariants as refusal
-use Rattle.cobra_calls.specs.Files.{File}
+use Rattle.cobra_calls.specs.Files.{Disk}
 use Rattle.cobra_words.specs.declared.request.Request.{Request}
 use Rattle.cobra_words.specs.declared.request.AuditWords.{AuditWords}
 use Rattle.cobra_calls.specs.declared.ending.Ending.{Ending}
 use Rattle.cobra_calls.specs.Calls.{log_name}
-use Rattle.cobra_calls.specs.Audits.{AreOptions, IsUsage, IsRefusalTold, IsAuditEnding, by_words}
+use Rattle.cobra_calls.specs.Audits.{Asks, IsRefusalTold, IsAuditEnding, by_memory}
 use Rattle.std.proofs.lemmas.Result.{err_from_is_err_and}
 use Rattle.audit_command.specs.Audited.{IsRefused}
-use Rattle.cobra_calls.specs.Worlds.{IsCutShort}
-use Rattle.cobra_calls.specs.Audits.{IsHandedOn, by_log, cut_refusal, cut_report, cut_files}
+use Rattle.cobra_calls.specs.Handed.{TellsFront}
+use Rattle.cobra_calls.specs.Audits.{IsHandedOn, twice_line, by_names, by_log, cut_refusal, cut_report, cut_files}
+use Rattle.cobra_calls.specs.Endings.{IsUnusableLine}
+use Rattle.cobra_calls.proofs.Failures.{by_line}
 use Rattle.cobra_calls.proofs.audits.audit_log.Goals as goal
+
+pub returns-in_err-refuse_same_files-clause-ended : goal.returns-in_err-refuse_same_files-clause-ended
+returns-in_err-refuse_same_files-clause-ended g c =
+    let p = err_from_is_err_and c.from_residual-in_err-refuse_same_files.result c.from_residual-in_err-refuse_same_files.ensures.1 in
+    rw (p.1, p.2) (by_names c.in_err-refuse_same_files.ensures.refused refl refl)
+
+pub returns-in_err-refuse_same_files-clause-count : goal.returns-in_err-refuse_same_files-clause-count
+returns-in_err-refuse_same_files-clause-count g c =
+    let p = err_from_is_err_and c.from_residual-in_err-refuse_same_files.result c.from_residual-in_err-refuse_same_files.ensures.1 in
+    let named = c.in_err-refuse_same_files.ensures.refused in
+    rw (p.1, p.2) (sym (by_line (λ l. l ≡ twice_line named.name) 2 (g.W.Sink.failures c.args.sink.now) _ named.told))
+
+pub returns-in_err-put_files-in-Ok-clause-count : goal.returns-in_err-put_files-in-Ok-clause-count
+returns-in_err-put_files-in-Ok-clause-count g c =
+    let p = err_from_is_err_and c.from_residual-in_err-put_files-in-Ok.result c.from_residual-in_err-put_files-in-Ok.ensures.1 in
+    let cut = c.in_err-put_files-in-Ok.ensures.unwritten in
+    rw (p.1, p.2) (c.in_ok-hand_on-in-Ok.ensures.count ∙ sym (by_line (IsUnusableLine cut.failed.0) 5 (g.W.Sink.failures c.args.sink.now) _ cut.told))
 
 pub returns-in_err-hand_on-in-Ok-clause-ended : goal.returns-in_err-hand_on-in-Ok-clause-ended
 returns-in_err-hand_on-in-Ok-clause-ended g c =
@@ -21,8 +40,8 @@ returns-in_err-hand_on-in-Ok-clause-ended g c =
     let old = g.W.Sink.bytes c.args.sink.now in
     let new = g.W.Sink.bytes c.hand_on.new.sink in
     rw (p.1, p.2) (cut_report c.in-Ok.audited
-    (record { options = c.options_of-options.result; are = c.options_of-options.ensures.options; audited = c.in-Ok.ensures.audited })
-    (subst (IsCutShort old new) c.deref-in-Ok.ensures.value c.in_err-hand_on-in-Ok.ensures.cut) c.in_err-hand_on-in-Ok.ensures.output refl)
+    (record { options = c.options_of-options.result; asks = record { options = c.options_of-options.ensures.options; apart = c.in_ok-refuse_same_files.ensures.apart }; audited = c.in-Ok.ensures.audited })
+    (subst (TellsFront old new) c.deref-in-Ok.ensures.value c.in_err-hand_on-in-Ok.ensures.cut) c.in_err-hand_on-in-Ok.ensures.output refl)
 
 pub returns-in_err-put_files-in-Ok-clause-ended : goal.returns-in_err-put_files-in-Ok-clause-ended
 returns-in_err-put_files-in-Ok-clause-ended g c =
@@ -30,8 +49,8 @@ returns-in_err-put_files-in-Ok-clause-ended g c =
     let old = g.W.Sink.bytes c.args.sink.now in
     let new = g.W.Sink.bytes c.hand_on.new.sink in
     rw (p.1, p.2) (cut_files c.in-Ok.audited
-    (record { options = c.options_of-options.result; are = c.options_of-options.ensures.options; audited = c.in-Ok.ensures.audited })
-    (subst (IsHandedOn old new) c.deref-in-Ok.ensures.value c.in_ok-hand_on-in-Ok.ensures.told) c.in_err-put_files-in-Ok.ensures.failed c.in_err-put_files-in-Ok.ensures.unwritten)
+    (record { options = c.options_of-options.result; asks = record { options = c.options_of-options.ensures.options; apart = c.in_ok-refuse_same_files.ensures.apart }; audited = c.in-Ok.ensures.audited })
+    (subst (IsHandedOn old new) c.deref-in-Ok.ensures.value c.in_ok-hand_on-in-Ok.ensures.told) c.in_err-put_files-in-Ok.ensures.unwritten)
 
 pub returns-in-Ok-clause-done : goal.returns-in-Ok-clause-done
 returns-in-Ok-clause-done g c =
@@ -39,18 +58,18 @@ returns-in-Ok-clause-done g c =
     let new = g.W.Sink.bytes c.hand_on.new.sink in
     record {
       finding = c.in-Ok.audited;
-      finds = record { options = c.options_of-options.result; are = c.options_of-options.ensures.options; audited = c.in-Ok.ensures.audited };
+      finds = record { options = c.options_of-options.result; asks = record { options = c.options_of-options.ensures.options; apart = c.in_ok-refuse_same_files.ensures.apart }; audited = c.in-Ok.ensures.audited };
       told = subst (IsHandedOn old new) c.deref-in-Ok.ensures.value c.in_ok-hand_on-in-Ok.ensures.told;
       written = c.in_ok-put_files-in-Ok.ensures.put;
       ends = refl;
     }
 
-refused_so : (r : Request) (w : AuditWords) (start : Option Instant) (log : List ℕ) (old new : Option (List ℕ)) (files : Option (List File)) (o : AuditOptions) (why : Refusal) (e : Ending) → AreOptions r w start o → IsRefused o log why → IsRefusalTold (log_name r) why old new e → IsAuditEnding r w start log old new files files e
-refused_so r w start log old new files o refusal.Memory e are h told = by_words (subst IsUsage (sym told.0) refl) told.1 refl
-refused_so r w start log old new files o (refusal.Log f text) e are h (inl told) =
-    by_log f text.items (record { options = o; are = are; fault = h.0; says = h.2 }) told.0 told.1 refl
-refused_so r w start log old new files o (refusal.Log f text) e are h (inr told) =
-    cut_refusal f text.items (record { options = o; are = are; fault = h.0; says = h.2 }) told.0 told.1 refl
+refused_so : (r : Request) (w : AuditWords) (start : Option Instant) (log : List ℕ) (old new : Option (List ℕ)) (files : Disk) (o : AuditOptions) (why : Refusal) (e : Ending) → Asks r w start o → IsRefused o log why → IsRefusalTold (log_name r) why old new e → IsAuditEnding r w start log old new files files e
+refused_so r w start log old new files o refusal.Memory e asks h told = by_memory told.0 told.1 refl
+refused_so r w start log old new files o (refusal.Log f text) e asks h (inl told) =
+    by_log f text.items (record { options = o; asks = asks; fault = h.0; says = h.2 }) told.0 told.1 refl
+refused_so r w start log old new files o (refusal.Log f text) e asks h (inr told) =
+    cut_refusal f text.items (record { options = o; asks = asks; fault = h.0; says = h.2 }) told.0 told.1 refl
 
 pub returns-clause-ended : goal.returns-clause-ended
 returns-clause-ended g c =
@@ -58,4 +77,4 @@ returns-clause-ended g c =
     let new = g.W.Sink.bytes c.refuse.new.sink in
     let told = subst (λ name. IsRefusalTold name c.in-Err.refusal old new c.refuse.result) c.log_name.ensures.name c.refuse.ensures.told in
     refused_so c.args.request.now c.args.words.now c.args.start c.args.log.now old new (g.F.NewFiles.files c.args.files.now) c.options_of-options.result c.in-Err.refusal c.refuse.result
-    c.options_of-options.ensures.options c.in-Err.ensures.refused told
+    (record { options = c.options_of-options.ensures.options; apart = c.in_ok-refuse_same_files.ensures.apart }) c.in-Err.ensures.refused told

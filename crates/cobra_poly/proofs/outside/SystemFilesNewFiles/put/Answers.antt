@@ -1,6 +1,8 @@
-use Rattle.std.proofs.Common.{None}
-use Rattle.cobra_calls.proofs.Cuts.{cut_none, on_any_err}
+use Rattle.std.proofs.Common.{[], refl}
 use Rattle.cobra_poly.proofs.outside.SystemFilesNewFiles.put.Goals as goal
 
-pub returns-clause-failed : goal.returns-clause-failed
-returns-clause-failed g c = on_any_err c.and_then.result _ (cut_none _ None None tt)
+pub returns-in-Ok-clause-put : goal.returns-in-Ok-clause-put
+returns-in-Ok-clause-put g c = record { files = tt; failures = refl }
+
+pub returns-in-Err-clause-failed : goal.returns-in-Err-clause-failed
+returns-in-Err-clause-failed g c = record { begun = []; is = tt; files = tt; failures = c.one_more.ensures.more }
