@@ -14,6 +14,7 @@ use Rattle.cobra_cli.specs.Commands as cli
 use Rattle.refute_command.specs.Refuted as refute
 use Rattle.solve_command.specs.Solved as solve
 use Rattle.split_command.specs.Told as split
+use Rattle.census_command.specs.Told as census
 use Rattle.proof_text.specs.declared.fault.ProofFault.{ProofFault}
 use Rattle.cobra_words.specs.declared.request.Request.{Request}
 use Rattle.cobra_words.specs.declared.request.Command.{Command}
@@ -21,6 +22,7 @@ use Rattle.cobra_words.specs.declared.request.Command.TheVariants as command
 use Rattle.cobra_calls.specs.declared.ending.Ending.{Ending}
 use Rattle.cobra_calls.specs.declared.ending.Ending.TheVariants as ending
 use Rattle.cobra_calls.specs.Splits.{IsSplitEnding}
+use Rattle.cobra_calls.specs.Censuses.{IsCensusEnding}
 use Rattle.cobra_calls.specs.Explains.{IsExplainEnding}
 
 -- the bytes that a call reads: those of the log, and those of the file that the request names beside
@@ -45,6 +47,7 @@ is_plain command.Stats = true
 is_plain (command.Explain format) = true
 is_plain (command.Audit words) = false
 is_plain command.Split = true
+is_plain command.Census = true
 
 -- ---- what a command says of the sessions of a log: how it ends, and its text
 abbrev pub Says : Command → Request → Reads → List ClientSession → Status → List ℕ → Type 0
@@ -58,6 +61,7 @@ Says command.Stats r read = cli.IsCounting r.plain (version_of read.log)
 Says (command.Explain format) r read = IsExplanation r.budget (version_of read.log) format
 Says (command.Audit words) r read = λ _ _ _. ⊥
 Says command.Split r read = λ _ _ _. ⊥
+Says command.Census r read = λ _ _ _. ⊥
 
 -- why it says nothing of them
 abbrev pub Refuses : Command → Request → Reads → Fault → List ClientSession → Type 0
@@ -71,11 +75,13 @@ Refuses command.Stats r read = cli.HasNoFormula r.plain
 Refuses (command.Explain format) r read = IsUndecided
 Refuses (command.Audit words) r read = λ _ _. ⊥
 Refuses command.Split r read = λ _ _. ⊥
+Refuses command.Census r read = λ _ _. ⊥
 
 -- ---- what a call does that ends with an answer
 abbrev pub IsDoneBy : Command → Request → Reads → Option (List ℕ) → Option (List ℕ) → Status
     → Type 0
 IsDoneBy command.Split r read old new status = split.IsTold read.log old new × (status ≡ Done)
+IsDoneBy command.Census r read old new status = census.IsTold read.log old new status
 IsDoneBy c r read old new status = IsTold (Says c r read) read.log old new status
 
 abbrev pub IsDone : Request → Reads → Option (List ℕ) → Option (List ℕ) → Status → Type 0
@@ -92,6 +98,7 @@ IsProofEnding _ r read old new e = ⊥
 abbrev pub IsEndedBy : Command → Request → Reads → Option (List ℕ) → Option (List ℕ) → Ending
     → Type 0
 IsEndedBy command.Split r read old new e = IsSplitEnding (log_name r) read.log old new e
+IsEndedBy command.Census r read old new e = IsCensusEnding (log_name r) read.log old new e
 IsEndedBy (command.Explain format) r read old new e =
     IsExplainEnding (log_name r) read.log r.budget format old new e
 IsEndedBy c r read old new (ending.Stop (stop.Refused f)) =

@@ -2,6 +2,7 @@ pub mod Files
 pub mod Endings
 pub mod Handed
 pub mod Splits
+pub mod Censuses
 pub mod Explains
 pub mod Calls
 pub mod Worlds

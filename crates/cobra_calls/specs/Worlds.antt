@@ -49,6 +49,7 @@ bytes_of given held r = source_of given held r.log
 abbrev pub is_long : Command → Bool
 is_long (command.Audit words) = true
 is_long command.Split = true
+is_long command.Census = true
 is_long _ = false
 
 abbrev pub limit_of : Command → ℕ

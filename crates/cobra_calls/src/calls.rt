@@ -4,6 +4,7 @@ ghost use Rattle.std.specs.Prelude.{◌≡◌, true, IfOk, IfErr};
 ghost use Rattle.cobra_calls.specs.Calls.{Reads, is_plain, IsDone, IsEnded};
 ghost use Rattle.cobra_calls.specs.Endings.{output_failures};
 
+use crate::censuses::census_log;
 use crate::ending::Ending;
 use crate::explains::explain_log;
 use crate::splits::split_log;
@@ -64,6 +65,7 @@ pub fn run_on<R: Threads + Wait + Clock + Sync, W: Outlet>(
             Ok(solve(rt, alloc, log, plain, *conflicts, workers, &OpenGate, sink)?)
         }
         Command::Split => split_log(rt, alloc, log, request, sink),
+        Command::Census => census_log(rt, alloc, log, request, sink),
         Command::Explain { format } => {
             explain_log(rt, alloc, log, request, &options, *format, sink)
         }

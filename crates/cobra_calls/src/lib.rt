@@ -7,6 +7,7 @@
 mod answering;
 mod audits;
 mod calls;
+mod censuses;
 mod ending;
 mod explains;
 mod reading;

@@ -22,7 +22,10 @@ use std::alloc::Global;
 fn is_long(command: &Command<'_>) -> bool
     ensures long { result ≡ is_long command.now }
 {
-    matches!(command, Command::Audit(_) | Command::Split)
+    matches!(
+        command,
+        Command::Audit(_) | Command::Split | Command::Census
+    )
 }
 
 /// How many bytes the log of a command has at most.

@@ -128,6 +128,7 @@ IsCommand name rows (command.Explain format) = (name ≡ codes "explain")
 IsCommand name rows (command.Audit words) = ((name ≡ codes "audit") × IsAudit rows words)
     ⊎ ((name ≡ codes "explain") × IsExplainedLevel rows words)
 IsCommand name rows command.Split = name ≡ codes "split"
+IsCommand name rows command.Census = name ≡ codes "census"
 
 -- each field of the request is what the matches of the command of this name hold
 pub record IsRequest (name : Text) (rows : List Row) (r : Request) : Type 0 where

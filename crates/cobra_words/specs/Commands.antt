@@ -113,6 +113,9 @@ stats_app = with_formula (new_app (codes "stats"))
 abbrev pub split_app : App
 split_app = with_workers (new_app (codes "split"))
 
+abbrev pub census_app : App
+census_app = with_workers (new_app (codes "census"))
+
 -- with these defaults of the strategy and the budget
 abbrev pub with_search : Text → Text → ValueParser → App → App
 with_search picked spent parser app =
@@ -160,11 +163,11 @@ program_head = on_top (λ s. record s { has_version = true; subcommand_required 
     (new_app (codes "cobra_poly"))
 
 abbrev pub program_app : Lists → App
-program_app l = with_command (with_command (with_command (with_command (with_command (with_command
+program_app l = with_command (with_command (with_command (with_command (with_command (with_command (with_command
     (with_command (with_command (with_command (with_command program_head encode_app) decode_app)
     refute_app) solve_app) (check_app l.check_strategies)) verify_app) stats_app)
     (explain_app l.explain_forms l.explain_levels l.explain_strategies))
-    (audit_app l.audit_levels l.audit_forms l.audit_strategies)) split_app
+    (audit_app l.audit_levels l.audit_forms l.audit_strategies)) split_app) census_app
 
 -- a command walks so with some lists
 pub record HasListApp (app : ValueParser → App) (c : Command) : Type 0 where

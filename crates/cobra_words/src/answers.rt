@@ -89,6 +89,16 @@ Answers, by exit status:
 
 With --level, the first line has the name of the level, a colon, and kept, not kept or unknown.";
 
+/// What `census` answers, by exit status.
+pub const CENSUS: &str = "\
+Answers, by exit status:
+  1  how many faults of A1 to A7 there are, then a line for each code; so no serial order explains
+     the log
+  2  refused: FILE:LINE: WORDS (CODE), the fault of the log, L1 to L7, L9 or L10; or usage
+  3  there is none, and whether some serial order explains the log was not asked
+  4  out of memory
+  5  device failed: a file and the reason, or output";
+
 /// What `split` answers, by exit status.
 pub const SPLIT: &str = "\
 Answers, by exit status:

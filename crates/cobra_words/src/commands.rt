@@ -3,7 +3,7 @@
 ghost use Rattle.std.specs.Prelude.{IfOk};
 ghost use Rattle.clap.specs.Simple.{App};
 ghost use Rattle.cobra_words.specs.Commands.{verify_app, encode_app, decode_app, refute_app};
-ghost use Rattle.cobra_words.specs.Commands.{solve_app, stats_app, split_app, with_workers};
+ghost use Rattle.cobra_words.specs.Commands.{solve_app, stats_app, split_app, census_app, with_workers};
 ghost use Rattle.cobra_words.specs.Commands.{with_formula, with_search, with_report, with_audit};
 ghost use Rattle.cobra_words.specs.Commands.{check_app, program_head, HasApp, HasListApp, IsExplain};
 ghost use Rattle.cobra_words.specs.Commands.{IsAudit, IsProgram};
@@ -181,6 +181,15 @@ fn split<'a>(alloc: Global) -> Result<Command<'a>, AllocError>
     with_workers(alloc, command)
 }
 
+fn census<'a>(alloc: Global) -> Result<Command<'a>, AllocError>
+    ensures app { IfOk result (HasApp census_app) }
+{
+    let command = Command::new(alloc, "census")
+        .about("Count the reads and transactions that break serializability by themselves")
+        .after_help(answers::CENSUS);
+    with_workers(alloc, command)
+}
+
 /// The program, without its commands.
 fn program_head<'a>(alloc: Global) -> Command<'a>
     ensures app { HasApp program_head result }
@@ -207,5 +216,6 @@ pub fn program<'a>(alloc: Global) -> Result<Command<'a>, AllocError>
         .subcommand(stats(alloc)?)?
         .subcommand(explain(alloc)?)?
         .subcommand(audit(alloc)?)?
-        .subcommand(split(alloc)?)
+        .subcommand(split(alloc)?)?
+        .subcommand(census(alloc)?)
 }

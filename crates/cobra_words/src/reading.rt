@@ -76,6 +76,7 @@ fn command_of<'a>(name: &str, matches: &ArgMatches<'a>) -> Option<Command<'a>>
         "explain" => Some(explain_of(matches)),
         "audit" => Some(Command::Audit(audit_of(matches, flag_of(matches, "explain")))),
         "split" => Some(Command::Split),
+        "census" => Some(Command::Census),
         _ => None,
     }
 }

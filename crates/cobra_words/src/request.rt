@@ -30,6 +30,8 @@ pub enum Command<'a> {
     Audit(AuditWords<'a>),
     /// Write the log in which each committed transaction that writes is split in two.
     Split,
+    /// Count the reads and transactions that break serializability by themselves.
+    Census,
 }
 
 /// What is asked of `audit` alone.

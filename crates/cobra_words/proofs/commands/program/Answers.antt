@@ -18,8 +18,9 @@ returns c =
     let s7 = subcommand_step s6 c.in_ok-stats.ensures.app c.in_ok-subcommand-7.ensures in
     let s8 = subcommand_step s7 explain.has c.in_ok-subcommand-8.ensures in
     let s9 = subcommand_step s8 audit.has c.in_ok-subcommand-9.ensures in
+    let s10 = subcommand_step s9 c.in_ok-split.ensures.app c.in_ok-subcommand-10.ensures in
     record {
-      app = IfOk-weaker c.subcommand-10.result (AddsSubcommand c.in_ok-subcommand-9.field-0 c.in_ok-split.field-0) IsProgram (λ x adds. record {
+      app = IfOk-weaker c.subcommand-11.result (AddsSubcommand c.in_ok-subcommand-10.field-0 c.in_ok-census.field-0) IsProgram (λ x adds. record {
         lists = record {
           check_strategies = check.parser;
           explain_forms = explain.forms;
@@ -29,6 +30,6 @@ returns c =
           audit_forms = audit.forms;
           audit_strategies = audit.strategies;
         };
-        has = subcommand_step s9 c.in_ok-split.ensures.app adds;
-      }) c.subcommand-10.ensures;
+        has = subcommand_step s10 c.in_ok-census.ensures.app adds;
+      }) c.subcommand-11.ensures;
     }
