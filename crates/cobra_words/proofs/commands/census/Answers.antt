@@ -1,0 +1,7 @@
+use Rattle.std.proofs.Common.{rules}
+use Rattle.std.specs.Prelude.{codes}
+use Rattle.clap.specs.Simple.{new_app}
+use Rattle.cobra_words.proofs.commands.census.Goals as goal
+
+pub returns : goal.returns
+returns c = record { app = c.with_workers.ensures.app (new_app (codes "census")) (record { is = search rules; own = search rules }) }
