@@ -74,13 +74,7 @@ fn said_fault(format: Format, refused: Fault) -> Option<LogFault>
     match format {
         Format::Dot => None,
         Format::Text => match refused {
-            Fault::Log(said) => {
-                if is_memory(said) {
-                    None
-                } else {
-                    Some(said)
-                }
-            }
+            Fault::Log(said) => { if is_memory(said) { None } else { Some(said) } }
             _ => None,
         },
     }
