@@ -1,6 +1,5 @@
 -- How many calls of the output failed, by how a call ends.
-use Rattle.std.proofs.Common.{◌≡◌, ℕ, List, Ok, Err, refl, ap}
-use Rattle.cobra_answers.specs.declared.status.Status.{Status}
+use Rattle.std.proofs.Common.{◌≡◌, ℕ, List, Err, refl, ap}
 use Rattle.refute_command.specs.Refuted.{failures_of}
 use Rattle.refute_command.specs.declared.refusal.Refusal.{Refusal}
 use Rattle.refute_command.specs.declared.refusal.Refusal.TheVariants as refusal

@@ -1,5 +1,5 @@
 -- Texts that are told and handed on.
-use Rattle.std.proofs.Common.{◌≡◌, ℕ, List, Option, None, Some, length, sym, subst, ◌∙◌}
+use Rattle.std.proofs.Common.{ℕ, List, Option, None, Some, length, sym, subst, ◌∙◌}
 use Rattle.std.proofs.Math.Seq.{take-length}
 use Rattle.std.specs.Io.KnownBytes.{Keeps, Appends}
 use Rattle.cobra_calls.specs.Handed.{TellsFront}

@@ -7,7 +7,9 @@ mod outside;
 
 use crate::audit_call::{EachSecond, tell_failure};
 use crate::outside::{SystemErrors, SystemFiles, SystemInputs};
-use cobra_calls::{Ending, Inputs, USAGE, World, answer, audit_log, is_plain, read_log, tell_ending};
+use cobra_calls::{
+    Ending, Inputs, USAGE, World, answer, audit_log, is_plain, read_log, tell_ending,
+};
 use cobra_cli::{Fault, Status, Stop};
 use cobra_words::{AuditWords, Command, Request, Words, words_of};
 use output::Counted;

@@ -2,7 +2,7 @@
 //! Nothing here decides anything. What is read, told and answered is said by `cobra_calls`, for each
 //! such world.
 
-ghost use Rattle.std.specs.Prelude.{◌≡◌, ◌^◌, ◌<◌, None, OnOk, OnErr};
+ghost use Rattle.std.specs.Prelude.{◌≡◌, ◌^◌, ◌<◌, None};
 ghost use Rattle.output.specs.Sinks.{one_more};
 ghost use Rattle.cobra_calls.specs.Worlds.{read_failures};
 
