@@ -5,4 +5,4 @@ pub returns-in-Ok-clause-put : goal.returns-in-Ok-clause-put
 returns-in-Ok-clause-put g c = record { files = tt; failures = refl }
 
 pub returns-in-Err-clause-failed : goal.returns-in-Err-clause-failed
-returns-in-Err-clause-failed g c = record { begun = []; is = tt; files = tt; failures = c.one_more.ensures.more }
+returns-in-Err-clause-failed g c = record { begun = []; is = tt; files = tt; failures = c.one_more-self.ensures.more }
