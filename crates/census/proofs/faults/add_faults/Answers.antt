@@ -24,7 +24,7 @@ loop-op-preserved c =
     let states = c.loop-op.states in
     let cut = cut_at ops i op c.loop-op-test.true c.op-item.is in
     let owns : (k : List ℕ) (w : ℕ) → has_version own k w ≡ writes_as k w (take i ops ++ op ∷ drop (i + 1) ops) = λ k w.
-    c.in_ok-add_writes.ensures k w ∙ ap (λ b. b || writes_as k w ops) (c.new-own.ensures k w) ∙ ap (writes_as k w) cut in
+    c.in_ok-add_writes.ensures k w ∙ ap (λ b. b || writes_as k w ops) (c.in_ok-own.ensures k w) ∙ ap (writes_as k w) cut in
     record {
       told = λ ss known.
           told_more ss ops i op (map view_fault c.args.faults.now.items ++ faults_behind ss [] ops) (map view_fault c.loop-op.faults.items) (map view_fault c.add_fault.new.faults.items)
