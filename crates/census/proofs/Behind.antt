@@ -1,5 +1,5 @@
 -- What the states behind all operations of a transaction say of it.
-use Rattle.std.proofs.Common.{◌≡◌, ◌⊎◌, ℕ, Bool, true, false, cond, ◌&&◌, ◌||◌, eqb, List, [], ◌∷◌, Option, None, Some, refl, sym, ap, ◌∙◌, inl, inr}
+use Rattle.std.proofs.Common.{◌≡◌, ℕ, Bool, true, false, cond, ◌&&◌, ◌||◌, eqb, List, [], ◌∷◌, Option, None, Some, refl, sym, ap, ◌∙◌, inl, inr}
 use Rattle.std.specs.Prelude.{not, is_some}
 use Rattle.std.specs.List.{list_any}
 use Rattle.std.specs.Option.{option_map_or}
@@ -14,8 +14,8 @@ use Rattle.session_log.specs.declared.session.Op.TheVariants.{Read, Write}
 use Rattle.census.specs.declared.states.States.{States}
 use Rattle.census.specs.Reads.{last_write, writes_as, passes_over}
 use Rattle.census.specs.Updates.{first_read, updates}
-use Rattle.census.specs.States.{state_of, state_in}
-use Rattle.census.specs.Tables.{at_read, at_write, is_read_as, reads_as, is_passed, updates_by, AreBehind}
+use Rattle.census.specs.States.{state_of}
+use Rattle.census.specs.Tables.{at_read, at_write, reads_as, is_passed, updates_by, AreBehind}
 use Rattle.census.proofs.Truth.{together}
 use Rattle.census.proofs.Along.{written_in, read_in}
 

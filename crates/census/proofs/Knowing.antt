@@ -1,5 +1,5 @@
 -- What tables know of transactions, one more at a time.
-use Rattle.std.proofs.Common.{◌≡◌, ◌⊎◌, ℕ, ◌+◌, Bool, true, false, cond, ◌&&◌, ◌||◌, List, [], ◌∷◌, ◌++◌, append-nil, refl, sym, ap, ◌∙◌, inl, inr, subst}
+use Rattle.std.proofs.Common.{◌≡◌, ℕ, Bool, true, false, cond, ◌&&◌, ◌||◌, List, [], ◌∷◌, ◌++◌, append-nil, refl, sym, ap, ◌∙◌}
 use Rattle.std.specs.Prelude.{not, nat_lt, count_by}
 use Rattle.std.specs.List.{flat_map, filter, list_any}
 use Rattle.std.proofs.lemmas.List.Folds.{list_any-append}
@@ -15,7 +15,7 @@ use Rattle.census.specs.declared.states.States.{States}
 use Rattle.census.specs.Reads.{writes_as, passes_over}
 use Rattle.census.specs.Updates.{updates, loses_by, is_lost}
 use Rattle.census.specs.Versions.{has_version}
-use Rattle.census.specs.Tables.{loses_among, updates_by, AreBehind, KnowsWrites, KnowsUpdates}
+use Rattle.census.specs.Tables.{loses_among, AreBehind, KnowsWrites, KnowsUpdates}
 use Rattle.census.proofs.Truth.{or_none, counted, some_more, many_more, any_same}
 use Rattle.census.proofs.Behind.{updates_are}
 

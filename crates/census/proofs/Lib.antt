@@ -7,3 +7,4 @@ pub mod Reading
 pub mod Knowing
 pub mod Missing
 pub mod Totals
+pub mod Sets

@@ -1,5 +1,5 @@
 -- The anomaly of an operation, by the tables and by the log.
-use Rattle.std.proofs.Common.{◌≡◌, ◌⊎◌, ℕ, Bool, true, false, cond, ◌&&◌, ◌||◌, eqb, List, [], ◌∷◌, ◌++◌, Option, None, Some, refl, sym, ap, ◌∙◌, inl, inr}
+use Rattle.std.proofs.Common.{◌≡◌, ℕ, Bool, cond, ◌&&◌, ◌||◌, eqb, List, ◌∷◌, ◌++◌, Option, None, Some, refl, ap, ◌∙◌}
 use Rattle.std.specs.Prelude.{not}
 use Rattle.std.specs.List.{list_any}
 use Rattle.std.proofs.lemmas.List.Folds.{list_any-append}
@@ -13,7 +13,7 @@ use Rattle.census.specs.declared.writes.Writes.{Writes}
 use Rattle.census.specs.declared.versions.Versions.{Versions}
 use Rattle.census.specs.declared.states.States.{States}
 use Rattle.census.specs.declared.states.KeyState.{KeyState}
-use Rattle.census.specs.Reads.{last_write, writes_as, is_other_read, is_aborted, is_intermediate, fault_at, read_fault, external_fault, internal_fault}
+use Rattle.census.specs.Reads.{last_write, writes_as, is_other_read, is_aborted, is_intermediate, fault_at, read_fault, external_fault}
 use Rattle.census.specs.States.{differs, state_of, state_in}
 use Rattle.census.specs.Versions.{has_version}
 use Rattle.census.specs.Tables.{op_fault, fault_among, external_among, KnowsWrites}

@@ -46,7 +46,7 @@ fn add_faults<'a>(
         → OnOk result (map view_fault faults.new.items
         ≡ map view_fault faults.old.items ++ faults_behind ss [] ops.now) }
 {
-    let mut own = Versions::new(alloc);
+    let mut own = Versions::new(alloc, 1)?;
     add_writes(&mut own, ops)?;
     let mut states = States::new(alloc);
     for op in ops {

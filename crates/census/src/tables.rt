@@ -18,14 +18,14 @@ pub struct Tables<'a> {
 }
 
 impl<'a> Tables<'a> {
-    /// None.
-    fn new(alloc: Global) -> Tables<'a>
-        ensures { KnowsLog [] result }
+    /// None, where about so many are to come.
+    fn new(alloc: Global, versions: usize) -> Result<Tables<'a>, AllocError>
+        ensures { IfOk result (KnowsLog []) }
     {
-        Tables {
-            writes: Writes::new(alloc),
-            updates: Updates::new(alloc),
-        }
+        Ok(Tables {
+            writes: Writes::new(alloc, versions)?,
+            updates: Updates::new(alloc, versions)?,
+        })
     }
 
     /// Adds those of a transaction.
@@ -45,7 +45,7 @@ impl<'a> Tables<'a> {
     pub fn of(alloc: Global, txns: &[&'a Txn]) -> Result<Tables<'a>, AllocError>
         ensures { IfOk result (KnowsLog (map view_ref txns.now)) }
     {
-        let mut tables = Tables::new(alloc);
+        let mut tables = Tables::new(alloc, txns.len())?;
         for txn in txns {
             tables.add(alloc, *txn)?;
         }

@@ -1,6 +1,6 @@
 //! The versions that transactions update: they read them and write the key.
 
-ghost use Rattle.std.specs.Prelude.{◌≡◌, ◌++◌, ◌∷◌, [], ◌||◌, ◌&&◌, ℕ, List, OnOk};
+ghost use Rattle.std.specs.Prelude.{◌≡◌, ◌++◌, ◌∷◌, [], ◌||◌, ◌&&◌, ℕ, List, IfOk, OnOk};
 ghost use Rattle.std.specs.List.{filter, list_any};
 ghost use Rattle.session_log.specs.Text.{Transaction};
 ghost use Rattle.log_definitions.specs.Unknown.{is_committed as is_committed_txn};
@@ -102,14 +102,14 @@ pub struct Updates<'a> {
 }
 
 impl<'a> Updates<'a> {
-    /// None.
-    pub fn new(alloc: Global) -> Updates<'a>
-        ensures { KnowsUpdates [] result }
+    /// None, where about so many are to come.
+    pub fn new(alloc: Global, versions: usize) -> Result<Updates<'a>, AllocError>
+        ensures { IfOk result (KnowsUpdates []) }
     {
-        Updates {
-            once: Versions::new(alloc),
-            again: Versions::new(alloc),
-        }
+        Ok(Updates {
+            once: Versions::new(alloc, versions)?,
+            again: Versions::new(alloc, versions)?,
+        })
     }
 
     /// Adds those of a transaction, if it is committed, where these states are behind its operations.

@@ -1,6 +1,6 @@
 //! The versions that the transactions of a log wrote.
 
-ghost use Rattle.std.specs.Prelude.{◌≡◌, ◌++◌, ◌∷◌, [], ◌||◌, ◌&&◌, not, ℕ, List, OnOk};
+ghost use Rattle.std.specs.Prelude.{◌≡◌, ◌++◌, ◌∷◌, [], ◌||◌, ◌&&◌, not, ℕ, List, IfOk, OnOk};
 ghost use Rattle.std.specs.List.{list_any};
 ghost use Rattle.session_log.specs.Text.{Transaction};
 ghost use Rattle.session_log.specs.declared.session.Op.TheVariants.{Read};
@@ -117,15 +117,15 @@ pub struct Writes<'a> {
 }
 
 impl<'a> Writes<'a> {
-    /// None.
-    pub fn new(alloc: Global) -> Writes<'a>
-        ensures { KnowsWrites [] result }
+    /// None, where about so many are to come.
+    pub fn new(alloc: Global, versions: usize) -> Result<Writes<'a>, AllocError>
+        ensures { IfOk result (KnowsWrites []) }
     {
-        Writes {
-            written: Versions::new(alloc),
-            aborted: Versions::new(alloc),
-            passed: Versions::new(alloc),
-        }
+        Ok(Writes {
+            written: Versions::new(alloc, versions)?,
+            aborted: Versions::new(alloc, versions)?,
+            passed: Versions::new(alloc, versions)?,
+        })
     }
 
     /// Adds those of a transaction, where these states are behind its operations.

@@ -1,5 +1,4 @@
 use Rattle.std.proofs.Common.{List, map, length, refl, ap, ◌∙◌, subst}
-use Rattle.std.specs.List.{filter}
 use Rattle.session_log.specs.Text.{Transaction, view}
 use Rattle.serializability.specs.declared.anomaly.ReadAnomaly.TheVariants as anomaly
 use Rattle.log_definitions.specs.Unknown.{txns_in}

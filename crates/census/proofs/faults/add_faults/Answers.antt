@@ -1,15 +1,14 @@
 use Rattle.std.proofs.Common.{◌≡◌, ◌++◌, ℕ, List, [], ◌∷◌, map, take, sym, ap, ◌∙◌, Option, ◌||◌, ◌+◌}
 use Rattle.std.specs.Prelude.{drop}
-use Rattle.std.proofs.lemmas.List.{take_all, drop_all}
+use Rattle.std.proofs.lemmas.List.{drop_all}
 use Rattle.list_lemmas.proofs.Lists.{append_none}
-use Rattle.session_log.specs.Text.{ClientSession, key_of}
+use Rattle.session_log.specs.Text.{key_of}
 use Rattle.session_log.specs.declared.session.Op.{Op}
-use Rattle.log_definitions.specs.Unknown.{txns_in}
 use Rattle.serializability.specs.declared.anomaly.ReadAnomaly.{ReadAnomaly}
-use Rattle.census.specs.Reads.{faults_behind, with_key, writes_as, fault_at}
-use Rattle.census.specs.States.{state_of, state_in}
+use Rattle.census.specs.Reads.{faults_behind, with_key, writes_as}
+use Rattle.census.specs.States.{state_of}
 use Rattle.census.specs.Versions.{has_version}
-use Rattle.census.specs.Tables.{view_fault, KnowsWrites, op_fault}
+use Rattle.census.specs.Tables.{view_fault}
 use Rattle.census.proofs.Along.{one_more}
 use Rattle.census.proofs.Reading.{fault_same}
 use Rattle.census.proofs.Missing.{told_more, cut_at}
@@ -25,7 +24,7 @@ loop-op-preserved c =
     let states = c.loop-op.states in
     let cut = cut_at ops i op c.loop-op-test.true c.op-item.is in
     let owns : (k : List ℕ) (w : ℕ) → has_version own k w ≡ writes_as k w (take i ops ++ op ∷ drop (i + 1) ops) = λ k w.
-    c.in_ok-add_writes.ensures k w ∙ ap (λ b. b || writes_as k w ops) (c.new-own.ensures k w) ∙ ap (writes_as k w) cut in
+    c.in_ok-add_writes.ensures k w ∙ ap (λ b. b || writes_as k w ops) (c.in_ok-own.ensures k w) ∙ ap (writes_as k w) cut in
     record {
       told = λ ss known.
           told_more ss ops i op (map view_fault c.args.faults.now.items ++ faults_behind ss [] ops) (map view_fault c.loop-op.faults.items) (map view_fault c.add_fault.new.faults.items)

@@ -1,6 +1,6 @@
-use Rattle.std.proofs.Common.{◌++◌, ◌∷◌, [], List, cond, map, refl, sym, ap, ◌∙◌, append-nil}
+use Rattle.std.proofs.Common.{◌++◌, ◌∷◌, [], List, cond, map, sym, ap, ◌∙◌}
 use Rattle.list_lemmas.proofs.Lists.{append_none}
-use Rattle.session_log.specs.Text.{Transaction, view_txn}
+use Rattle.session_log.specs.Text.{view_txn}
 use Rattle.session_log.specs.declared.session.Op.{Op}
 use Rattle.census.specs.Reads.{faults_behind, faults_of_txns}
 use Rattle.census.specs.Tables.{view_fault}

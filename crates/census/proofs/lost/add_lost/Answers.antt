@@ -1,8 +1,8 @@
-use Rattle.std.proofs.Common.{◌++◌, ◌∷◌, [], List, Bool, true, false, map, refl, sym, ap, ◌∙◌, subst}
+use Rattle.std.proofs.Common.{◌++◌, List, true, false, map, refl, sym, ap, ◌∙◌, subst}
 use Rattle.std.specs.List.{list_any}
 use Rattle.std.proofs.lemmas.List.{map-append}
 use Rattle.list_lemmas.proofs.Lists.{append_none}
-use Rattle.session_log.specs.Text.{Transaction, view_txn}
+use Rattle.session_log.specs.Text.{view_txn}
 use Rattle.session_log.specs.declared.session.Op.{Op}
 use Rattle.log_definitions.specs.Unknown.{is_committed}
 use Rattle.census.specs.Updates.{is_lost}

@@ -1,11 +1,9 @@
-use Rattle.std.proofs.Common.{◌≡◌, ℕ, ◌||◌, List, take, ap, ◌∙◌}
+use Rattle.std.proofs.Common.{◌||◌, List, ap, ◌∙◌}
 use Rattle.std.specs.List.{list_any}
 use Rattle.std.proofs.lemmas.List.{take_all}
 use Rattle.session_log.specs.declared.session.Op.{Op}
-use Rattle.session_log.specs.declared.session.Op.TheVariants.{Read}
-use Rattle.log_definitions.specs.Unknown.{reads_write}
 use Rattle.census.specs.Versions.{has_version}
-use Rattle.census.specs.Tables.{at_read, at_write, is_passed, updates_by, updates_in}
+use Rattle.census.specs.Tables.{at_write, is_passed}
 use Rattle.census.proofs.Truth.{grown, or_none}
 use Rattle.census.proofs.writes.add_passes.Goals as goal
 

@@ -3,7 +3,6 @@ use Rattle.std.specs.List.{list_any}
 use Rattle.session_log.specs.declared.session.Op.TheVariants.{Read}
 use Rattle.log_definitions.specs.Unknown.{reads_write}
 use Rattle.census.specs.Versions.{has_version}
-use Rattle.census.specs.Tables.{at_read, at_write, is_passed, updates_by, updates_in}
 use Rattle.census.proofs.writes.add_writes.Given as goal
 
 abbrev pub invariant-loop-op : goal.invariant-loop-op

@@ -1,6 +1,4 @@
-use Rattle.std.proofs.Common.{List, sym, subst}
 use Rattle.session_log.specs.Text.{view_txn}
-use Rattle.session_log.specs.declared.session.Op.{Op}
 use Rattle.census.proofs.tables.Tables.add.Goals as goal
 
 pub returns : goal.returns

@@ -1,4 +1,4 @@
-use Rattle.std.proofs.Common.{◌||◌, ℕ, List, sym, ap, ◌∙◌, subst}
+use Rattle.std.proofs.Common.{◌||◌, List, sym, ap, ◌∙◌, subst}
 use Rattle.session_log.specs.Text.{Transaction}
 use Rattle.session_log.specs.declared.session.Op.{Op}
 use Rattle.census.specs.Versions.{has_version}

@@ -1,4 +1,4 @@
-use Rattle.std.proofs.Common.{◌||◌, ◌&&◌, ℕ, Bool, List, ap, ◌∙◌}
+use Rattle.std.proofs.Common.{◌||◌, ◌&&◌, Bool, List, ap, ◌∙◌}
 use Rattle.std.specs.Prelude.{not}
 use Rattle.session_log.specs.declared.session.Op.{Op}
 use Rattle.census.specs.Reads.{writes_as, passes_over}
