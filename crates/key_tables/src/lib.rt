@@ -1,9 +1,8 @@
 //! What keys hold. A key is looked for by a mark first, so that most steps of a search compare two
 //! numbers; keys with one mark are told apart by their bytes, so that no choice of keys makes a
-//! search long.
+//! search long. Many tables share the keys of a long log.
 //!
-//! Called by `order_checks`, `level_checks`, `proposals`, `level_proposals` and `audit_command`. It
-//! knows no log.
+//! Called by `order_checks`, `level_checks`, `numbers` and `audit_command`. It knows no log.
 #![tactic(auto)]
 
 mod mark;

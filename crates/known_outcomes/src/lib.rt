@@ -1,7 +1,7 @@
 //! Sessions whose outcomes are known: a transaction whose client was not told counts as committed
 //! where it must have been, and else as aborted.
 //!
-//! Called by `judging` and `split_command`. It knows no node and no order.
+//! Called by `judging`, `split_command` and `census_command`. It knows no node and no order.
 #![tactic(auto)]
 
 mod count;

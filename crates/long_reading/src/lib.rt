@@ -1,6 +1,6 @@
 //! Long logs, read by several threads at once.
 //!
-//! Called by `audit_command` and `split_command`. It knows no history and no verdict.
+//! Called by `audit_command`, `split_command` and `census_command`. It knows no history and no verdict.
 //!
 //! A log is cut into blocks, one for each session. Each worker gets some that follow one another,
 //! about an equal share of the bytes, and reads them in a thread of its own; what they read is put
