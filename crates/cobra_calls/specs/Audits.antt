@@ -6,6 +6,7 @@ use Rattle.std.specs.Prelude.{Vec}
 use Rattle.std.specs.declared.alloc.Global.{Global}
 use Rattle.std.specs.declared.time.Instant.{Instant}
 use Rattle.session_log.specs.declared.fault.LogFault.{LogFault}
+use Rattle.session_log.specs.declared.fault.LogFault.TheVariants.{Memory}
 use Rattle.long_log_definitions.specs.LongLog.{IsLongLogFault}
 use Rattle.progress.specs.declared.deadline.Deadline.{Deadline}
 use Rattle.audit_command.specs.Levels.{settled}
@@ -157,6 +158,7 @@ pub record SaysRefused (r : Request) (w : AuditWords) (start : Option Instant) (
   pub options : AuditOptions
   pub asks : Asks r w start options
   pub fault : IsLongLogFault log f
+  pub other : f ≢ Memory
   pub says : IsRefusal options.form options f text
 
 -- why a log of this name is refused was told, or cut short

@@ -1,7 +1,8 @@
 -- Why a call ends without an answer: the line that says so, and the exit status.
-use Rattle.std.specs.Prelude.{◌≡◌, ◌⊎◌, ℕ, List, ◌++◌, codes, string_bytes, String, Result, Ok, Err}
+use Rattle.std.specs.Prelude.{◌≡◌, ◌≢◌, ◌⊎◌, ℕ, List, ◌++◌, codes, string_bytes, String, Result, Ok, Err}
 use Rattle.std.specs.declared.alloc.Global.{Global}
 use Rattle.session_log.specs.declared.fault.LogFault.{LogFault}
+use Rattle.session_log.specs.declared.fault.LogFault.TheVariants.{Memory}
 use Rattle.fault_words.specs.Codes.{IsRefusalLine}
 use Rattle.output.specs.Sinks.{one_more}
 use Rattle.proof_text.specs.Refusals.{proof_refusal, proof_status}
@@ -47,8 +48,11 @@ IsToldSo Says status (Proof e) = ⊥
 IsToldSo Says status (Told line told) = Says (string_bytes line) × (told ≡ status)
 
 -- why a log of this name is refused
+abbrev pub IsRefusedBy : List ℕ → LogFault → List ℕ → Type 0
+IsRefusedBy name f line = (f ≢ Memory) × IsRefusalLine name f line
+
 abbrev pub IsLogRefusal : List ℕ → LogFault → Ending → Type 0
-IsLogRefusal name f e = IsToldSo (IsRefusalLine name f) 2 e
+IsLogRefusal name f e = IsToldSo (IsRefusedBy name f) 2 e
 
 -- this line, of words that ask for what there is not
 abbrev pub IsUsage : List ℕ → Ending → Type 0

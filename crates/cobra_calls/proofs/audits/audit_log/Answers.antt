@@ -67,9 +67,9 @@ returns-in-Ok-clause-done g c =
 refused_so : (r : Request) (w : AuditWords) (start : Option Instant) (log : List ℕ) (old new : Option (List ℕ)) (files : Disk) (o : AuditOptions) (why : Refusal) (e : Ending) → Asks r w start o → IsRefused o log why → IsRefusalTold (log_name r) why old new e → IsAuditEnding r w start log old new files files e
 refused_so r w start log old new files o refusal.Memory e asks h told = by_memory told.0 told.1 refl
 refused_so r w start log old new files o (refusal.Log f text) e asks h (inl told) =
-    by_log f text.items (record { options = o; asks = asks; fault = h.0; says = h.2 }) told.0 told.1 refl
+    by_log f text.items (record { options = o; asks = asks; fault = h.0; other = h.1; says = h.2 }) told.0 told.1 refl
 refused_so r w start log old new files o (refusal.Log f text) e asks h (inr told) =
-    cut_refusal f text.items (record { options = o; asks = asks; fault = h.0; says = h.2 }) told.0 told.1 refl
+    cut_refusal f text.items (record { options = o; asks = asks; fault = h.0; other = h.1; says = h.2 }) told.0 told.1 refl
 
 pub returns-clause-ended : goal.returns-clause-ended
 returns-clause-ended g c =

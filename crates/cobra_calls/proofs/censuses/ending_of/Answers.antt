@@ -1,5 +1,5 @@
 use Rattle.std.proofs.Common.{◌≡◌, refl, subst, sym}
-use Rattle.fault_words.specs.Codes.{IsRefusalLine}
+use Rattle.cobra_calls.specs.Endings.{IsRefusedBy}
 use Rattle.census_command.specs.Told.{IsUntold}
 use Rattle.cobra_calls.specs.Censuses.{by_log, by_device}
 use Rattle.cobra_calls.proofs.Failures.{by_line}
@@ -9,7 +9,7 @@ pub returns-in-Log-clause-ending : goal.returns-in-Log-clause-ending
 returns-in-Log-clause-ending c bytes old new u = let h = subst (IsUntold bytes old new) c.in-Log.is u in by_log c.in-Log.fault h.0 c.refused.ensures.refused h.1
 
 pub returns-in-Log-clause-count : goal.returns-in-Log-clause-count
-returns-in-Log-clause-count c before = rw c.in-Log.is (sym (by_line (IsRefusalLine c.args.name.now c.in-Log.fault) 2 before c.refused.result c.refused.ensures.refused))
+returns-in-Log-clause-count c before = rw c.in-Log.is (sym (by_line (IsRefusedBy c.args.name.now c.in-Log.fault) 2 before c.refused.result c.refused.ensures.refused))
 
 pub returns-in-Output-clause-ending : goal.returns-in-Output-clause-ending
 returns-in-Output-clause-ending c bytes old new u = let h = subst (IsUntold bytes old new) c.in-Output.is u in by_device c.in-Output.written h refl
