@@ -66,6 +66,13 @@ IsNamedRead (command.Refute proof) held named = IsReadUpTo (held proof.now) MAX_
 IsNamedRead (command.Verify order) held named = IsReadUpTo (held order.now) MAX_ORDER_BYTES named
 IsNamedRead _ held named = named ≡ []
 
+-- it names one
+abbrev pub names_file : Command → Bool
+names_file (command.Decode model) = true
+names_file (command.Refute proof) = true
+names_file (command.Verify order) = true
+names_file _ = false
+
 pub record IsReading (r : Request) (given : Option (List ℕ)) (held : Held) (read : Reads) : Type 0 where
   pub log : IsLogRead r given held read.log
   pub named : IsNamedRead r.command held read.named
@@ -104,7 +111,7 @@ pub record IsAnswer (r : Request) (given : Option (List ℕ)) (held : Held) (old
 pub data IsEnding (r : Request) (given : Option (List ℕ)) (held : Held) (before after : ℕ)
     (old new : Option (List ℕ)) (e : Ending) : Type 0 where
   no_log : IsLogUnread r before after e → new ≡ old → IsEnding r given held before after old new e
-  no_file : IsUnread before after e → new ≡ old → IsEnding r given held before after old new e
+  no_file : names_file r.command ≡ true → IsUnread before after e → new ≡ old → IsEnding r given held before after old new e
   by_command : (read : Reads) → IsReading r given held read → IsEnded r read old new e
       → after ≡ before → IsEnding r given held before after old new e
   by_output : (s : Status) → IsAnswer r given held old new s → e ≡ ending.Stop stop.Output

@@ -1,10 +1,10 @@
 //! What a call reads.
 
-ghost use Rattle.std.specs.Prelude.{◌≡◌, ℕ, IfOk, IfErr, OnOk};
+ghost use Rattle.std.specs.Prelude.{◌≡◌, true, OnErr, ℕ, IfOk, IfErr, OnOk};
 ghost use Rattle.cobra_calls.specs.Calls.{log_name};
 ghost use Rattle.cobra_calls.specs.Endings.{IsUnusable, IsUnread};
 ghost use Rattle.cobra_calls.specs.Worlds.{is_long, limit_of, IsLogRead, IsNamedRead, IsLogUnread};
-ghost use Rattle.cobra_calls.specs.Worlds.{failures_with, read_failures};
+ghost use Rattle.cobra_calls.specs.Worlds.{failures_with, names_file, read_failures};
 
 use crate::ending::Ending;
 use crate::splits::log_name;
@@ -108,6 +108,7 @@ fn named_bytes<I: Inputs>(
 ) -> Result<Vec<u8>, Unread>
     ensures named { IfOk result (λ named. IsNamedRead command.now (I.held inputs.old) named.items) }
     ensures count { I.failures inputs.new ≡ read_failures (I.failures inputs.old) result }
+    ensures names { OnErr result (names_file command.now ≡ true) }
 {
     match command {
         Command::Decode { model } => inputs.read_held(alloc, model, MAX_ANSWER_BYTES),
@@ -126,6 +127,7 @@ pub fn read_named<I: Inputs>(
     ensures named { IfOk result (λ named. IsNamedRead command.now (I.held inputs.old) named.items) }
     ensures count { OnOk result (I.failures inputs.new ≡ I.failures inputs.old) }
     ensures unread { IfErr result (IsUnread (I.failures inputs.old) (I.failures inputs.new)) }
+    ensures names { OnErr result (names_file command.now ≡ true) }
 {
     match named_bytes(alloc, command, inputs) {
         Ok(named) => Ok(named),
