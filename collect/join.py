@@ -41,6 +41,17 @@ def parts_of(path):
     return [os.path.join(path, name) for name in names]
 
 
+def kept_apart(path):
+    """The identities of transactions of unknown outcome that a recorder wrote into a file of their own, beside this one of a client."""
+    folder, name = os.path.split(path)
+    names = os.listdir(folder or '.') if re.fullmatch(r'[0-9.]+', name) else ()
+    wids = set()
+    for other in (os.path.join(folder, it) for it in names if re.fullmatch(r'unknown(\.[0-9]+)?', it)):
+        with open(other, 'rb') as file:
+            wids.update(line.split()[2] for line in file if line.startswith(b'w ') and LINE.fullmatch(line))
+    return wids
+
+
 def version_of(path):
     """The first line of a log where it says the version, else nothing."""
     if os.path.isdir(path):
@@ -75,7 +86,7 @@ class Joined:
         """Writes the lines of a log behind its version to a file."""
         is_open, number, times, line = False, 0, [], b'\n'
         with open(path, 'rb') as log:
-            for number, line in enumerate(self.mended(log) if self.died else log, 1):
+            for number, line in enumerate(self.mended(log, kept_apart(path)) if self.died else log, 1):
                 word = line[:2]
                 if word == b'w ':
                     self.stands_once(self.written, line, path, number)
@@ -99,9 +110,9 @@ class Joined:
         if times:
             self.times.append((min(times), max(times), path))
 
-    def mended(self, log):
+    def mended(self, log, apart):
         """The lines of a log that was cut off, each session up to what cannot be read, and an end for each transaction without one."""
-        session, place, is_open, is_whole = b'', 0, False, True
+        session, place, is_open, is_whole, held = b'', 0, False, True, []
         for line in log:
             fits = LINE.fullmatch(line)
             if not fits:
@@ -110,7 +121,7 @@ class Joined:
             word = line[:2]
             if word == b'se':
                 if is_open:
-                    yield self.end(session, place)
+                    yield from self.end(session, place, held, apart)
                 session, place, is_open, is_whole = line.split()[1], 0, False, True
                 yield line
             elif not is_whole:
@@ -123,13 +134,21 @@ class Joined:
             else:
                 place += word == b'be'
                 is_open = word in (b'be', b'r ', b'w ')
-                yield line
+                held = held if word != b'be' else []
+                held.append(line)
+                if not is_open:
+                    yield from held
         if is_open:
-            yield self.end(session, place)
+            yield from self.end(session, place, held, apart)
 
-    def end(self, session, place):
+    def end(self, session, place, held, apart):
+        """A transaction without an end is unknown. Its recorder knew that already, if its identities are kept apart: then it stands there."""
+        if any(line.startswith(b'w ') and line.split()[2] in apart for line in held):
+            self.left_out += len(held)
+            return
         self.ended.append('%s.%d' % (session.decode(), place))
-        return b'unknown\n'
+        yield from held
+        yield b'unknown\n'
 
     def give(self, out):
         """Writes a transaction of unknown outcome for each identity that was read and that nobody wrote, in a session of its own."""
@@ -196,7 +215,9 @@ def joined(arguments):
             raise Stop('%s is of %s, and %s of %s' % (arguments.logs[0], named[0], path, named[1]))
     if any(map(os.path.isdir, arguments.logs)) and not arguments.died:
         raise Stop('a folder is what a recorder left that was not closed: take --died')
-    paths = [part for path in arguments.logs for part in parts_of(path)]
+    # of several, one may have died before it wrote anything
+    logs = [path for path in arguments.logs if not os.path.isdir(path) or os.listdir(path)] or arguments.logs
+    paths = [part for path in logs for part in parts_of(path)]
     whole = Joined(paths, arguments.slack, arguments.died)
     with tempfile.NamedTemporaryFile(dir=os.path.dirname(os.path.abspath(arguments.out)), delete=False) as out:
         try:

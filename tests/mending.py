@@ -187,6 +187,37 @@ def kills(checks, count, seed, collector, weak):
     print('mending: %s: %s; %d of %d logs of a broken store refused' % (' '.join(collector), ', '.join('%s %d' % it for it in sorted(met.items())), refused, weak), flush=True)
 
 
+UNKNOWN_LAST = """
+import os, signal, sys
+sys.path.insert(0, %r)
+from recorder import Recorder
+class Lost(Exception): pass
+store = {}
+def transact(reads, writes):
+    seen = [store.get(key) for key in reads]
+    store.update(writes)
+    return seen
+def lost():
+    raise Lost
+session = Recorder(sys.argv[1], rounds=1000, transact=transact, unknown=(Lost,), durable=True).session()
+with session.transaction(commit=lost) as txn:
+    store['x'] = txn.write('x')
+if sys.argv[2] != 'nothing':
+    with session.transaction(commit=lambda: True) as txn:
+        txn.read('x', store['x']) if sys.argv[2] == 'read' else store.update(y=txn.write('y'))
+os.kill(os.getpid(), signal.SIGKILL)
+"""
+
+
+def unknown_last(checks):
+    """A durable run in rounds is killed behind a transaction of unknown outcome, which its recorder keeps apart."""
+    for what in 'nothing', 'read', 'write':
+        run = checks.path('unknown_%s' % what)
+        subprocess.run([sys.executable, '-c', UNKNOWN_LAST % os.path.join(TOP, 'collect'), run, what], stdin=subprocess.DEVNULL)
+        (status, _, error), out = checks.mend(os.path.join(run, '000001.part'))
+        checks.expect(status == 0 and checks.audit(out)[0] in (0, 3), 'an unknown outcome, then %s: %d %s' % (what, status, error))
+
+
 def main():
     words = argparse.ArgumentParser(description=__doc__, formatter_class=argparse.RawDescriptionHelpFormatter)
     words.add_argument('program')
@@ -198,6 +229,7 @@ def main():
     with tempfile.TemporaryDirectory() as folder:
         checks = Checks(os.path.abspath(words.program), folder)
         by_hand(checks)
+        unknown_last(checks)
         cuts(checks, words.cuts, words.seed)
         kills(checks, words.kills, words.seed, shlex.split(words.collector), 5)
     print('mending: %d passed, %d failed' % (checks.passed, checks.failed))
