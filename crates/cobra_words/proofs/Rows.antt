@@ -1,8 +1,12 @@
 -- What is read of one value, by the rows of the matches.
 use Rattle.std.proofs.Common.{◌≡◌, ℕ, Bool, true, false, List, Option, None, Some, Result, Ok, Err, refl, sym, ◌∙◌, ap}
-use Rattle.std.specs.Prelude.{codes, unwrap_or}
+use Rattle.std.specs.Prelude.{codes, unwrap_or, is_some, option_and_then}
+use Rattle.std.specs.Option.{option_map_or}
 use Rattle.std.specs.Str.Parse.{ParsesBool, ParsesUnsigned}
+use Rattle.clap.specs.Facts.{explicit_source}
 use Rattle.clap.specs.declared.parser.matches.Found.{Found}
+use Rattle.clap.specs.declared.parser.matches.MatchedArg.{MatchedArg}
+use Rattle.clap.specs.declared.parser.matches.ValueSource.{ValueSource}
 use Rattle.clap.specs.Matches.{first_value, one_text, ReadsOne}
 use Rattle.clap.specs.Walk.{Text, rows_of, first_of, one_of}
 use Rattle.clap.proofs.WalkLemmas.{first_value-rows, one_text-rows}
@@ -32,3 +36,11 @@ number_at E k gives None None parses none value = tt
 number_at E k gives None (Some n) parses none value = let e = none refl in cc
 number_at E k gives (Some t) (Some n) parses none value = let h = parses t (Ok n) (value t refl) in (record { numeral = h.0.0; fits = h.0.1 }, h.1)
 number_at E k gives (Some t) None parses none value = let v = value t refl in let h = parses t (Err v.0) v.1 in λ b. h (b.numeral, b.fits)
+
+pub given_by : (o : Option MatchedArg) (s : ValueSource) → Some s ≡ option_and_then (λ (a : MatchedArg). a.source) o → option_map_or (λ (a : MatchedArg). explicit_source a.source) o false ≡ explicit_source (Some s)
+given_by None s e = cc
+given_by (Some a) s e = ap explicit_source (sym e)
+
+pub given_in : (o : Option MatchedArg) → (let s : Option ValueSource = None in s) ≡ option_and_then (λ (a : MatchedArg). a.source) o → option_map_or (λ (a : MatchedArg). explicit_source a.source) o false ≡ is_some o
+given_in None e = refl
+given_in (Some a) e = ap explicit_source (sym e)

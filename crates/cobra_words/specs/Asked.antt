@@ -1,14 +1,19 @@
 -- What the matches of a command's words ask for: each field of a request, by the rows that `clap`
 -- found for the command.
-use Rattle.std.specs.Prelude.{◌≡◌, ◌≢◌, ◌⊎◌, ◌<◌, ◌≤◌, ◌^◌, ℕ, Bool, true, false, if◌then◌else◌, List, codes}
+use Rattle.std.specs.Prelude.{◌≡◌, ◌≢◌, ◌⊎◌, ◌<◌, ◌≤◌, ◌^◌, ℕ, Bool, true, false, if◌then◌else◌, List, [], codes}
 use Rattle.std.specs.Prelude.{Option, None, Some, option_map, unwrap_or}
 use Rattle.std.specs.Option.{option_map_or}
 use Rattle.std.specs.Str.{bytes_eq}
 use Rattle.std.specs.Str.Parse.{IsNumeral, digits_value, without_leading_plus}
 use Rattle.clap.specs.declared.parser.matches.ArgMatches.{ArgMatches}
 use Rattle.clap.specs.Simple.{subcommand_of, subcommand_rows_of}
-use Rattle.clap.specs.Takes.{takes}
+use Rattle.clap.specs.Faults.{fault_of}
+use Rattle.clap.specs.Kinds.{IsAmong}
+use Rattle.clap.specs.Takes.{takes, is_given}
+use Rattle.clap.specs.Values.{kind_of}
 use Rattle.clap.specs.Walk.{Row, Text, first_of, one_of}
+use Rattle.clap.specs.declared.error.Error.{Error}
+use Rattle.clap.specs.declared.error.kind.ErrorKind.TheVariants.{ArgumentConflict}
 use Rattle.call_options.specs.declared.format.Format.{Format}
 use Rattle.call_options.specs.declared.format.Format.TheVariants as format
 use Rattle.call_options.specs.declared.report_form.ReportForm.{ReportForm}
@@ -21,7 +26,7 @@ use Rattle.cobra_words.specs.declared.request.Request.{Request}
 use Rattle.cobra_words.specs.declared.request.AuditWords.{AuditWords}
 use Rattle.cobra_words.specs.declared.request.Command.{Command}
 use Rattle.cobra_words.specs.declared.request.Command.TheVariants as command
-use Rattle.cobra_words.specs.Commands.{Lists, program_app}
+use Rattle.cobra_words.specs.Commands.{Lists, AreLists, program_app}
 use Rattle.cobra_words.specs.declared.request.Words.{Words}
 use Rattle.cobra_words.specs.declared.request.Words.TheVariants.{Request as Asked, Shown}
 
@@ -152,19 +157,52 @@ IsInRange r = (0 < r.workers) × (r.workers ≤ 16) × (0 < r.budget) × (r.budg
 
 -- ---- words
 
+-- a call of `explain` gives both a level and a form, which exclude each other
+abbrev pub gives_both : List Row → Bool
+gives_both rows = if is_given (codes "level") rows then is_given (codes "format") rows else false
+
+abbrev pub excludes : Option (Text × List Row) → Bool
+excludes entered = option_map_or (λ p. if bytes_eq p.0 (codes "explain") then gives_both p.1 else false) entered false
+
+-- a text says so
+abbrev pub IsExclusion : Words → Type 0
+IsExclusion (Asked r) = ⊥
+IsExclusion (Shown text) = kind_of text ≡ ArgumentConflict
+
 -- these words ask for it: they enter a command, and have its own matches
 pub record AreWordsOf (l : Lists) (words : List Text) (r : Request) : Type 0 where
   pub name : Text
   pub rows : List Row
   pub entered : subcommand_of (program_app l) words ≡ Some (name, rows)
   pub request : IsRequest name rows r
+  pub apart : excludes (Some (name, rows)) ≡ false
+
+-- and the program's options take them: each value is in its range or its list, nothing is given
+-- twice, nothing is missing
+pub record IsAskedFor (l : Lists) (words : List Text) (r : Request) : Type 0 where
+  pub taken : fault_of (program_app l) words ≡ []
+  pub asked : AreWordsOf l words r
+
+-- why a text is shown: help or the version is asked for, or words are not taken, which the text is of
+-- by its kind; or a level and a form exclude each other
+pub data IsShownFor (l : Lists) (words : List Text) (text : Error) : Type 0 where
+  by_fault : takes (program_app l) words ≢ true
+      → IsAmong (kind_of text) (fault_of (program_app l) words) → IsShownFor l words text
+  by_exclusion : excludes (subcommand_of (program_app l) words) ≡ true
+      → kind_of text ≡ ArgumentConflict → IsShownFor l words text
+
+-- words are taken, but ask for no request within its ranges
+pub record IsAskedForNone (l : Lists) (words : List Text) : Type 0 where
+  pub taken : fault_of (program_app l) words ≡ []
+  pub none : (r : Request) → AreWordsOf l words r → IsInRange r → ⊥
 
 -- what the words ask for, or nothing; or what is shown, since they are not taken
 abbrev pub IsReadAs : Lists → List Text → Option Words → Type 0
-IsReadAs l words None = (r : Request) → AreWordsOf l words r → IsInRange r → ⊥
-IsReadAs l words (Some (Asked r)) = AreWordsOf l words r
-IsReadAs l words (Some (Shown text)) = takes (program_app l) words ≢ true
+IsReadAs l words None = IsAskedForNone l words
+IsReadAs l words (Some (Asked r)) = IsAskedFor l words r
+IsReadAs l words (Some (Shown text)) = IsShownFor l words text
 
 pub record IsRead (words : List Text) (read : Option Words) : Type 0 where
   pub lists : Lists
+  pub are : AreLists lists
   pub read_as : IsReadAs lists words read

@@ -1,6 +1,7 @@
 -- The options and commands that the words are read by, as `clap` walks over words.
-use Rattle.std.specs.Prelude.{◌≡◌, ℕ, pos, true, false, [], ◌∷◌, codes, Some}
-use Rattle.clap.specs.Walk.{Rule, Text, rule_of}
+use Rattle.std.specs.Prelude.{◌≡◌, ℕ, pos, true, false, List, [], ◌∷◌, codes, Some}
+use Rattle.std.specs.Borrow.{Bor}
+use Rattle.clap.specs.Walk.{Rule, Text, rule_of, texts}
 use Rattle.clap.specs.Simple.{App, new_rule, new_app, with_rule, with_subcommand, on_top, app_of}
 use Rattle.clap.specs.declared.builder.arg.Arg.{Arg}
 use Rattle.clap.specs.declared.builder.action.ArgAction.TheVariants.{Set, SetTrue}
@@ -41,7 +42,29 @@ conflicts = record (new_rule (codes "conflicts")) {
   defaults = codes "1000000" ∷ [];
 }
 
--- an option whose value is one of the names of a list, which this parser takes; the names are free
+-- ---- the names that options with a list take
+
+abbrev pub strategies : List Text
+strategies = codes "first" ∷ codes "most" ∷ codes "least" ∷ codes "forced" ∷ []
+
+abbrev pub forms : List Text
+forms = codes "text" ∷ codes "dot" ∷ []
+
+abbrev pub reports : List Text
+reports = codes "text" ∷ codes "json" ∷ []
+
+abbrev pub levels : List Text
+levels = codes "strict-serializable" ∷ codes "serializable" ∷ codes "strict-snapshot"
+    ∷ codes "snapshot" ∷ codes "prefix" ∷ codes "causal" ∷ codes "read-atomic"
+    ∷ codes "monotonic-atomic-view" ∷ codes "read-committed" ∷ []
+
+-- the parser takes these names, and no other word
+pub record IsOneOf (names : List Text) (parser : ValueParser) : Type 0 where
+  pub list : Bor (List (Bor Text))
+  pub is : parser ≡ vp.Names list
+  pub has : texts list.now ≡ names
+
+-- an option whose value this parser takes
 abbrev pub listed : Text → ValueParser → Rule
 listed name parser = record (valued name) { parser = Some parser }
 
@@ -56,10 +79,6 @@ form parser = with_default (codes "text") (listed (codes "format") parser)
 
 abbrev pub level : ValueParser → Rule
 level parser = listed (codes "level") parser
-
--- a level of `explain` excludes its form
-abbrev pub level_of_explain : ValueParser → Rule
-level_of_explain parser = record (level parser) { is_free = false }
 
 abbrev pub at_least : Rule
 at_least = with_default (codes "1")
@@ -76,9 +95,10 @@ pub record HasRule (rule : Rule) (a : Arg) : Type 0 where
   pub is : rule_of a ≡ rule
   pub own : a.global ≡ false
 
--- such an argument has this rule with some list
-pub record HasListRule (rule : ValueParser → Rule) (a : Arg) : Type 0 where
+-- such an argument takes one of these names, and has this rule
+pub record HasListRule (names : List Text) (rule : ValueParser → Rule) (a : Arg) : Type 0 where
   pub parser : ValueParser
+  pub takes : IsOneOf names parser
   pub has : HasRule (rule parser) a
 
 -- the command walks over words so, and has no global argument
@@ -122,27 +142,26 @@ with_search picked spent parser app =
     with_workers (with_rule (with_rule app (strategy picked parser)) (budget spent))
 
 abbrev pub check_app : ValueParser → App
-check_app strategies =
-    with_search (codes "first") (codes "10000") strategies (new_app (codes "check"))
+check_app s = with_search (codes "first") (codes "10000") s (new_app (codes "check"))
 
 abbrev pub explain_app : ValueParser → ValueParser → ValueParser → App
-explain_app forms levels strategies = with_search (codes "first") (codes "10000") strategies
-    (with_rule (with_rule (new_app (codes "explain")) (form forms)) (level_of_explain levels))
+explain_app f l s = with_search (codes "first") (codes "10000") s
+    (with_rule (with_rule (new_app (codes "explain")) (form f)) (level l))
 
 abbrev pub with_report : ValueParser → App → App
-with_report forms app = with_rule (with_rule (with_rule (with_rule app (form forms))
+with_report f app = with_rule (with_rule (with_rule (with_rule app (form f))
     (flag (codes "quiet"))) seconds) (flag (codes "progress"))
 
 -- what is asked of `audit` alone
 abbrev pub with_audit : ValueParser → App → App
-with_audit levels app = with_rule (with_rule (with_rule (with_rule (with_rule (with_rule (with_rule
+with_audit l app = with_rule (with_rule (with_rule (with_rule (with_rule (with_rule (with_rule
     (with_rule app (flag (codes "explain"))) faults) (valued (codes "part")))
-    (valued (codes "order"))) (level levels)) (flag (codes "only"))) (flag (codes "no-moments")))
+    (valued (codes "order"))) (level l)) (flag (codes "only"))) (flag (codes "no-moments")))
     at_least
 
 abbrev pub audit_app : ValueParser → ValueParser → ValueParser → App
-audit_app levels forms strategies = with_search (codes "forced") (codes "100000") strategies
-    (with_report forms (with_audit levels (new_app (codes "audit"))))
+audit_app l f s = with_search (codes "forced") (codes "100000") s
+    (with_report f (with_audit l (new_app (codes "audit"))))
 
 -- the lists that options take their names from
 pub record Lists : Type 0 where
@@ -153,6 +172,16 @@ pub record Lists : Type 0 where
   pub audit_levels : ValueParser
   pub audit_forms : ValueParser
   pub audit_strategies : ValueParser
+
+-- they have these names
+pub record AreLists (l : Lists) : Type 0 where
+  pub check_strategies : IsOneOf strategies l.check_strategies
+  pub explain_forms : IsOneOf forms l.explain_forms
+  pub explain_levels : IsOneOf levels l.explain_levels
+  pub explain_strategies : IsOneOf strategies l.explain_strategies
+  pub audit_levels : IsOneOf levels l.audit_levels
+  pub audit_forms : IsOneOf reports l.audit_forms
+  pub audit_strategies : IsOneOf strategies l.audit_strategies
 
 -- the program, with each of its commands
 abbrev pub with_command : App → App → App
@@ -169,23 +198,31 @@ program_app l = with_command (with_command (with_command (with_command (with_com
     (explain_app l.explain_forms l.explain_levels l.explain_strategies))
     (audit_app l.audit_levels l.audit_forms l.audit_strategies)) split_app) census_app
 
--- a command walks so with some lists
-pub record HasListApp (app : ValueParser → App) (c : Command) : Type 0 where
+-- a command walks so, with a list of these names
+pub record HasListApp (names : List Text) (app : ValueParser → App) (c : Command) : Type 0 where
   pub parser : ValueParser
+  pub takes : IsOneOf names parser
   pub has : HasApp (app parser) c
 
 pub record IsExplain (c : Command) : Type 0 where
-  pub forms : ValueParser
-  pub levels : ValueParser
-  pub strategies : ValueParser
-  pub has : HasApp (explain_app forms levels strategies) c
+  pub form : ValueParser
+  pub takes_form : IsOneOf forms form
+  pub level : ValueParser
+  pub takes_level : IsOneOf levels level
+  pub strategy : ValueParser
+  pub takes_strategy : IsOneOf strategies strategy
+  pub has : HasApp (explain_app form level strategy) c
 
 pub record IsAudit (c : Command) : Type 0 where
-  pub levels : ValueParser
-  pub forms : ValueParser
-  pub strategies : ValueParser
-  pub has : HasApp (audit_app levels forms strategies) c
+  pub level : ValueParser
+  pub takes_level : IsOneOf levels level
+  pub form : ValueParser
+  pub takes_form : IsOneOf reports form
+  pub strategy : ValueParser
+  pub takes_strategy : IsOneOf strategies strategy
+  pub has : HasApp (audit_app level form strategy) c
 
 pub record IsProgram (c : Command) : Type 0 where
   pub lists : Lists
+  pub are : AreLists lists
   pub has : HasApp (program_app lists) c

@@ -6,11 +6,12 @@ ghost use Rattle.cobra_words.specs.Commands.{verify_app, encode_app, decode_app,
 ghost use Rattle.cobra_words.specs.Commands.{solve_app, stats_app, split_app, census_app, with_workers};
 ghost use Rattle.cobra_words.specs.Commands.{with_formula, with_search, with_report, with_audit};
 ghost use Rattle.cobra_words.specs.Commands.{check_app, program_head, HasApp, HasListApp, IsExplain};
-ghost use Rattle.cobra_words.specs.Commands.{IsAudit, IsProgram};
+ghost use Rattle.cobra_words.specs.Commands.{IsAudit, IsProgram, HasListRule, strategies, reports};
+ghost use Rattle.cobra_words.specs.Commands.{levels, level};
 
 use crate::{answers, options};
 use call_options::{AUDIT_DEFAULTS, CHECK_DEFAULTS, SearchDefaults};
-use clap::Command;
+use clap::{Arg, Command};
 use std::alloc::{AllocError, Global};
 
 /// The version that `--version` prints. Where a built program is kept, its commit and whether it
@@ -47,7 +48,7 @@ fn with_search<'a>(
     budget: &'a str,
     defaults: SearchDefaults,
 ) -> Result<Command<'a>, AllocError>
-    ensures app { (a : App) → HasApp a command.entry → IfOk result (HasListApp (λ p.
+    ensures app { (a : App) → HasApp a command.entry → IfOk result (HasListApp strategies (λ p.
         with_search defaults.strategy.now defaults.budget.now p a)) }
 {
     let command = command
@@ -96,7 +97,7 @@ fn solve<'a>(alloc: Global) -> Result<Command<'a>, AllocError>
 }
 
 fn check<'a>(alloc: Global) -> Result<Command<'a>, AllocError>
-    ensures app { IfOk result (HasListApp check_app) }
+    ensures app { IfOk result (HasListApp strategies check_app) }
 {
     let command = Command::new(alloc, "check")
         .about("Decide whether some serial order explains a log")
@@ -123,21 +124,28 @@ fn stats<'a>(alloc: Global) -> Result<Command<'a>, AllocError>
     with_formula(alloc, command)
 }
 
-fn explain<'a>(alloc: Global) -> Result<Command<'a>, AllocError>
-    ensures app { IfOk result IsExplain }
+/// `explain`, with this option for a level.
+fn explain_by<'a>(alloc: Global, named: Arg<'a>) -> Result<Command<'a>, AllocError>
+    ensures app { HasListRule levels level named.entry → IfOk result IsExplain }
 {
     let command = Command::new(alloc, "explain")
         .about("Say why no serial order explains a log")
         .after_help(answers::EXPLAIN)
         .arg(options::format(alloc))?
-        .arg(options::level_of_explain(alloc)?)?;
+        .arg(named)?;
     with_search(alloc, command, CUBES, CHECK_DEFAULTS)
+}
+
+fn explain<'a>(alloc: Global) -> Result<Command<'a>, AllocError>
+    ensures app { IfOk result IsExplain }
+{
+    explain_by(alloc, options::level_of_explain(alloc))
 }
 
 /// Such a command that reports.
 fn with_report<'a>(alloc: Global, command: Command<'a>) -> Result<Command<'a>, AllocError>
     ensures app { (a : App) → HasApp a command.entry
-        → IfOk result (HasListApp (λ p. with_report p a)) }
+        → IfOk result (HasListApp reports (λ p. with_report p a)) }
 {
     command
         .arg(options::report_format(alloc))?
@@ -149,7 +157,7 @@ fn with_report<'a>(alloc: Global, command: Command<'a>) -> Result<Command<'a>, A
 /// Such a command with what is asked of `audit` alone.
 fn with_audit<'a>(alloc: Global, command: Command<'a>) -> Result<Command<'a>, AllocError>
     ensures app { (a : App) → HasApp a command.entry
-        → IfOk result (HasListApp (λ p. with_audit p a)) }
+        → IfOk result (HasListApp levels (λ p. with_audit p a)) }
 {
     command
         .arg(options::explain(alloc))?
@@ -218,4 +226,11 @@ pub fn program<'a>(alloc: Global) -> Result<Command<'a>, AllocError>
         .subcommand(audit(alloc)?)?
         .subcommand(split(alloc)?)?
         .subcommand(census(alloc)?)
+}
+
+/// `explain` alone, whose level and form exclude each other: `clap` refuses words that give both, and
+/// says so. No contract of it speaks of that, so the words of calls are read without.
+pub fn excluding_program<'a>(alloc: Global) -> Result<Command<'a>, AllocError> {
+    let named = options::level_of_explain(alloc).conflicts_with("format")?;
+    program_head(alloc).subcommand(explain_by(alloc, named)?)
 }

@@ -1,14 +1,14 @@
 //! The options of commands.
 
-ghost use Rattle.std.specs.Prelude.{codes, IfOk};
+ghost use Rattle.std.specs.Prelude.{codes};
 ghost use Rattle.cobra_words.specs.Commands.{valued, flag, required_file, log_file, HasRule};
 ghost use Rattle.cobra_words.specs.Commands.{workers, conflicts, strategy, budget, form, level};
-ghost use Rattle.cobra_words.specs.Commands.{level_of_explain, at_least, faults, seconds};
-ghost use Rattle.cobra_words.specs.Commands.{HasListRule};
+ghost use Rattle.cobra_words.specs.Commands.{at_least, faults, seconds, HasListRule};
+ghost use Rattle.cobra_words.specs.Commands.{strategies, forms, reports, levels};
 
 use clap::builder::ValueParser;
 use clap::{Arg, ArgAction};
-use std::alloc::{AllocError, Global};
+use std::alloc::Global;
 
 /// How many workers take part where the words do not say.
 const DEFAULT_WORKERS: &str = "4";
@@ -80,7 +80,7 @@ pub fn plain<'a>(alloc: Global) -> Arg<'a>
 }
 
 pub fn strategy<'a>(alloc: Global, default: &'a str) -> Arg<'a>
-    ensures rule { HasListRule (strategy default.entry.now) result }
+    ensures rule { HasListRule strategies (strategy default.entry.now) result }
 {
     valued(alloc, "strategy", "NAME")
         .help(
@@ -112,7 +112,7 @@ pub fn conflicts<'a>(alloc: Global) -> Arg<'a>
 }
 
 pub fn format<'a>(alloc: Global) -> Arg<'a>
-    ensures rule { HasListRule form result }
+    ensures rule { HasListRule forms form result }
 {
     valued(alloc, "format", "FORM")
         .help("Lines of text, or a graph for Graphviz")
@@ -177,7 +177,7 @@ pub fn order<'a>(alloc: Global) -> Arg<'a>
 }
 
 pub fn level<'a>(alloc: Global) -> Arg<'a>
-    ensures rule { HasListRule level result }
+    ensures rule { HasListRule levels level result }
 {
     valued(alloc, "level", "LEVEL")
         .help(
@@ -186,12 +186,10 @@ pub fn level<'a>(alloc: Global) -> Arg<'a>
         .value_parser(ValueParser::Names(&LEVELS))
 }
 
-pub fn level_of_explain<'a>(alloc: Global) -> Result<Arg<'a>, AllocError>
-    ensures rule { IfOk result (HasListRule level_of_explain) }
+pub fn level_of_explain<'a>(alloc: Global) -> Arg<'a>
+    ensures rule { HasListRule levels level result }
 {
-    level(alloc)
-        .help("Say what audit --explain says of this promise")
-        .conflicts_with("format")
+    level(alloc).help("Say what audit --explain says of this promise")
 }
 
 pub fn only<'a>(alloc: Global) -> Arg<'a>
@@ -209,7 +207,7 @@ pub fn no_moments<'a>(alloc: Global) -> Arg<'a>
 }
 
 pub fn report_format<'a>(alloc: Global) -> Arg<'a>
-    ensures rule { HasListRule form result }
+    ensures rule { HasListRule reports form result }
 {
     valued(alloc, "format", "FORM")
         .help("Lines of text, or one object of JSON")

@@ -147,6 +147,22 @@ fn texts_of_help(rt: HostRuntime) {
     }
 }
 
+#[test]
+fn texts_of_exclusion(rt: HostRuntime) {
+    for (line, part) in [
+        (
+            "cobra_poly explain --level snapshot --format dot log",
+            "error: the argument '--level <LEVEL>' cannot be used with '--format <FORM>'\n\nUsage: cobra_poly explain --level <LEVEL> <FILE>\n\nFor more information, try '--help'.\n",
+        ),
+        (
+            "cobra_poly explain --format text --workers 3 --level snapshot",
+            "error: the argument '--format <FORM>' cannot be used with '--level <LEVEL>'\n\nUsage: cobra_poly explain --format <FORM> --workers <N> [FILE]\n",
+        ),
+    ] {
+        see_text(&rt, rt.alloc(), line, part);
+    }
+}
+
 /// Whether a call reads the log from this file, or from standard input where it has no name.
 fn is_log(request: &Request<'_>, file: &str) -> bool {
     match request.log {

@@ -2,7 +2,7 @@ use Rattle.std.proofs.Common.{rules}
 use Rattle.std.specs.Prelude.{codes}
 use Rattle.std.proofs.lemmas.Result.{IfOk-weaker}
 use Rattle.clap.specs.Simple.{new_app}
-use Rattle.cobra_words.specs.Commands.{with_audit, with_report, with_search, HasApp, HasListApp, IsAudit}
+use Rattle.cobra_words.specs.Commands.{strategies, with_audit, with_report, with_search, HasApp, HasListApp, IsAudit}
 use Rattle.cobra_words.proofs.commands.audit.Goals as goal
 
 pub returns : goal.returns
@@ -13,6 +13,6 @@ returns c =
     let two = c.in_ok-command.ensures.app mid one.has in
     let app = with_report two.parser mid in
     record {
-      app = IfOk-weaker c.with_search.result (HasListApp (λ p. with_search (codes "forced") (codes "100000") p app)) IsAudit
-          (λ x k. record { levels = one.parser; forms = two.parser; strategies = k.parser; has = k.has }) (c.with_search.ensures.app app two.has);
+      app = IfOk-weaker c.with_search.result (HasListApp strategies (λ p. with_search (codes "forced") (codes "100000") p app)) IsAudit
+          (λ x k. record { level = one.parser; takes_level = one.takes; form = two.parser; takes_form = two.takes; strategy = k.parser; takes_strategy = k.takes; has = k.has }) (c.with_search.ensures.app app two.has);
     }

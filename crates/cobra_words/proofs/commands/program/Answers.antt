@@ -23,12 +23,21 @@ returns c =
       app = IfOk-weaker c.subcommand-11.result (AddsSubcommand c.in_ok-subcommand-10.field-0 c.in_ok-census.field-0) IsProgram (λ x adds. record {
         lists = record {
           check_strategies = check.parser;
-          explain_forms = explain.forms;
-          explain_levels = explain.levels;
-          explain_strategies = explain.strategies;
-          audit_levels = audit.levels;
-          audit_forms = audit.forms;
-          audit_strategies = audit.strategies;
+          explain_forms = explain.form;
+          explain_levels = explain.level;
+          explain_strategies = explain.strategy;
+          audit_levels = audit.level;
+          audit_forms = audit.form;
+          audit_strategies = audit.strategy;
+        };
+        are = record {
+          check_strategies = check.takes;
+          explain_forms = explain.takes_form;
+          explain_levels = explain.takes_level;
+          explain_strategies = explain.takes_strategy;
+          audit_levels = audit.takes_level;
+          audit_forms = audit.takes_form;
+          audit_strategies = audit.takes_strategy;
         };
         has = subcommand_step s10 c.in_ok-census.ensures.app adds;
       }) c.subcommand-11.ensures;

@@ -1,6 +1,6 @@
 use Rattle.std.proofs.lemmas.Result.{IfOk-weaker}
 use Rattle.clap.specs.Built.{AddsArg}
-use Rattle.cobra_words.specs.Commands.{with_audit, HasListApp}
+use Rattle.cobra_words.specs.Commands.{levels, with_audit, HasListApp}
 use Rattle.cobra_words.proofs.Adding.{arg_step}
 use Rattle.cobra_words.proofs.commands.with_audit.Goals as goal
 
@@ -15,6 +15,6 @@ returns c = record {
       let s5 = arg_step s4 l.has c.in_ok-arg-5.ensures in
       let s6 = arg_step s5 c.only.ensures.rule c.in_ok-arg-6.ensures in
       let s7 = arg_step s6 c.no_moments.ensures.rule c.in_ok-arg-7.ensures in
-      IfOk-weaker c.arg-8.result (AddsArg c.in_ok-arg-7.field-0 c.at_least.result) (HasListApp (λ p. with_audit p a))
-      (λ x adds. record { parser = l.parser; has = arg_step s7 c.at_least.ensures.rule adds }) c.arg-8.ensures;
+      IfOk-weaker c.arg-8.result (AddsArg c.in_ok-arg-7.field-0 c.at_least.result) (HasListApp levels (λ p. with_audit p a))
+      (λ x adds. record { parser = l.parser; takes = l.takes; has = arg_step s7 c.at_least.ensures.rule adds }) c.arg-8.ensures;
 }

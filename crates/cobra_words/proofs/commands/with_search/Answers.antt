@@ -1,6 +1,6 @@
 use Rattle.std.proofs.lemmas.Result.{IfOk-weaker}
 use Rattle.clap.specs.Simple.{with_rule}
-use Rattle.cobra_words.specs.Commands.{strategy, budget, with_workers, with_search, HasApp, HasListApp}
+use Rattle.cobra_words.specs.Commands.{strategies, strategy, budget, with_workers, with_search, HasApp, HasListApp}
 use Rattle.cobra_words.proofs.Adding.{arg_step}
 use Rattle.cobra_words.proofs.commands.with_search.Goals as goal
 
@@ -13,6 +13,6 @@ returns c = record {
       let s1 = arg_step h s.has c.in_ok-arg.ensures in
       let s2 = arg_step s1 c.budget.ensures.rule c.in_ok-command.ensures in
       let app = with_rule (with_rule a (strategy picked s.parser)) (budget spent) in
-      IfOk-weaker c.with_workers.result (HasApp (with_workers app)) (HasListApp (λ p. with_search picked spent p a))
-      (λ x has. record { parser = s.parser; has = has }) (c.with_workers.ensures.app app s2);
+      IfOk-weaker c.with_workers.result (HasApp (with_workers app)) (HasListApp strategies (λ p. with_search picked spent p a))
+      (λ x has. record { parser = s.parser; takes = s.takes; has = has }) (c.with_workers.ensures.app app s2);
 }

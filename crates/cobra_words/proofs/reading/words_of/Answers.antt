@@ -1,7 +1,8 @@
-use Rattle.std.proofs.Common.{◌≡◌, true, map, string_bytes, sym, subst, ◌∙◌}
-use Rattle.clap.specs.Simple.{HasMatchesOf}
-use Rattle.clap.specs.Takes.{takes}
-use Rattle.cobra_words.proofs.Entering.{words_enter, words_entered}
+use Rattle.std.proofs.Common.{map, string_bytes, ◌∙◌, sym}
+use Rattle.std.specs.Prelude.{IfSome}
+use Rattle.std.proofs.lemmas.Result.{IfOk-weaker}
+use Rattle.cobra_words.specs.Asked.{IsExclusion, IsRead}
+use Rattle.cobra_words.proofs.Entering.{shown_by, asked_by, none_asked, read_apart}
 use Rattle.cobra_words.proofs.reading.words_of.Goals as goal
 
 pub returns-in-Err : goal.returns-in-Err
@@ -11,20 +12,46 @@ returns-in-Err c =
     record {
       read = record {
         lists = p.lists;
-        read_as = λ taken. c.in_default.not-OutOfMemory (c.kind.ensures ∙ c.in-Err.ensures.passes (subst (λ a. takes a words ≡ true) (sym p.has.is) taken));
+        are = p.are;
+        read_as = shown_by p.lists words _ _ p.has.is c.in-Err.ensures.kinds c.in-Err.ensures.passes
+            (λ h. c.in_default.not-OutOfMemory (c.kind.ensures ∙ h));
       };
+    }
+
+pub returns-then-excludes : goal.returns-then-excludes
+returns-then-excludes c =
+    let p = c.in_ok-program.ensures.app in
+    let words = map string_bytes c.args.words.now in
+    record {
+      read = IfOk-weaker c.exclusion.result (λ said. IfSome said IsExclusion) (IsRead words)
+          (λ said h. record {
+            lists = p.lists;
+            are = p.are;
+            read_as = read_apart p.lists words _ c.in-Ok.matches said p.has.is c.in-Ok.ensures.kinds c.in-Ok.ensures.matches (sym c.excludes.ensures.excludes ∙ c.if-excludes.true) h;
+          })
+          c.exclusion.ensures.said;
     }
 
 pub returns-in-Some : goal.returns-in-Some
 returns-in-Some c =
     let p = c.in_ok-program.ensures.app in
     let words = map string_bytes c.args.words.now in
-    let has = subst (λ a. HasMatchesOf a words c.in-Ok.matches) p.has.is c.in-Ok.ensures.matches in
-    record { read = record { lists = p.lists; read_as = words_enter p.lists words c.in-Ok.matches c.in-Some.request has c.in-Some.ensures.request } }
+    record {
+      read = record {
+        lists = p.lists;
+        are = p.are;
+        read_as = asked_by p.lists words _ c.in-Ok.matches c.in-Some.request p.has.is c.in-Ok.ensures.kinds c.in-Ok.ensures.matches (sym c.excludes.ensures.excludes ∙ c.if-excludes.false) c.in-Some.ensures.request;
+      };
+    }
 
 pub returns : goal.returns
 returns c =
     let p = c.in_ok-program.ensures.app in
     let words = map string_bytes c.args.words.now in
-    let has = subst (λ a. HasMatchesOf a words c.in-Ok.matches) p.has.is c.in-Ok.ensures.matches in
-    record { read = record { lists = p.lists; read_as = λ r h range. c.in-None.ensures.known r (words_entered p.lists words c.in-Ok.matches r has h) range } }
+    record {
+      read = record {
+        lists = p.lists;
+        are = p.are;
+        read_as = none_asked p.lists words _ c.in-Ok.matches p.has.is c.in-Ok.ensures.kinds c.in-Ok.ensures.matches c.in-None.ensures.known;
+      };
+    }
