@@ -36,6 +36,7 @@ fn some_break(text: &[u8]) -> bool
 /// The lines, where all is printed.
 pub fn only_printed(alloc: Global, text: Vec<u8>) -> Vec<u8>
     ensures printed { IsPrinted result.items }
+    ensures same { IsPrinted text.items → result ≡ text }
 {
     if some_hidden(&text) {
         Vec::new(alloc)
@@ -47,6 +48,7 @@ pub fn only_printed(alloc: Global, text: Vec<u8>) -> Vec<u8>
 /// The text, where it is a line.
 pub fn only_line(alloc: Global, text: String) -> String
     ensures line { IsLine (string_bytes result) }
+    ensures same { IsLine (string_bytes text) → result ≡ text }
 {
     if some_break(text.as_bytes()) {
         String::new(alloc)
@@ -58,6 +60,7 @@ pub fn only_line(alloc: Global, text: String) -> String
 /// The same, where there is one.
 pub fn only_name(alloc: Global, name: Option<String>) -> Option<String>
     ensures line { IfSome result (λ text. IsLine (string_bytes text)) }
+    ensures same { IfSome name (λ text. IsLine (string_bytes text)) → result ≡ name }
 {
     match name {
         Some(text) => Some(only_line(alloc, text)),
@@ -68,6 +71,7 @@ pub fn only_name(alloc: Global, name: Option<String>) -> Option<String>
 /// Texts, each where it is a line.
 pub fn only_lines(alloc: Global, texts: Vec<String>) -> Result<Vec<String>, AllocError>
     ensures lines { IfOk result (λ lines. AreLines lines.items) }
+    ensures same { AreLines texts.items → IfOk result (λ lines. lines.items ≡ texts.items) }
 {
     let mut lines = Vec::new(alloc);
     for text in texts {
