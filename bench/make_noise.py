@@ -1,5 +1,5 @@
-"""Logs in which a few transactions that no order explains hide among others that have one; for bench/refute.py, bench/solve.py and
-tests/solving.py."""
+"""Logs in which a few transactions that no order explains hide among others that have one; for bench/refute.py, bench/solve.py,
+tests/solving.py and tests/auditing.py."""
 import random
 
 # Of those that ran in some order, and of all.
@@ -19,6 +19,31 @@ def crossed(behind=(0, 0, 0, 0)):
 
 
 EIGHT, FIFTEEN = crossed(), crossed((2, 2, 2, 1))
+
+
+def ring(keys, noise, readers):
+    """Transactions without an order: of so many keys in a ring, with two versions each, three of the four pairs of versions of neighbours
+    are read, so that the order of one key gives those of all others, and the other way round. They stand behind those of so many keys of
+    two versions each, which so many transactions read by itself, and which have an order."""
+    hidden, before, wid = [], [], 0
+    for key in range(noise):
+        for _ in range(2):
+            wid += 1
+            before += [['w n%d %d' % (key, wid)]] + [['r n%d %d' % (key, wid)] for _ in range(readers)]
+    hidden += [['w c%d %d' % (version // 2, wid + version + 1)] for version in range(2 * keys)]
+    for key in range(keys):
+        behind = (key + 1) % keys
+        for one, two in ((0, 1), (0, 0), (1, 0)) if behind == 0 else ((0, 0), (0, 1), (1, 1)):
+            hidden.append(['r c%d %d' % (key, wid + 2 * key + one + 1), 'r c%d %d' % (behind, wid + 2 * behind + two + 1)])
+    return before + hidden
+
+
+def log_of(transactions):
+    """A log of these transactions, each in a session of its own."""
+    lines = []
+    for number, ops in enumerate(transactions, 1):
+        lines += ['session %d' % number, 'begin', *ops, 'commit']
+    return ''.join(line + '\n' for line in lines)
 
 
 def noisy_log(count, keys, seed=1, hidden=EIGHT):

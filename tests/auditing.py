@@ -12,8 +12,8 @@ Last line: 'auditing: N passed, M failed'."""
 import argparse, bz2, collections, concurrent.futures, gzip, json, lzma, os, random, re, subprocess, sys, tempfile
 
 HERE = os.path.dirname(os.path.abspath(__file__))
-sys.path.insert(0, HERE)
-import certificates, generate, reference, small_logs
+sys.path[:0] = [HERE, os.path.join(os.path.dirname(HERE), 'bench')]
+import certificates, generate, make_noise, reference, small_logs
 from certificates import Answer, call, must
 
 CASES, SEED, SHOWN = 2000, 1, 20
@@ -399,6 +399,15 @@ def time_is_up(program, folder):
     os.remove(log)
 
 
+def ring_told(program, folder, keys, noise, readers, level):
+    """A ring of keys that no order explains is told by few transactions, whatever stands before it. Of a search it would need all of them,
+    or be `unknown`."""
+    text = make_noise.log_of(make_noise.ring(keys, noise, readers)).encode()
+    status, said, error = call(program, 'audit', '--only', '--level', level, text=text)
+    parts = [int(line.split()[2]) for line in said.splitlines() if line.startswith('shown by ')]
+    must((status, error) == (1, '') and parts and max(parts) <= 25, 'status %d, says %r, on standard error %r' % (status, said[:200], error))
+
+
 def has_help(program, folder):
     status, said, error = call(program, 'audit', '--help')
     named = [option for option in ('--workers', '--strategy', '--budget', '--at-least', '--seconds', '--format', '--quiet', '--progress',
@@ -439,6 +448,9 @@ def by_hand(folder):
     yield 'help', has_help, ()
     yield 'files that are one', same_files, ()
     yield 'the time is up', time_is_up, ()
+    for ring in (3, 10, 40), (5, 12, 15), (6, 12, 30):
+        for level in 'serializable', 'snapshot', 'prefix':
+            yield 'a ring of %d keys, --level %s' % (ring[0], level), ring_told, (*ring, level)
     yield 'a strange name', strange_name, ()
     for name, text in generate.examples((1, 2, 3)):
         try:

@@ -93,7 +93,7 @@ def counted(sessions):
 
 # What stands behind a part where a client or its recorder is more often at fault than a store.
 ORDER = 'check first: did the client record its operations in their order?'
-HINTS = {'A1': 'check first: does the log have each write of all clients, under its own key?', 'A4': ORDER, 'A5': ORDER}
+HINTS = {'A1': 'check first: does the log have each write of all clients, under its own key?', 'A2': 'check first: is the abort certain?', 'A4': ORDER, 'A5': ORDER}
 # What is said of a part that has an order without that of sessions.
 SERIAL_APART = 'these break the order of sessions alone: without it they have a serial order; of the rest of the log this says nothing'
 # What is said where a log has an order without its moments, and none with them.

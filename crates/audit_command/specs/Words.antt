@@ -44,6 +44,7 @@ order_hint = codes "check first: did the client record its operations in their o
 -- what to check first, where a client or its recorder is more often at fault than a store
 abbrev pub read_hint : ReadAnomaly → List ℕ
 read_hint read.Unknown = codes "check first: does the log have each write of all clients, under its own key?\n"
+read_hint read.Aborted = codes "check first: is the abort certain?\n"
 read_hint read.OwnWriteMissed = order_hint
 read_hint read.Future = order_hint
 read_hint _ = []

@@ -49,6 +49,8 @@ pub fn finding_title(finding: Finding) -> &'static str
 const WRITES_HINT: &str =
     "check first: does the log have each write of all clients, under its own key?\n";
 
+const ABORT_HINT: &str = "check first: is the abort certain?\n";
+
 const ORDER_HINT: &str = "check first: did the client record its operations in their order?\n";
 
 /// What to check first of a read, as a line, where a client or its recorder is more often at fault
@@ -58,8 +60,9 @@ fn read_hint(kind: ReadAnomaly) -> &'static str
 {
     match kind {
         ReadAnomaly::Unknown => WRITES_HINT,
+        ReadAnomaly::Aborted => ABORT_HINT,
         ReadAnomaly::OwnWriteMissed | ReadAnomaly::Future => ORDER_HINT,
-        ReadAnomaly::Aborted | ReadAnomaly::Intermediate | ReadAnomaly::Split => "",
+        ReadAnomaly::Intermediate | ReadAnomaly::Split => "",
     }
 }
 

@@ -83,6 +83,18 @@ fn joined_places(
     Ok(joined)
 }
 
+/// Of each transaction whether one of its halves is chosen, where some are.
+fn joined_where(
+    alloc: Global,
+    sessions: &[Session],
+    halves: Option<&Flags>,
+) -> Result<Option<Flags>, AllocError> {
+    match halves {
+        Some(halves) => Ok(Some(joined(alloc, sessions, halves)?)),
+        None => Ok(None),
+    }
+}
+
 /// What is proposed of a log, by what is proposed of its split log. An order stays one of the split
 /// log.
 pub fn joined_proposal(
@@ -94,6 +106,7 @@ pub fn joined_proposal(
         Proposal::Part(flags) => Ok(Proposal::Part(joined(alloc, sessions, &flags)?)),
         Proposal::Stuck(stuck) => Ok(Proposal::Stuck(Stuck {
             around: joined(alloc, sessions, &stuck.around)?,
+            against: joined_where(alloc, sessions, stuck.against.as_ref())?,
             waiting: joined_places(alloc, sessions, &stuck.waiting)?,
             ..stuck
         })),

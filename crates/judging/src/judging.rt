@@ -24,7 +24,7 @@ use crate::trial::{Attempt, Trial, try_part};
 use log_parts::copy_log;
 use order_checks::is_serial;
 use progress::{Progress, Stage};
-use proposals::Proposal;
+use proposals::{Flags, Proposal, Stuck};
 use session_history::{NodeIx, NodeLine};
 use session_log::Session;
 use std::alloc::{AllocError, Global};
@@ -78,6 +78,26 @@ pub fn judge_part<R: Threads + Wait + Clock + Sync>(
             Ok(Attempt::Refuted(less))
         }
         Attempt::Open(tried) => Ok(Attempt::Open(tried)),
+    }
+}
+
+/// The part of these flags, where it shows that a log has no order.
+pub fn shown_by<R: Threads + Wait + Clock + Sync>(
+    rt: &R,
+    alloc: Global,
+    sessions: &[Session],
+    flags: Option<&Flags>,
+    means: &JudgeMeans,
+) -> Result<Option<RefutedPart>, AllocError>
+    requires log { IsLog (map view sessions.now) }
+    ensures { IfOk result (λ found. IfSome found (IsToldPart means.now.level (map view sessions.now))) }
+{
+    let Some(flags) = flags else {
+        return Ok(None);
+    };
+    match judge_part(rt, alloc, sessions, flags, means)? {
+        Attempt::Refuted(told) => Ok(Some(told)),
+        Attempt::Open(_) => Ok(None),
     }
 }
 
@@ -292,6 +312,25 @@ fn judge_ordered<R: Threads + Wait + Clock + Sync>(
     }
 }
 
+/// What is said of a log in which the finder stuck: the part by which neither of two orders can be is
+/// looked at first.
+fn judge_where_stuck<R: Threads + Wait + Clock + Sync>(
+    rt: &R,
+    alloc: Global,
+    sessions: &[Session],
+    stuck: &Stuck,
+    proposal: &Proposal,
+    means: &JudgeMeans,
+) -> Result<Verdict, AllocError>
+    requires log { IsLog (map view sessions.now) }
+    ensures { IfOk result (IsSaid means.now (map view sessions.now)) }
+{
+    match shown_by(rt, alloc, sessions, stuck.against.as_ref(), means)? {
+        Some(told) => Ok(Verdict::NotSerializable(told)),
+        None => judge_rest(rt, alloc, sessions, proposal, Tried::Nothing, means),
+    }
+}
+
 /// What is said of a log whose outcomes are known, by what is proposed of it.
 pub fn judge_known<R: Threads + Wait + Clock + Sync>(
     rt: &R,
@@ -308,9 +347,8 @@ pub fn judge_known<R: Threads + Wait + Clock + Sync>(
     match proposal {
         Proposal::Order(order) => judge_ordered(rt, alloc, sessions, at, order, proposal, means),
         Proposal::Part(flags) => judge_by_part(rt, alloc, sessions, flags, proposal, means),
-        Proposal::Stuck(_) | Proposal::NotTried(_) => {
-            judge_rest(rt, alloc, sessions, proposal, Tried::Nothing, means)
-        }
+        Proposal::Stuck(stuck) => judge_where_stuck(rt, alloc, sessions, stuck, proposal, means),
+        Proposal::NotTried(_) => judge_rest(rt, alloc, sessions, proposal, Tried::Nothing, means),
     }
 }
 

@@ -10,11 +10,10 @@ ghost use Rattle.judging.specs.Judges.{IsVerdict};
 ghost use Rattle.judging.specs.Finds.{IsSaid};
 ghost use Rattle.judging.specs.Made.{IsMade, IsToldPart};
 
-use crate::judged::{RefutedPart, Verdict};
-use crate::judging::{judge, judge_known, judge_part, tell_search};
+use crate::judged::Verdict;
+use crate::judging::{judge, judge_known, shown_by, tell_search};
 use crate::level::{LevelLog, log_at, propose_at};
 use crate::means::JudgeMeans;
-use crate::trial::Attempt;
 use known_outcomes::resolve;
 use progress::Progress;
 use proposals::{Flags, Proposal};
@@ -66,26 +65,6 @@ pub fn judge_whole<R: Threads + Wait + Clock + Eprint + Sync, P: Progress>(
         proposal,
         verdict,
     })
-}
-
-/// The part of these flags, where it shows that a log has no order.
-fn shown_by<R: Threads + Wait + Clock + Sync>(
-    rt: &R,
-    alloc: Global,
-    sessions: &[Session],
-    flags: Option<&Flags>,
-    means: &JudgeMeans,
-) -> Result<Option<RefutedPart>, AllocError>
-    requires log { IsLog (map view sessions.now) }
-    ensures { IfOk result (λ found. IfSome found (IsToldPart means.now.level (map view sessions.now))) }
-{
-    let Some(flags) = flags else {
-        return Ok(None);
-    };
-    match judge_part(rt, alloc, sessions, flags, means)? {
-        Attempt::Refuted(told) => Ok(Some(told)),
-        Attempt::Open(_) => Ok(None),
-    }
 }
 
 /// What is said of a log whose outcomes are known: first of the part of these flags.

@@ -112,6 +112,7 @@ fn part(rt: &impl Abort, alloc: Global, count: usize, from: usize) -> Proposal {
 fn stuck(rt: &impl Abort, alloc: Global, count: usize, from: usize) -> Proposal {
     Proposal::Stuck(Stuck {
         around: flags(rt, alloc, count, from),
+        against: None,
         placed: 0,
         nodes: count,
         waiting: Vec::new(alloc),

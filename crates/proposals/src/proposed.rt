@@ -12,6 +12,8 @@ pub type Flags = Vec<Vec<bool>>;
 pub struct Stuck {
     /// The transactions around the place where it is stuck.
     pub around: Flags,
+    /// Those by which neither of two orders can be, where it is stuck there.
+    pub against: Option<Flags>,
     /// So many nodes were placed at most,
     pub placed: usize,
     /// of so many.

@@ -22,7 +22,7 @@ use Rattle.log_laws.proofs.Sessions.{le_true}
 use Rattle.level_laws.specs.Snapshot.{HasSnapshotOrder, HasPrefixOrder}
 use Rattle.level_laws.specs.Split.{Locks, HasKey, split_writers}
 use Rattle.level_laws.proofs.Legal.{split_is_log, resolved_split_is_log}
-use Rattle.level_laws.proofs.Writers.{snapshot_by_writers}
+use Rattle.level_laws.proofs.Points.{snapshot_by_writers}
 use Rattle.level_laws.proofs.Fresh.{same_behind}
 use Rattle.level_laws.specs.Prefix.{no_locks}
 use Rattle.level_laws.proofs.Prefix.{prefix_by_split, bare_split_log}
