@@ -29,6 +29,10 @@ outcome_in ts i = option_map_or (λ t. t.outcome) (slice_get ts i) Abort
 abbrev pub outcome_at : List ClientSession → TxnAt → Outcome
 outcome_at ss at = option_map_or (λ s. outcome_in s.txns at.txn) (slice_get ss at.session) Abort
 
+-- the line at which it begins
+abbrev pub begin_of : Table → TxnAt → ℕ
+begin_of table at = (row_of table at).begin
+
 -- the line that ends it
 abbrev pub end_of : Table → TxnAt → ℕ
 end_of table at = (row_of table at).end

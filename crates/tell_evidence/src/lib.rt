@@ -26,7 +26,9 @@ mod paths;
 mod phrases;
 mod places;
 mod telling;
-mod words;
+pub mod words;
 
 pub use names::evidence_name;
+pub use phrases::Log;
+pub use places::{begin_at, end_at, key_at, line_of, number_at, wid_at};
 pub use telling::evidence_text;

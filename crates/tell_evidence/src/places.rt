@@ -73,6 +73,16 @@ pub fn place_at(places: &LogPlaces, at: TxnAt) -> usize
     }
 }
 
+/// The line at which it begins.
+pub fn begin_at(places: &LogPlaces, at: TxnAt) -> usize
+    ensures { result ≡ spec.begin_of (rows_of places.now) at }
+{
+    match row_at(places, at) {
+        Some(row) => row.begin,
+        None => 0,
+    }
+}
+
 /// The line that ends it.
 pub fn end_at(places: &LogPlaces, at: TxnAt) -> usize
     ensures { result ≡ spec.end_of (rows_of places.now) at }

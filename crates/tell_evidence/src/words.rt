@@ -23,6 +23,7 @@ pub enum Word<'a> {
     Key(OpAt),
     /// The identity that it names.
     Wid(OpAt),
+    Number(u64),
     /// Its line, as ` (line 12)`.
     AtLine(OpAt),
     /// The line that ends a transaction, as ` (line 12)`.
@@ -55,6 +56,7 @@ fn put_word(out: &mut Vec<u8>, log: &Log<'_>, word: &Word<'_>) -> Result<(), All
         Word::Name(at) => put_name(out, log, *at),
         Word::Key(at) => put(out, key_at(log.sessions, *at)),
         Word::Wid(at) => put_number(out, wid_at(log.sessions, *at)),
+        Word::Number(number) => put_number(out, *number),
         Word::AtLine(at) => put_in_line(out, line_of(log.places, *at)),
         Word::AtEnd(at) => put_in_line(out, end_at(log.places, *at)),
         Word::Version(at) => put_version(out, log, *at),
