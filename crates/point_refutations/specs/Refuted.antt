@@ -1,0 +1,91 @@
+-- Refutations by points that are right.
+use Rattle.std.specs.Prelude.{ℕ, ◌==◌, ◌&&◌, Bool, true, false, not, List, [], ◌∷◌, ◌++◌, length}
+use Rattle.std.specs.Prelude.{Option, None, Some}
+use Rattle.std.specs.Str.{bytes_eq}
+use Rattle.session_log.specs.Text.{ClientSession}
+use Rattle.session_log.specs.declared.session.Op.{Op}
+use Rattle.session_log.specs.declared.session.Op.TheVariants.{Read, Write}
+use Rattle.level_refutations.specs.declared.evidence.TxnAt.{TxnAt}
+use Rattle.level_refutations.specs.Places.{op_at, is_same, is_named, is_external, is_of_key}
+use Rattle.point_refutations.specs.declared.refutation.PointAt.TheVariants.{Snapshot, Commit}
+use Rattle.point_refutations.specs.declared.refutation.Both.{Both}
+use Rattle.point_refutations.specs.declared.refutation.Overwritten.{Overwritten}
+use Rattle.point_refutations.specs.declared.refutation.Against.{Against}
+use Rattle.point_refutations.specs.declared.refutation.Edge.{Edge}
+use Rattle.point_refutations.specs.declared.refutation.Step.{Step}
+use Rattle.point_refutations.specs.declared.refutation.Step.TheVariants as step
+use Rattle.point_refutations.specs.declared.refutation.Ending.{Ending}
+use Rattle.point_refutations.specs.declared.refutation.Ending.TheVariants.{Circle, Neither}
+use Rattle.point_refutations.specs.declared.refutation.Refutation.{Refutation}
+use Rattle.point_refutations.specs.Edges.{edge_from, is_way}
+
+-- ---- two that write one key
+
+abbrev pub writes_same : Op → Op → Bool
+writes_same (Write key wid) (Write k w) = bytes_eq key k
+writes_same (Write key wid) (Read k w) = false
+writes_same (Read key wid) other = false
+
+abbrev pub write_same : Option Op → Option Op → Bool
+write_same None other = false
+write_same (Some one) None = false
+write_same (Some one) (Some other) = writes_same one other
+
+-- two transactions, and a write of one key by each
+abbrev pub is_both : List ClientSession → Both → Bool
+is_both ss b = not (is_same b.one.txn b.other.txn) && write_same (op_at ss b.one) (op_at ss b.other)
+
+-- ---- why one cannot commit before the other takes its snapshot
+
+-- an external read finds what the late one writes, and the other one writes its key
+abbrev pub is_overwritten : List ClientSession → TxnAt → TxnAt → Overwritten → Bool
+is_overwritten ss late other o = (is_external ss o.read && (is_named ss o.found o.read
+    && is_of_key ss o.write o.read)) && (is_same o.found.txn late && is_same o.write.txn other)
+
+abbrev pub is_against_by : List ClientSession → List Step → TxnAt → TxnAt → Option Overwritten
+    → List Edge → Bool
+is_against_by ss steps late other None edges = is_way ss steps (Snapshot other) edges (Commit late)
+is_against_by ss steps late other (Some o) edges = is_overwritten ss late other o
+    && is_way ss steps (Commit other) edges (Snapshot o.read.txn)
+
+abbrev pub is_against : List ClientSession → List Step → TxnAt → TxnAt → Against → Bool
+is_against ss steps late other a = is_against_by ss steps late other a.overwritten a.edges.items
+
+-- ---- steps, and what they lead to
+
+abbrev pub is_some_way : List Edge → Bool
+is_some_way edges = not (length edges == 0)
+
+-- behind these steps; where keys are locked one may be forced
+abbrev pub is_step : Bool → List ClientSession → List Step → Step → Bool
+is_step locked ss earlier (step.Shown first second edges) = is_some_way edges.items
+    && is_way ss earlier (Commit first) edges.items (Snapshot second)
+is_step locked ss earlier (step.Forced both against) = locked && (is_both ss both
+    && is_against ss earlier both.other.txn both.one.txn against)
+
+-- each over the ones before it
+abbrev pub are_steps : Bool → List ClientSession → List Step → List Step → Bool
+are_steps locked ss earlier [] = true
+are_steps locked ss earlier (s ∷ steps) = is_step locked ss earlier s
+    && are_steps locked ss (earlier ++ s ∷ []) steps
+
+-- the edges lead from a point to itself
+abbrev pub is_circle : List ClientSession → List Step → List Edge → Bool
+is_circle ss steps [] = false
+is_circle ss steps (e ∷ edges) = is_way ss steps (edge_from e) (e ∷ edges) (edge_from e)
+
+-- neither of the two can commit first
+abbrev pub is_neither : Bool → List ClientSession → List Step → Both → Against → Against → Bool
+is_neither locked ss steps both not_one not_other = (locked && is_both ss both)
+    && (is_against ss steps both.one.txn both.other.txn not_one
+    && is_against ss steps both.other.txn both.one.txn not_other)
+
+abbrev pub is_ending : Bool → List ClientSession → List Step → Ending → Bool
+is_ending locked ss steps (Circle edges) = is_circle ss steps edges.items
+is_ending locked ss steps (Neither both not_one not_other) = is_neither locked ss steps both not_one
+    not_other
+
+-- it shows that the points have no order, where keys are locked or not
+abbrev pub is_refuted : Bool → List ClientSession → Refutation → Bool
+is_refuted locked ss r = are_steps locked ss [] r.steps.items
+    && is_ending locked ss r.steps.items r.ending

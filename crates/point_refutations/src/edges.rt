@@ -1,0 +1,201 @@
+//! Edges between points, and ways along them.
+
+ghost use Rattle.std.specs.Prelude.{◌≡◌, map, slice_get, Option, ℕ, option_and_then};
+ghost use Rattle.session_log.specs.Text.{view};
+ghost use Rattle.level_refutations.specs.Edges.{is_session_step};
+ghost use Rattle.level_refutations.specs.Places.{txn_at as spec_txn_at};
+ghost use Rattle.point_refutations.specs.Edges as spec;
+
+use crate::refutation::{Edge, Missed, PointAt, Since, Step, Why};
+use level_refutations::{
+    OpAt, TxnAt, is_external, is_named, is_node, is_of_key, is_same, names_initial, op_at, txn_at,
+};
+use session_log::{Op, Session, is_earlier};
+
+/// Whether the step with this index says that the one commits before the other takes its snapshot.
+fn is_by_step(steps: &[Step], index: usize, from: TxnAt, to: TxnAt) -> bool
+    ensures { result ≡ spec.is_by_step steps.now index from to }
+{
+    if index >= steps.len() {
+        return false;
+    }
+    let step = &steps[index];
+    is_same(step.first(), from) && is_same(step.second(), to)
+}
+
+/// Whether the read finds the write in the snapshot of its transaction.
+fn is_found_there(sessions: &[Session], write: OpAt, read: OpAt) -> bool
+    ensures { result ≡ spec.is_found_there (map view sessions.now) write read }
+{
+    is_external(sessions, read) && is_named(sessions, write, read)
+}
+
+/// Whether the read names this write, or the initial value.
+fn is_found(sessions: &[Session], read: OpAt, found: Option<OpAt>) -> bool
+    ensures { result ≡ spec.is_found (map view sessions.now) read found }
+{
+    match found {
+        None => names_initial(sessions, read),
+        Some(write) => is_named(sessions, write, read),
+    }
+}
+
+/// Whether both are reads of one key under one identity.
+fn reads_same(one: &Op, other: &Op) -> bool
+    ensures { result ≡ spec.reads_same one.now other.now }
+{
+    match (one, other) {
+        (Op::Read { key, wid }, Op::Read { key: k, wid: w }) => key == k && *wid == *w,
+        _ => false,
+    }
+}
+
+/// The same of the operations at two places.
+fn is_same_read(sessions: &[Session], one: OpAt, other: OpAt) -> bool
+    ensures { result ≡ spec.is_same_read (map view sessions.now) one other }
+{
+    let Some(read) = op_at(sessions, one) else {
+        return false;
+    };
+    match op_at(sessions, other) {
+        Some(also) => reads_same(read, also),
+        None => false,
+    }
+}
+
+/// Whether what a read finds is older than what a transaction writes.
+fn is_since(
+    sessions: &[Session],
+    steps: &[Step],
+    read: OpAt,
+    found: Option<OpAt>,
+    to: TxnAt,
+    since: Since,
+) -> bool
+    ensures { result ≡ spec.is_since (map view sessions.now) steps.now read found to since }
+{
+    match since {
+        Since::Initial => found.is_none(),
+        Since::ReadToo(op) => {
+            let also = OpAt { txn: to, op };
+            is_external(sessions, also) && is_same_read(sessions, read, also)
+        }
+        Since::Step(index) => match found {
+            Some(write) => is_by_step(steps, index, write.txn, to),
+            None => false,
+        },
+    }
+}
+
+/// Whether a read of the one transaction misses a write of the other.
+fn misses(sessions: &[Session], steps: &[Step], from: TxnAt, to: TxnAt, missed: Missed) -> bool
+    ensures { result ≡ spec.misses (map view sessions.now) steps.now from to missed }
+{
+    let read = OpAt {
+        txn: from,
+        op: missed.read,
+    };
+    let write = OpAt {
+        txn: to,
+        op: missed.write,
+    };
+    is_external(sessions, read)
+        && is_found(sessions, read, missed.found)
+        && is_of_key(sessions, write, read)
+        && is_since(sessions, steps, read, missed.found, to, missed.since)
+}
+
+/// Whether the one is an earlier transaction of the session of the other.
+fn is_session_step(sessions: &[Session], from: TxnAt, to: TxnAt) -> bool
+    ensures { result ≡ is_session_step (map view sessions.now) from to }
+{
+    from.session == to.session
+        && from.txn < to.txn
+        && is_node(sessions, from)
+        && is_node(sessions, to)
+}
+
+/// Whether the one ended before the other began.
+fn is_moment_step(sessions: &[Session], from: TxnAt, to: TxnAt) -> bool
+    ensures { result ≡ spec.is_moment_step (map view sessions.now) from to }
+{
+    let Some(first) = txn_at(sessions, from) else {
+        return false;
+    };
+    match txn_at(sessions, to) {
+        Some(second) => is_earlier(first.ended, second.begun),
+        None => false,
+    }
+}
+
+/// Whether the log or one of these steps shows it.
+fn is_edge(sessions: &[Session], steps: &[Step], edge: Edge) -> bool
+    ensures { result ≡ spec.is_edge (map view sessions.now) steps.now edge }
+{
+    let Edge { from, to, why } = edge;
+    match why {
+        Why::Session => is_session_step(sessions, from, to),
+        Why::Moments => is_moment_step(sessions, from, to),
+        Why::Read { write, read } => {
+            let write = OpAt {
+                txn: from,
+                op: write,
+            };
+            is_found_there(sessions, write, OpAt { txn: to, op: read })
+        }
+        Why::Step(index) => is_by_step(steps, index, from, to),
+        Why::Missed(missed) => misses(sessions, steps, from, to, missed),
+    }
+}
+
+/// The point that stands before the other.
+pub fn edge_from(edge: Edge) -> PointAt
+    ensures { result ≡ spec.edge_from edge }
+{
+    match edge.why {
+        Why::Missed(_) => PointAt::Snapshot(edge.from),
+        _ => PointAt::Commit(edge.from),
+    }
+}
+
+/// The point that stands behind the other.
+pub fn edge_to(edge: Edge) -> PointAt
+    ensures { result ≡ spec.edge_to edge }
+{
+    match edge.why {
+        Why::Missed(_) => PointAt::Commit(edge.to),
+        _ => PointAt::Snapshot(edge.to),
+    }
+}
+
+/// Whether who is at the one point goes on from the other.
+fn leads_on(one: PointAt, other: PointAt) -> bool
+    ensures { result ≡ spec.leads_on one other }
+{
+    match (one, other) {
+        (PointAt::Snapshot(a), PointAt::Snapshot(b)) => is_same(a, b),
+        (PointAt::Snapshot(a), PointAt::Commit(b)) => is_same(a, b),
+        (PointAt::Commit(_), PointAt::Snapshot(_)) => false,
+        (PointAt::Commit(a), PointAt::Commit(b)) => is_same(a, b),
+    }
+}
+
+/// Whether the edges lead from the one point to the other.
+pub fn is_way(
+    sessions: &[Session],
+    steps: &[Step],
+    from: PointAt,
+    edges: &[Edge],
+    to: PointAt,
+) -> bool
+    ensures { result ≡ spec.is_way (map view sessions.now) steps.now from edges.now to }
+{
+    let mut at = from;
+    for edge in edges {
+        if !leads_on(at, edge_from(*edge)) || !is_edge(sessions, steps, *edge) {
+            return false;
+        }
+        at = edge_to(*edge);
+    }
+    leads_on(at, to)
+}

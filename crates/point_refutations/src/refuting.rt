@@ -1,0 +1,148 @@
+//! Whether a refutation by points is right.
+
+ghost use Rattle.std.specs.Prelude.{◌≡◌, map, IsTrue, true};
+ghost use Rattle.session_log.specs.Text.{view};
+ghost use Rattle.log_laws.specs.Logs.{IsSoundLog, IsLearntLog};
+ghost use Rattle.level_laws.specs.Snapshot.{HasPointOrder};
+ghost use Rattle.point_refutations.specs.Refuted as spec;
+
+use crate::edges::{edge_from, is_way};
+use crate::refutation::{Against, Both, Edge, Ending, Overwritten, PointAt, Refutation, Step};
+use level_refutations::{OpAt, TxnAt, is_external, is_named, is_of_key, is_same, op_at};
+use session_log::{Op, Session};
+
+/// Whether both are writes of one key.
+fn writes_same(one: &Op, other: &Op) -> bool
+    ensures { result ≡ spec.writes_same one.now other.now }
+{
+    match (one, other) {
+        (Op::Write { key, .. }, Op::Write { key: k, .. }) => key == k,
+        _ => false,
+    }
+}
+
+/// Whether two transactions write one key.
+fn is_both(sessions: &[Session], both: Both) -> bool
+    ensures { result ≡ spec.is_both (map view sessions.now) both }
+{
+    if is_same(both.one.txn, both.other.txn) {
+        return false;
+    }
+    let Some(one) = op_at(sessions, both.one) else {
+        return false;
+    };
+    match op_at(sessions, both.other) {
+        Some(other) => writes_same(one, other),
+        None => false,
+    }
+}
+
+/// Whether a read finds what the late one writes, and the other one writes its key.
+fn is_overwritten(sessions: &[Session], late: TxnAt, other: TxnAt, it: Overwritten) -> bool
+    ensures { result ≡ spec.is_overwritten (map view sessions.now) late other it }
+{
+    is_external(sessions, it.read)
+        && is_named(sessions, it.found, it.read)
+        && is_of_key(sessions, it.write, it.read)
+        && is_same(it.found.txn, late)
+        && is_same(it.write.txn, other)
+}
+
+/// Whether the late one cannot commit before the other one takes its snapshot.
+fn is_against(
+    sessions: &[Session],
+    steps: &[Step],
+    late: TxnAt,
+    other: TxnAt,
+    against: &Against,
+) -> bool
+    ensures { result ≡ spec.is_against (map view sessions.now) steps.now late other against.now }
+{
+    let edges = &against.edges;
+    match against.overwritten {
+        None => {
+            let (from, to) = (PointAt::Snapshot(other), PointAt::Commit(late));
+            is_way(sessions, steps, from, edges, to)
+        }
+        Some(it) => {
+            let (from, to) = (PointAt::Commit(other), PointAt::Snapshot(it.read.txn));
+            is_overwritten(sessions, late, other, it) && is_way(sessions, steps, from, edges, to)
+        }
+    }
+}
+
+/// Whether a step is right behind these.
+fn is_step(is_locked: bool, sessions: &[Session], earlier: &[Step], step: &Step) -> bool
+    ensures { result ≡ spec.is_step is_locked (map view sessions.now) earlier.now step.now }
+{
+    match step {
+        Step::Shown {
+            first,
+            second,
+            edges,
+        } => {
+            let (from, to) = (PointAt::Commit(*first), PointAt::Snapshot(*second));
+            !edges.is_empty() && is_way(sessions, earlier, from, edges, to)
+        }
+        Step::Forced { both, against } => {
+            is_locked
+                && is_both(sessions, *both)
+                && is_against(sessions, earlier, both.other.txn, both.one.txn, against)
+        }
+    }
+}
+
+/// Whether each of these steps is right behind those before it.
+fn are_steps(is_locked: bool, sessions: &[Session], steps: &[Step]) -> bool
+    ensures { result ≡ spec.are_steps is_locked (map view sessions.now) [] steps.now }
+{
+    for i in 0..steps.len() {
+        if !is_step(is_locked, sessions, &steps[..i], &steps[i]) {
+            return false;
+        }
+    }
+    true
+}
+
+/// Whether the edges lead from a point to itself.
+fn is_circle(sessions: &[Session], steps: &[Step], edges: &[Edge]) -> bool
+    ensures { result ≡ spec.is_circle (map view sessions.now) steps.now edges.now }
+{
+    if edges.is_empty() {
+        return false;
+    }
+    let start = edge_from(edges[0]);
+    is_way(sessions, steps, start, edges, start)
+}
+
+/// Whether steps lead to it.
+fn is_ending(is_locked: bool, sessions: &[Session], steps: &[Step], ending: &Ending) -> bool
+    ensures { result ≡ spec.is_ending is_locked (map view sessions.now) steps.now ending.now }
+{
+    match ending {
+        Ending::Circle(edges) => is_circle(sessions, steps, edges),
+        Ending::Neither {
+            both,
+            not_one,
+            not_other,
+        } => {
+            let (one, other) = (both.one.txn, both.other.txn);
+            is_locked
+                && is_both(sessions, *both)
+                && is_against(sessions, steps, one, other, not_one)
+                && is_against(sessions, steps, other, one, not_other)
+        }
+    }
+}
+
+/// Whether the refutation is right: then these sessions, whose outcomes are known, have no order of
+/// their snapshots and commits, where keys are locked (snapshot isolation), or not (prefix
+/// consistency).
+pub fn refutes(is_locked: bool, sessions: &[Session], refutation: &Refutation) -> bool
+    ensures exact { result ≡ spec.is_refuted is_locked (map view sessions.now) refutation.now }
+    ensures none { IsTrue result → IsSoundLog (map view sessions.now)
+        → IsLearntLog (map view sessions.now) → HasPointOrder is_locked (map view sessions.now) → ⊥ }
+{
+    are_steps(is_locked, sessions, &refutation.steps)
+        && is_ending(is_locked, sessions, &refutation.steps, &refutation.ending)
+}
