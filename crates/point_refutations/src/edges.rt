@@ -51,7 +51,7 @@ fn reads_same(one: &Op, other: &Op) -> bool
 }
 
 /// The same of the operations at two places.
-fn is_same_read(sessions: &[Session], one: OpAt, other: OpAt) -> bool
+pub fn is_same_read(sessions: &[Session], one: OpAt, other: OpAt) -> bool
     ensures { result ≡ spec.is_same_read (map view sessions.now) one other }
 {
     let Some(read) = op_at(sessions, one) else {

@@ -13,7 +13,7 @@ mod edges;
 mod refutation;
 mod refuting;
 
-pub use edges::{edge_from, edge_to};
+pub use edges::{edge_from, edge_to, is_same_read};
 pub use refutation::{
     Against, Both, Edge, Ending, Missed, Overwritten, PointAt, Refutation, Since, Step, Why,
 };

@@ -1,0 +1,4 @@
+pub mod Lines
+pub mod Short
+pub mod Names
+pub mod Points

@@ -1,0 +1,185 @@
+-- What closes in a sentence or two: what each transaction saw of another one, and what not.
+use Rattle.std.specs.Prelude.{ℕ, ◌+◌, ◌<◌, ◌==◌, ◌&&◌, ◌||◌, not, nat_lt, Bool, true, false}
+use Rattle.std.specs.Prelude.{List, [], ◌∷◌, ◌++◌, length, if◌then◌else◌, codes, decimal}
+use Rattle.std.specs.Prelude.{slice_get, Option, None, Some}
+use Rattle.session_log.specs.Text.{ClientSession}
+use Rattle.log_lines.specs.Rows.{Table}
+use Rattle.level_refutations.specs.declared.evidence.TxnAt.{TxnAt}
+use Rattle.level_refutations.specs.declared.evidence.OpAt.{OpAt}
+use Rattle.level_refutations.specs.Edges.{op_of}
+use Rattle.point_refutations.specs.declared.refutation.Since.TheVariants as since
+use Rattle.point_refutations.specs.declared.refutation.Missed.{Missed}
+use Rattle.point_refutations.specs.declared.refutation.Why.{Why}
+use Rattle.point_refutations.specs.declared.refutation.Why.TheVariants as why
+use Rattle.point_refutations.specs.declared.refutation.Edge.{Edge}
+use Rattle.point_refutations.specs.declared.refutation.Both.{Both}
+use Rattle.point_refutations.specs.declared.refutation.Overwritten.{Overwritten}
+use Rattle.point_refutations.specs.declared.refutation.Against.{Against}
+use Rattle.point_refutations.specs.declared.refutation.Step.{Step}
+use Rattle.point_refutations.specs.declared.refutation.Step.TheVariants as step
+use Rattle.point_refutations.specs.declared.refutation.Ending.{Ending}
+use Rattle.point_refutations.specs.declared.refutation.Ending.TheVariants.{Circle, Neither}
+use Rattle.point_refutations.specs.Edges.{is_missed, is_same_read}
+use Rattle.tell_evidence.specs.Rows.{key_at}
+use Rattle.tell_evidence.specs.Sentences.{name_text}
+use Rattle.tell_points.specs.Lines.{number_of}
+
+-- ---- what an edge says
+
+-- ` (by [1])`
+unfoldable pub number_text : ℕ → List ℕ
+number_text k = codes " (by [" ++ (decimal (number_of k) ++ codes "])")
+
+-- `came after 1.1 in its session`
+unfoldable pub after_session_text : Table → List ClientSession → TxnAt → List ℕ
+after_session_text table ss at = codes "came after " ++ (name_text table ss at
+    ++ codes " in its session")
+
+-- `began after 1.1 ended`
+unfoldable pub after_end_text : Table → List ClientSession → TxnAt → List ℕ
+after_end_text table ss at = codes "began after " ++ (name_text table ss at ++ codes " ended")
+
+-- `saw 1.1's x`
+unfoldable pub saw_text : Table → List ClientSession → TxnAt → OpAt → List ℕ
+saw_text table ss at read = codes "saw " ++ (name_text table ss at ++ (codes "'s "
+    ++ key_at ss read))
+
+-- `did not see 1.1's x`
+unfoldable pub missed_text : Table → List ClientSession → TxnAt → OpAt → List ℕ
+missed_text table ss at read = codes "did not see " ++ (name_text table ss at ++ (codes "'s "
+    ++ key_at ss read))
+
+-- the key that both write, where a step is forced
+abbrev pub did_text : List ClientSession → Option Step → List ℕ
+did_text ss (Some (step.Forced both against)) = codes "wrote " ++ key_at ss both.one
+did_text ss _ = codes "came"
+
+-- `wrote x after 1.1`
+abbrev pub after_step_text : Table → List ClientSession → List Step → ℕ → TxnAt → List ℕ
+after_step_text table ss steps k at = did_text ss (slice_get steps k) ++ codes " after "
+    ++ name_text table ss at
+
+abbrev pub since_number_text : Missed → List ℕ
+since_number_text (record { read = r; found = f; write = w; since = since.Step k }) = number_text k
+since_number_text _ = []
+
+-- of the transaction to which it leads; of the one from which it does, where that misses a write
+abbrev pub said_text : Table → List ClientSession → List Step → TxnAt → TxnAt → Why → List ℕ
+said_text table ss steps from to why.Session = after_session_text table ss from
+said_text table ss steps from to why.Moments = after_end_text table ss from
+said_text table ss steps from to (why.Read write read) = saw_text table ss from (op_of to read)
+said_text table ss steps from to (why.Step k) = after_step_text table ss steps k from
+    ++ number_text k
+said_text table ss steps from to (why.Missed m) = missed_text table ss to (op_of from m.read)
+    ++ since_number_text m
+
+-- of whom it says it
+abbrev pub whose : Edge → TxnAt
+whose e = if is_missed e.why then e.from else e.to
+
+-- ---- sentences
+
+-- behind an edge that misses a write or not; what a transaction did not see goes on what is said of it
+abbrev pub link_text : Table → List ClientSession → Option Bool → Edge → List ℕ
+link_text table ss None e = name_text table ss (whose e) ++ codes " "
+link_text table ss (Some missed) e = if not missed && is_missed e.why then codes ", but "
+    else codes "; " ++ name_text table ss (whose e) ++ codes " "
+
+abbrev pub part_text : Table → List ClientSession → List Step → Option Bool → Edge → List ℕ
+part_text table ss steps before e = link_text table ss before e
+    ++ said_text table ss steps e.from e.to e.why
+
+abbrev pub sentence_text : Table → List ClientSession → List Step → Option Bool → List Edge → List ℕ
+sentence_text table ss steps before [] = []
+sentence_text table ss steps before (e ∷ edges) = part_text table ss steps before e
+    ++ sentence_text table ss steps (Some (is_missed e.why)) edges
+
+-- whether the last of these edges, behind that one, misses a write
+abbrev pub missed_last : Option Bool → List Edge → Option Bool
+missed_last before [] = before
+missed_last before (e ∷ edges) = missed_last (Some (is_missed e.why)) edges
+
+-- what a read would find, if the other one committed later, as an edge
+abbrev pub overwritten_edge : Overwritten → Edge
+overwritten_edge o = record {
+  from = o.read.txn;
+  to = o.write.txn;
+  why = why.Missed (record {
+    read = o.read.op;
+    found = Some o.found;
+    write = o.write.op;
+    since = since.Initial;
+  });
+}
+
+abbrev pub overwritten_part : Table → List ClientSession → List Step → Option Bool
+    → Option Overwritten → List ℕ
+overwritten_part table ss steps before None = []
+overwritten_part table ss steps before (Some o) = part_text table ss steps before
+    (overwritten_edge o)
+
+abbrev pub against_sentence : Table → List ClientSession → List Step → Against → List ℕ
+against_sentence table ss steps a = sentence_text table ss steps None a.edges.items
+    ++ overwritten_part table ss steps (missed_last None a.edges.items) a.overwritten
+
+-- ---- in short
+
+-- a way of more edges is not told in a sentence
+abbrev pub are_few : ℕ → Bool
+are_few count = nat_lt 0 count && nat_lt count 7
+
+abbrev pub count_of : Option Overwritten → ℕ
+count_of None = 0
+count_of (Some o) = 1
+
+abbrev pub is_short : Against → Bool
+is_short a = are_few (length a.edges.items + count_of a.overwritten)
+
+-- the read of a way of one edge, if it misses a write
+abbrev pub read_of : TxnAt → Why → Option OpAt
+read_of from (why.Missed m) = Some (op_of from m.read)
+read_of from _ = None
+
+abbrev pub only_read : List Edge → Option OpAt
+only_read (e ∷ []) = read_of e.from e.why
+only_read _ = None
+
+abbrev pub are_same_reads : List ClientSession → Option OpAt → Option OpAt → Bool
+are_same_reads ss (Some one) (Some other) = is_same_read ss one other
+are_same_reads ss _ _ = false
+
+-- both read one version and overwrite it
+abbrev pub are_lost : List ClientSession → Against → Against → Bool
+are_lost ss not_one not_other = are_same_reads ss (only_read not_one.edges.items)
+    (only_read not_other.edges.items)
+
+-- what follows from a circle of three edges or more
+abbrev pub conclusion : List Edge → List ℕ
+conclusion edges = if nat_lt 2 (length edges)
+    then codes "; no order of snapshots and commits has all of this" else []
+
+abbrev pub short_circle : Table → List ClientSession → List Step → List Edge → List ℕ
+short_circle table ss steps edges = if are_few (length edges) then codes "in short: "
+    ++ sentence_text table ss steps None edges ++ conclusion edges ++ codes "\n" else []
+
+unfoldable pub short_lost : Table → List ClientSession → Both → List ℕ
+short_lost table ss b = codes "in short: " ++ (name_text table ss b.one.txn ++ (codes " and "
+    ++ (name_text table ss b.other.txn ++ (codes " read one version of " ++ (key_at ss b.one
+    ++ codes " and both overwrote it; neither saw the other's\n")))))
+
+abbrev pub short_both : Table → List ClientSession → List Step → Both → Against → Against → List ℕ
+short_both table ss steps b not_one not_other = codes "in short: if "
+    ++ name_text table ss b.one.txn ++ codes " came first, "
+    ++ against_sentence table ss steps not_one ++ codes ". If " ++ name_text table ss b.other.txn
+    ++ codes " came first, " ++ against_sentence table ss steps not_other ++ codes "\n"
+
+abbrev pub short_neither : Table → List ClientSession → List Step → Both → Against → Against
+    → List ℕ
+short_neither table ss steps b not_one not_other = if are_lost ss not_one not_other
+    then short_lost table ss b else (if is_short not_one && is_short not_other
+    then short_both table ss steps b not_one not_other else [])
+
+abbrev pub short_text : Table → List ClientSession → List Step → Ending → List ℕ
+short_text table ss steps (Circle edges) = short_circle table ss steps edges.items
+short_text table ss steps (Neither both not_one not_other) = short_neither table ss steps both
+    not_one not_other

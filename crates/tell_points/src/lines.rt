@@ -1,0 +1,225 @@
+//! Lines of edges, of steps, and of two of which neither can commit first.
+
+ghost use Rattle.std.specs.Prelude.{◌≡◌, ◌++◌, [], ℕ, map, OnOk};
+ghost use Rattle.session_log.specs.Text.{view};
+ghost use Rattle.log_lines.specs.Rows.{rows_of};
+ghost use Rattle.tell_points.specs.Lines as spec;
+
+use crate::reasons::{number_of, put_reason};
+use level_refutations::TxnAt;
+use point_refutations::{Against, Both, Edge, Overwritten, PointAt, Step, edge_from, edge_to};
+use std::alloc::AllocError;
+use tell_evidence::{Log, line_of, tell};
+
+/// What stands before the lines of a way that is part of something.
+const INDENT: &[u8] = b"    ";
+
+/// Appends a point.
+fn put_point(out: &mut Vec<u8>, log: &Log<'_>, point: PointAt) -> Result<(), AllocError>
+    ensures put { OnOk result (out.new.items ≡ out.old.items
+        ++ spec.point_text (rows_of log.now.places.now) (map view log.now.sessions.now) point) }
+{
+    match point {
+        PointAt::Snapshot(at) => tell!(out, log; Name(at), Text(b"'s snapshot")),
+        PointAt::Commit(at) => tell!(out, log; Name(at), Text(b"'s commit")),
+    }
+}
+
+/// Appends the line of an edge.
+fn put_edge(out: &mut Vec<u8>, log: &Log<'_>, indent: &[u8], edge: Edge) -> Result<(), AllocError>
+    ensures put { OnOk result (out.new.items ≡ out.old.items ++ spec.edge_text
+        (rows_of log.now.places.now) (map view log.now.sessions.now) indent.now edge) }
+{
+    tell!(out, log; Text(indent))?;
+    put_point(out, log, edge_from(edge))?;
+    tell!(out, log; Text(b" before "))?;
+    put_point(out, log, edge_to(edge))?;
+    tell!(out, log; Text(b": "))?;
+    put_reason(out, log, edge.from, edge.to, edge.why)?;
+    tell!(out, log; Text(b"\n"))
+}
+
+/// Appends a line for each edge.
+pub fn put_way(
+    out: &mut Vec<u8>,
+    log: &Log<'_>,
+    indent: &[u8],
+    edges: &[Edge],
+) -> Result<(), AllocError>
+    ensures put { OnOk result (out.new.items ≡ out.old.items ++ spec.way_text
+        (rows_of log.now.places.now) (map view log.now.sessions.now) indent.now edges.now) }
+{
+    for edge in edges {
+        put_edge(out, log, indent, *edge)?;
+    }
+    Ok(())
+}
+
+/// Appends a read that would find something else.
+#[tactic(auto, unfolding(crate::specs::Lines::overwritten_text))]
+fn put_overwritten(out: &mut Vec<u8>, log: &Log<'_>, it: Overwritten) -> Result<(), AllocError>
+    ensures put { OnOk result (out.new.items ≡ out.old.items
+        ++ spec.overwritten_text (rows_of log.now.places.now) (map view log.now.sessions.now) it) }
+{
+    tell!(out, log;
+        Text(INDENT), Name(it.read.txn), Text(b"'s snapshot comes after "), Name(it.write.txn),
+        Text(b"'s commit, but "), Does(b" reads ", it.read), Text(b" of "), Name(it.found.txn),
+        Text(b", which "), Name(it.write.txn), Text(b" would have overwritten with "),
+        Wid(it.write), AtLine(it.write), Text(b":\n"))
+}
+
+/// Appends why one transaction cannot commit before another takes its snapshot.
+fn put_against(out: &mut Vec<u8>, log: &Log<'_>, against: &Against) -> Result<(), AllocError>
+    ensures put { OnOk result (out.new.items ≡ out.old.items ++ spec.against_text
+        (rows_of log.now.places.now) (map view log.now.sessions.now) against.now) }
+{
+    if let Some(it) = against.overwritten {
+        put_overwritten(out, log, it)?;
+    }
+    put_way(out, log, INDENT, &against.edges)
+}
+
+/// Appends that two write a key.
+#[tactic(auto, unfolding(crate::specs::Lines::both_text))]
+fn put_both(out: &mut Vec<u8>, log: &Log<'_>, both: Both) -> Result<(), AllocError>
+    ensures put { OnOk result (out.new.items ≡ out.old.items
+        ++ spec.both_text (rows_of log.now.places.now) (map view log.now.sessions.now) both) }
+{
+    let one = line_of(log.places, both.one) as u64;
+    let other = line_of(log.places, both.other) as u64;
+    tell!(out, log;
+        Text(b"both write "), Key(both.one), Text(b" (lines "), Number(one), Text(b" and "),
+        Number(other), Text(b")"))
+}
+
+/// The number of a step, in brackets.
+#[tactic(auto, unfolding(crate::specs::Lines::bracket_text))]
+fn put_bracket(out: &mut Vec<u8>, log: &Log<'_>, index: usize) -> Result<(), AllocError>
+    ensures put { OnOk result (out.new.items ≡ out.old.items ++ spec.bracket_text index) }
+{
+    tell!(out, log; Text(b"["), Number(number_of(index)), Text(b"] "))
+}
+
+/// Appends which transaction commits before another takes its snapshot.
+#[tactic(auto, unfolding(crate::specs::Lines::head_text))]
+fn put_head(
+    out: &mut Vec<u8>,
+    log: &Log<'_>,
+    index: usize,
+    first: TxnAt,
+    second: TxnAt,
+) -> Result<(), AllocError>
+    ensures put { OnOk result (out.new.items ≡ out.old.items ++ spec.head_text
+        (rows_of log.now.places.now) (map view log.now.sessions.now) index first second) }
+{
+    put_bracket(out, log, index)?;
+    tell!(out, log; Name(first))?;
+    tell!(out, log; Text(b"'s commit before "))?;
+    tell!(out, log; Name(second))?;
+    tell!(out, log; Text(b"'s snapshot:"))
+}
+
+/// Appends a step that edges show.
+fn put_shown(
+    out: &mut Vec<u8>,
+    log: &Log<'_>,
+    index: usize,
+    first: TxnAt,
+    second: TxnAt,
+    edges: &[Edge],
+) -> Result<(), AllocError>
+    ensures put { OnOk result (out.new.items ≡ out.old.items ++ spec.shown_text
+        (rows_of log.now.places.now) (map view log.now.sessions.now) index first second edges.now) }
+{
+    if edges.len() == 1 {
+        put_bracket(out, log, index)?;
+        return put_edge(out, log, b"", edges[0]);
+    }
+    put_head(out, log, index, first, second)?;
+    tell!(out, log; Text(b"\n"))?;
+    put_way(out, log, INDENT, edges)
+}
+
+/// Appends a step that is forced.
+fn put_forced(
+    out: &mut Vec<u8>,
+    log: &Log<'_>,
+    index: usize,
+    both: Both,
+    against: &Against,
+) -> Result<(), AllocError>
+    ensures put { OnOk result (out.new.items ≡ out.old.items ++ spec.forced_text
+        (rows_of log.now.places.now) (map view log.now.sessions.now) index both against.now) }
+{
+    put_head(out, log, index, both.one.txn, both.other.txn)?;
+    tell!(out, log; Text(b" "))?;
+    put_both(out, log, both)?;
+    tell!(out, log; Text(b", and "))?;
+    tell!(out, log; Name(both.other.txn))?;
+    tell!(out, log; Text(b" cannot commit first:\n"))?;
+    put_against(out, log, against)
+}
+
+/// Appends a step of this index.
+fn put_step(out: &mut Vec<u8>, log: &Log<'_>, index: usize, step: &Step) -> Result<(), AllocError>
+    ensures put { OnOk result (out.new.items ≡ out.old.items ++ spec.step_text
+        (rows_of log.now.places.now) (map view log.now.sessions.now) index step.now) }
+{
+    match step {
+        Step::Shown {
+            first,
+            second,
+            edges,
+        } => put_shown(out, log, index, *first, *second, edges),
+        Step::Forced { both, against } => put_forced(out, log, index, *both, against),
+    }
+}
+
+/// Appends steps.
+pub fn put_steps(out: &mut Vec<u8>, log: &Log<'_>, steps: &[Step]) -> Result<(), AllocError>
+    ensures put { OnOk result (out.new.items ≡ out.old.items ++ spec.steps_text
+        (rows_of log.now.places.now) (map view log.now.sessions.now) 0 steps.now) }
+{
+    for i in 0..steps.len() {
+        put_step(out, log, i, &steps[i])?;
+    }
+    Ok(())
+}
+
+/// Appends why a transaction cannot commit first.
+fn put_cannot(
+    out: &mut Vec<u8>,
+    log: &Log<'_>,
+    at: TxnAt,
+    against: &Against,
+) -> Result<(), AllocError>
+    ensures put { OnOk result (out.new.items ≡ out.old.items ++ spec.cannot_text
+        (rows_of log.now.places.now) (map view log.now.sessions.now) at against.now) }
+{
+    tell!(out, log; Name(at))?;
+    tell!(out, log; Text(b" cannot commit first:\n"))?;
+    put_against(out, log, against)
+}
+
+/// Appends two of which neither can commit first.
+pub fn put_neither(
+    out: &mut Vec<u8>,
+    log: &Log<'_>,
+    both: Both,
+    not_one: &Against,
+    not_other: &Against,
+) -> Result<(), AllocError>
+    ensures put { OnOk result (out.new.items ≡ out.old.items ++ spec.neither_text
+        (rows_of log.now.places.now) (map view log.now.sessions.now) both not_one.now
+        not_other.now) }
+{
+    tell!(out, log; Name(both.one.txn))?;
+    tell!(out, log; Text(b" and "))?;
+    tell!(out, log; Name(both.other.txn))?;
+    tell!(out, log; Text(b" "))?;
+    put_both(out, log, both)?;
+    tell!(out, log;
+        Text(b", so one of them commits before the other takes its snapshot\n"))?;
+    put_cannot(out, log, both.one.txn, not_one)?;
+    put_cannot(out, log, both.other.txn, not_other)
+}
