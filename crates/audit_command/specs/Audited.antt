@@ -41,7 +41,8 @@ use Rattle.audit_command.specs.declared.told.Lower.{Lower}
 use Rattle.audit_command.specs.Words.{status_of}
 use Rattle.audit_command.specs.Places.{told_by}
 use Rattle.audit_command.specs.Report.{report_text}
-use Rattle.audit_command.specs.Why.{IsSaid, told_where}
+use Rattle.audit_command.specs.Said.{IsSaid}
+use Rattle.audit_command.specs.Why.{told_where}
 use Rattle.audit_command.specs.Printed.{IsLine, AreLines}
 use Rattle.audit_command.specs.Objects.{report_object, refusal_object, parts_of}
 use Rattle.audit_command.specs.declared.options.AuditOptions.{AuditOptions}

@@ -11,4 +11,6 @@ pub mod Report
 pub mod Resolved
 pub mod Printed
 pub mod Why
+pub mod Points
+pub mod Said
 pub mod Words

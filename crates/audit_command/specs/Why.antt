@@ -1,5 +1,5 @@
 -- Why a part has no serial order, in the names and the lines of the whole log.
-use Rattle.std.specs.Prelude.{◌≡◌, ◌⊎◌, ◌<◌, ℕ, Bool, true, false, List, [], ◌∷◌, ◌++◌, length, map}
+use Rattle.std.specs.Prelude.{◌≡◌, ◌⊎◌, ◌<◌, ℕ, Bool, true, List, [], ◌∷◌, ◌++◌, length, map}
 use Rattle.std.specs.Prelude.{if◌then◌else◌, codes, Option, None, Some, IfSome, Vec, String}
 use Rattle.std.specs.List.{Contains}
 use Rattle.std.specs.Option.{option_map}
@@ -32,10 +32,6 @@ use Rattle.tell_evidence.specs.Names.{evidence_name}
 use Rattle.judging.specs.declared.judged.Finding.{Finding}
 use Rattle.judging.specs.declared.judged.Finding.TheVariants as finding
 use Rattle.judging.specs.declared.judged.RefutedPart.{RefutedPart}
-use Rattle.judging.specs.declared.level.Level.{Level}
-use Rattle.judging.specs.declared.level.Level.TheVariants as level
-use Rattle.judging.specs.declared.means.JudgeMeans.{JudgeMeans}
-use Rattle.audit_command.specs.Printed.{IsPrinted, IsLine}
 use Rattle.audit_command.specs.declared.explaining.TheConstants.{MANY_LINES}
 
 -- where the flagged transactions of a log stand, whose first session begins at line n; or all of them
@@ -130,24 +126,6 @@ abbrev pub IsSaidBelow : BelowLevel → ℕ → List ClientSession → RefutedPa
     → List ℕ → Type 0
 IsSaidBelow below n known p name text = ((text ≡ search_line) × (name ≡ None))
     ⊎ IsEvidenceTold below n known p name text
-
--- at levels of points the words are free
-abbrev pub IsSaidOfPoints : Option (String Global) → List ℕ → Type 0
-IsSaidOfPoints name text = IsPrinted text × IfSome name (λ called. IsLine (string_bytes called))
-
--- why it has no order of a level, and what the field calls it
-abbrev pub IsSaidAt : Level → ℕ → ℕ → List ClientSession → RefutedPart → Option (String Global)
-    → List ℕ → Type 0
-IsSaidAt level.Serializable budget n known p name text =
-    IsWhyOf p.finding budget n known p text × IsNamedBy p.finding name text
-IsSaidAt level.Snapshot budget n known p name text = IsSaidOfPoints name text
-IsSaidAt level.Prefix budget n known p name text = IsSaidOfPoints name text
-IsSaidAt (level.Below below) budget n known p name text = IsSaidBelow below n known p name text
-
--- the same of the level that is judged
-abbrev pub IsSaid : JudgeMeans → ℕ → List ClientSession → RefutedPart → Option (String Global)
-    → List ℕ → Type 0
-IsSaid m n known p name text = IsSaidAt m.level m.deciding.budget n known p name text
 
 -- the text, where it is asked for
 abbrev pub told_where : Bool → List ℕ → List ℕ

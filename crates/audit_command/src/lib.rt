@@ -8,8 +8,7 @@
 //! The verdict is that on the whole log, at the level of isolation that is asked for. Each part that
 //! is told is one of the log and has no order; its code is what was found of it, and the names and
 //! the lines of its transactions are the log's. The text is exactly that of what is told, but for
-//! the words of a reason and of what may help, and at levels of snapshots those of an explanation
-//! and of a name. The part as a log, and the order, are those of the verdict. The lines of the
+//! the words of a reason and of what may help. The part as a log, and the order, are those of the verdict. The lines of the
 //! part's map are tested.
 #![tactic(auto)]
 
@@ -29,14 +28,15 @@ mod options;
 mod outcome;
 mod overlooked;
 mod places;
+mod points;
 mod printed;
 mod refusals;
 mod report;
-mod snapshots;
 mod telling;
 mod told;
 mod totals;
 mod undecided;
+mod whys;
 mod without;
 
 pub use command::audit;

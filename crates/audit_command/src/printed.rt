@@ -1,9 +1,9 @@
 //! What is told in free words is printed, and stands in a line where it has to. No word of the program
 //! breaks that; so that nobody has to trust it, it is asked once more here.
 
-ghost use Rattle.std.specs.Prelude.{◌≡◌, string_bytes, IfOk, IfSome};
+ghost use Rattle.std.specs.Prelude.{◌≡◌, string_bytes, IfOk};
 ghost use Rattle.std.specs.List.{list_any};
-ghost use Rattle.audit_command.specs.Printed.{is_hidden, breaks_line, IsPrinted, IsLine, AreLines};
+ghost use Rattle.audit_command.specs.Printed.{breaks_line, IsLine, AreLines};
 
 use std::alloc::{AllocError, Global};
 
@@ -14,35 +14,10 @@ fn breaks_line(byte: u8) -> bool
     byte < b' ' || byte > b'~'
 }
 
-/// The same of a byte of lines.
-fn is_hidden(byte: u8) -> bool
-    ensures { result ≡ is_hidden byte }
-{
-    byte != b'\n' && breaks_line(byte)
-}
-
-fn some_hidden(text: &[u8]) -> bool
-    ensures { result ≡ list_any is_hidden text.now }
-{
-    text.iter().any(|byte| is_hidden(*byte))
-}
-
 fn some_break(text: &[u8]) -> bool
     ensures { result ≡ list_any breaks_line text.now }
 {
     text.iter().any(|byte| breaks_line(*byte))
-}
-
-/// The lines, where all is printed.
-pub fn only_printed(alloc: Global, text: Vec<u8>) -> Vec<u8>
-    ensures printed { IsPrinted result.items }
-    ensures same { IsPrinted text.items → result ≡ text }
-{
-    if some_hidden(&text) {
-        Vec::new(alloc)
-    } else {
-        text
-    }
 }
 
 /// The text, where it is a line.
@@ -54,17 +29,6 @@ pub fn only_line(alloc: Global, text: String) -> String
         String::new(alloc)
     } else {
         text
-    }
-}
-
-/// The same, where there is one.
-pub fn only_name(alloc: Global, name: Option<String>) -> Option<String>
-    ensures line { IfSome result (λ text. IsLine (string_bytes text)) }
-    ensures same { IfSome name (λ text. IsLine (string_bytes text)) → result ≡ name }
-{
-    match name {
-        Some(text) => Some(only_line(alloc, text)),
-        None => None,
     }
 }
 

@@ -1,4 +1,4 @@
 pub mod Lines
 pub mod Short
 pub mod Names
-pub mod Points
+pub mod Told

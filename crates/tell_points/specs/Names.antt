@@ -66,5 +66,5 @@ ending_name ss orders (Neither both not_one not_other) = if are_lost ss not_one 
     then Some (codes "lost update (G-single)")
     else name_with orders (either (supposed not_one) (supposed not_other))
 
-abbrev pub points_name : List ClientSession → Refutation → Option (List ℕ)
-points_name ss r = ending_name ss (orders_after NO_EDGES r.steps.items) r.ending
+abbrev pub refutation_name : List ClientSession → Refutation → Option (List ℕ)
+refutation_name ss r = ending_name ss (orders_after NO_EDGES r.steps.items) r.ending

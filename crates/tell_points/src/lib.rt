@@ -11,5 +11,5 @@ mod reasons;
 mod short;
 mod telling;
 
-pub use names::points_name;
-pub use telling::points_text;
+pub use names::refutation_name;
+pub use telling::refutation_text;

@@ -121,8 +121,8 @@ fn ending_name(sessions: &[Session], orders: Shape, ending: &Ending) -> Option<&
 }
 
 /// What the field calls what the refutation of these sessions shows, where it has a name.
-pub fn points_name(sessions: &[Session], refutation: &Refutation) -> Option<&'static str>
-    ensures name { option_copied result ≡ spec.points_name (map view sessions.now) refutation.now }
+pub fn refutation_name(sessions: &[Session], refutation: &Refutation) -> Option<&'static str>
+    ensures name { option_copied result ≡ spec.refutation_name (map view sessions.now) refutation.now }
 {
     ending_name(sessions, orders_of(&refutation.steps), &refutation.ending)
 }

@@ -4,10 +4,10 @@ ghost use Rattle.std.specs.Prelude.{◌≡◌, ◌++◌, [], map, OnOk, IfOk};
 ghost use Rattle.std.specs.Option.{option_copied};
 ghost use Rattle.session_log.specs.Text.{view};
 ghost use Rattle.log_lines.specs.Rows.{rows_of};
-ghost use Rattle.tell_points.specs.Points as spec;
+ghost use Rattle.tell_points.specs.Told as spec;
 
 use crate::lines::{put_neither, put_steps, put_way};
-use crate::names::points_name;
+use crate::names::refutation_name;
 use crate::short::put_short;
 use log_lines::LogPlaces;
 use point_refutations::{Ending, Refutation, Step};
@@ -63,25 +63,25 @@ fn put_refutation(
     log: &Log<'_>,
     refutation: &Refutation,
 ) -> Result<(), AllocError>
-    ensures put { OnOk result (out.new.items ≡ out.old.items ++ spec.points_text
+    ensures put { OnOk result (out.new.items ≡ out.old.items ++ spec.refutation_text
         (rows_of log.now.places.now) (map view log.now.sessions.now) refutation.now) }
 {
     put_short(out, log, &refutation.steps, &refutation.ending)?;
     put_ending(out, log, &refutation.ending)?;
-    put_name(out, log, points_name(log.sessions, refutation))?;
+    put_name(out, log, refutation_name(log.sessions, refutation))?;
     put_all_steps(out, log, &refutation.steps)
 }
 
 /// Why the snapshots and commits of these sessions have no order, in lines: what closes, in short
 /// and edge by edge, with the lines of the log by these places; its name; and the steps that it rests
 /// on. It is not asked whether the refutation is right.
-pub fn points_text(
+pub fn refutation_text(
     alloc: Global,
     sessions: &[Session],
     places: &LogPlaces,
     refutation: &Refutation,
 ) -> Result<Vec<u8>, AllocError>
-    ensures text { IfOk result (λ text. text.items ≡ spec.points_text (rows_of places.now)
+    ensures text { IfOk result (λ text. text.items ≡ spec.refutation_text (rows_of places.now)
         (map view sessions.now) refutation.now) }
 {
     let mut out = Vec::new(alloc);

@@ -1,9 +1,8 @@
 //! The points of a part, which stands before which, and the cheapest ways from point to point.
 
-use crate::nodes::{Access, Node, Part, has_same};
+use crate::nodes::{Access, Node, Part, same_of};
 use session_log::is_earlier;
 use std::alloc::{AllocError, Global};
-use tell_reasons::names::{MISSED, MOMENTS, READ, SESSION, Shape, WRITTEN};
 
 /// No way costs so much to tell.
 pub const FAR: usize = usize::MAX;
@@ -18,8 +17,8 @@ pub enum Why<'a> {
     /// The first reads from its snapshot what the second overwrites, or what by a step comes before
     /// what the second writes: the read, and the write.
     Missed(Access<'a>, Access<'a>),
-    /// Both write this key, and a step says which commits first.
-    Written(&'a str),
+    /// Both write a key, and a step says which commits first.
+    Written,
 }
 
 /// The commit of one node stands before the snapshot of another; or, where the one misses a write of
@@ -37,17 +36,6 @@ impl<'a> Edge<'a> {
     /// Whether the one misses a write of the other.
     pub fn is_missed(&self) -> bool {
         matches!(self.why, Why::Missed(..))
-    }
-
-    /// What it is, for the name of a circle.
-    pub fn shape(&self) -> Shape {
-        match self.why {
-            Why::Session => SESSION,
-            Why::Moments => MOMENTS,
-            Why::Read(..) => READ,
-            Why::Written(_) => WRITTEN,
-            Why::Missed(..) => MISSED,
-        }
     }
 
     /// How much it takes to tell it. What clients saw counts less than the order of a session, and
@@ -105,14 +93,14 @@ impl<'a> Graph<'a> {
                     graph.add(writer, reader, Why::Read(read, write), None);
                 }
                 let is_other = writer.number != reader.number && write.key == read.key;
-                if is_other && (read.wid == 0 || has_same(&part.reads, writer, &read)) {
+                if is_other && (read.wid == 0 || same_of(&part.reads, writer, &read).is_some()) {
                     graph.add(reader, writer, Why::Missed(read, write), None);
                 }
             }
         }
         for first in part.nodes.iter().copied() {
             for second in part.nodes.iter().copied() {
-                if first.session == second.session && first.number < second.number {
+                if first.at.session == second.at.session && first.number < second.number {
                     graph.add(first, second, Why::Session, None);
                 }
                 if is_earlier(first.txn.ended, second.txn.begun) {

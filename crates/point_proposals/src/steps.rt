@@ -1,7 +1,7 @@
 //! Which of two that write a key commits first, where the other way round closes a circle.
 
 use crate::graph::{Edge, Graph, Way, Why};
-use crate::nodes::{Node, Part, has_same};
+use crate::nodes::{Node, Part, same_of};
 use std::alloc::{AllocError, Global};
 
 /// At most so many rounds of steps are gone.
@@ -15,7 +15,7 @@ const READ_COST: usize = 1_000_000;
 pub struct Pair<'a> {
     pub first: Node<'a>,
     pub second: Node<'a>,
-    pub key: &'a str,
+    pub key: &'a [u8],
 }
 
 /// Of two that write a key the first commits before the second takes its snapshot.
@@ -105,7 +105,7 @@ impl<'a, 'b> Search<'a, 'b> {
             .reads
             .iter()
             .filter(|read| read.node.number != first.number && read.node.number != second.number)
-            .filter(|read| has_same(&part.writes, first, read))
+            .filter(|read| same_of(&part.writes, first, read).is_some())
             .filter_map(|read| Some((*read, part.first_write(second, read.key)?)))
             .min_by_key(|(read, _)| graph.cost(from, read.node.snapshot()));
         let plain = graph.cost(second.snapshot(), first.commit());
@@ -189,12 +189,12 @@ impl<'a, 'b> Search<'a, 'b> {
 
     /// Takes a step, with what it adds to what is known.
     fn take(&mut self, taken: Step<'a>) -> Result<(), AllocError> {
-        let Pair { first, second, key } = taken.pair;
+        let Pair { first, second, .. } = taken.pair;
         let step = Some(self.steps.len());
-        self.graph.add(first, second, Why::Written(key), step);
+        self.graph.add(first, second, Why::Written, step);
         for read in self.part.reads.iter().copied() {
             if read.node.number != second.number
-                && has_same(&self.part.writes, first, &read)
+                && same_of(&self.part.writes, first, &read).is_some()
                 && let Some(write) = self.part.last_write(second, read.key)
             {
                 let why = Why::Missed(read, write);

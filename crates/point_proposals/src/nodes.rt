@@ -1,17 +1,15 @@
 //! The committed transactions of a part, and what they read and write.
 
-use log_lines::{LogPlaces, TxnPlace};
-use session_log::{Op, Outcome, Session, Txn};
+use level_refutations::{OpAt, TxnAt};
+use session_log::{Op, Session, Txn};
 use std::alloc::{AllocError, Global};
-use std::fmt;
 
-/// A committed transaction, its number among those of the part, and where it stands in the log.
+/// A committed transaction, its number among those of the part, and its place there.
 #[derive(Clone, Copy)]
 pub struct Node<'a> {
     pub number: usize,
-    pub session: u16,
+    pub at: TxnAt,
     pub txn: &'a Txn,
-    pub at: &'a TxnPlace,
 }
 
 impl Node<'_> {
@@ -26,34 +24,26 @@ impl Node<'_> {
     }
 }
 
-/// Its name.
-impl fmt::Display for Node<'_> {
-    fn fmt<W: fmt::Write>(&self, f: &mut fmt::Formatter<W>) -> fmt::Result {
-        let (session, place) = (self.session, self.at.place);
-        write!(f, "{session}.{place}")
-    }
-}
-
-/// An operation: its node, its line in the log, its key and its identity.
+/// An operation: its node, its index there, its key and its identity.
 #[derive(Clone, Copy)]
 pub struct Access<'a> {
     pub node: Node<'a>,
-    pub line: usize,
-    pub key: &'a str,
+    pub op: usize,
+    pub key: &'a [u8],
     pub wid: u64,
 }
 
-/// What it reads.
-impl fmt::Display for Access<'_> {
-    fn fmt<W: fmt::Write>(&self, f: &mut fmt::Formatter<W>) -> fmt::Result {
-        let (node, key, wid, line) = (self.node, self.key, self.wid, self.line);
-        write!(f, "{node} reads {key} {wid} (line {line})")
-    }
-}
-
 impl Access<'_> {
+    /// Its place.
+    pub fn at(&self) -> OpAt {
+        OpAt {
+            txn: self.node.at,
+            op: self.op,
+        }
+    }
+
     /// Whether it is the node's, and of this key.
-    fn is_of(&self, node: Node<'_>, key: &str) -> bool {
+    fn is_of(&self, node: Node<'_>, key: &[u8]) -> bool {
         self.node.number == node.number && self.key == key
     }
 
@@ -63,10 +53,11 @@ impl Access<'_> {
     }
 }
 
-/// Whether one of these operations is the node's, and of the key and identity of another one.
-pub fn has_same(ops: &[Access<'_>], node: Node<'_>, other: &Access<'_>) -> bool {
-    ops.iter()
-        .any(|op| op.node.number == node.number && op.is_same(other))
+/// The first of these operations that is the node's, and of the key and identity of another one.
+pub fn same_of<'a>(ops: &[Access<'a>], node: Node<'_>, other: &Access<'_>) -> Option<Access<'a>> {
+    let mut ops = ops.iter();
+    ops.find(|op| op.node.number == node.number && op.is_same(other))
+        .copied()
 }
 
 /// The nodes of a part, the first read of each key from a node's snapshot, and all writes.
@@ -78,50 +69,41 @@ pub struct Part<'a> {
 }
 
 impl<'a> Part<'a> {
-    /// The nodes of sessions, which stand at these places.
-    pub fn of(
-        alloc: Global,
-        sessions: &'a [Session],
-        places: &'a LogPlaces,
-    ) -> Result<Part<'a>, AllocError> {
+    /// The nodes of sessions.
+    pub fn of(alloc: Global, sessions: &'a [Session]) -> Result<Part<'a>, AllocError> {
         let mut part = Part {
             nodes: Vec::new(alloc),
             reads: Vec::new(alloc),
             writes: Vec::new(alloc),
         };
-        for (session, rows) in sessions.iter().zip(&places.sessions) {
-            for (txn, at) in session.txns.iter().zip(rows) {
-                if txn.outcome == Outcome::Commit {
-                    part.add(session.number, txn, at)?;
+        for (session, own) in sessions.iter().enumerate() {
+            for (txn, it) in own.txns.iter().enumerate() {
+                if it.is_committed() {
+                    part.add(TxnAt { session, txn }, it)?;
                 }
             }
         }
         Ok(part)
     }
 
-    fn add(&mut self, session: u16, txn: &'a Txn, at: &'a TxnPlace) -> Result<(), AllocError> {
+    fn add(&mut self, at: TxnAt, txn: &'a Txn) -> Result<(), AllocError> {
         let number = self.nodes.len();
-        let node = Node {
-            number,
-            session,
-            txn,
-            at,
-        };
-        for (op, line) in txn.ops.iter().zip(&at.ops) {
-            self.add_op(node, op, *line)?;
+        let node = Node { number, at, txn };
+        for (index, op) in txn.ops.iter().enumerate() {
+            self.add_op(node, index, op)?;
         }
         self.nodes.push(node)?;
         Ok(())
     }
 
-    fn add_op(&mut self, node: Node<'a>, op: &'a Op, line: usize) -> Result<(), AllocError> {
+    fn add_op(&mut self, node: Node<'a>, index: usize, op: &'a Op) -> Result<(), AllocError> {
         let (Op::Read { key, wid } | Op::Write { key, wid }) = op;
-        let (key, wid) = (std::str::from_utf8(key.as_bytes()).unwrap_or(""), *wid);
+        let (key, wid) = (key.as_bytes(), *wid);
         let mut all = self.reads.iter().chain(&self.writes);
         let is_first = !all.any(|it| it.is_of(node, key));
         let access = Access {
             node,
-            line,
+            op: index,
             key,
             wid,
         };
@@ -133,20 +115,26 @@ impl<'a> Part<'a> {
         Ok(())
     }
 
+    /// The write that a read finds, where a node of the part wrote it.
+    pub fn found(&self, read: &Access<'_>) -> Option<Access<'a>> {
+        let mut writes = self.writes.iter();
+        writes.find(|write| write.is_same(read)).copied()
+    }
+
     /// The first write of this key by a node.
-    pub fn first_write(&self, node: Node<'_>, key: &str) -> Option<Access<'a>> {
+    pub fn first_write(&self, node: Node<'_>, key: &[u8]) -> Option<Access<'a>> {
         let mut writes = self.writes.iter();
         writes.find(|it| it.is_of(node, key)).copied()
     }
 
     /// The last write of this key by a node.
-    pub fn last_write(&self, node: Node<'_>, key: &str) -> Option<Access<'a>> {
+    pub fn last_write(&self, node: Node<'_>, key: &[u8]) -> Option<Access<'a>> {
         let mut writes = self.writes.iter().rev();
         writes.find(|it| it.is_of(node, key)).copied()
     }
 
     /// The first key that one node writes, of those that another one writes too.
-    pub fn both_write(&self, one: Node<'_>, other: Node<'_>) -> Option<&'a str> {
+    pub fn both_write(&self, one: Node<'_>, other: Node<'_>) -> Option<&'a [u8]> {
         self.writes
             .iter()
             .filter(|write| write.node.number == one.number)

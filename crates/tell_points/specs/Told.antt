@@ -9,7 +9,7 @@ use Rattle.point_refutations.specs.declared.refutation.Ending.TheVariants.{Circl
 use Rattle.point_refutations.specs.declared.refutation.Refutation.{Refutation}
 use Rattle.tell_points.specs.Lines.{way_text, neither_text, steps_text}
 use Rattle.tell_points.specs.Short.{short_text}
-use Rattle.tell_points.specs.Names.{points_name}
+use Rattle.tell_points.specs.Names.{refutation_name}
 
 abbrev pub ending_text : Table → List ClientSession → Ending → List ℕ
 ending_text table ss (Circle edges) = way_text table ss [] edges.items
@@ -26,7 +26,7 @@ abbrev pub all_steps_text : Table → List ClientSession → List Step → List 
 all_steps_text table ss [] = []
 all_steps_text table ss (s ∷ steps) = forced_line ++ steps_text table ss 0 (s ∷ steps)
 
-abbrev pub points_text : Table → List ClientSession → Refutation → List ℕ
-points_text table ss r = short_text table ss r.steps.items r.ending
-    ++ ending_text table ss r.ending ++ name_line (points_name ss r)
+abbrev pub refutation_text : Table → List ClientSession → Refutation → List ℕ
+refutation_text table ss r = short_text table ss r.steps.items r.ending
+    ++ ending_text table ss r.ending ++ name_line (refutation_name ss r)
     ++ all_steps_text table ss r.steps.items

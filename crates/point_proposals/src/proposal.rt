@@ -1,0 +1,210 @@
+//! What is found, by its places.
+
+use crate::graph::{Edge, Way, Why};
+use crate::nodes::{Access, Node, Part, same_of};
+use crate::steps::{Ending, Neither, Pair, Step, refute};
+use point_refutations::{self as told, Against, Both, Missed, Overwritten, Refutation, Since};
+use session_log::Session;
+use std::alloc::{AllocError, Global};
+
+/// Of a part with more committed transactions, or with more operations in them, nothing is sought.
+const MANY_NODES: usize = 48;
+
+const MANY_OPS: usize = 4_000;
+
+/// A part, and the steps that are told of it, by their numbers.
+struct Telling<'a, 'b> {
+    alloc: Global,
+    part: &'b Part<'a>,
+    needed: &'b [usize],
+}
+
+/// The read of the only edge of a way, where that misses a write.
+fn only_missed<'a>(way: &Way<'a>) -> Option<Access<'a>> {
+    match (way.edges.first()?.why, way.edges.len()) {
+        (Why::Missed(read, _), 1) => Some(read),
+        _ => None,
+    }
+}
+
+/// The key of what two read, where each overwrites it.
+fn lost<'a>(two: &Neither<'a>) -> Option<&'a [u8]> {
+    let one = only_missed(&two.not_first)?;
+    let other = only_missed(&two.not_second)?;
+    one.is_same(&other).then_some(one.key)
+}
+
+impl<'a, 'b> Telling<'a, 'b> {
+    /// The index of a step among those that are told.
+    fn index(&self, step: usize) -> usize {
+        self.needed.iter().filter(|it| **it < step).count()
+    }
+
+    /// Why what is read is older than what a node writes.
+    fn since(&self, read: &Access<'a>, writer: Node<'a>, step: Option<usize>) -> Since {
+        match (step, same_of(&self.part.reads, writer, read)) {
+            (Some(step), _) => Since::Step(self.index(step)),
+            (None, Some(also)) => Since::ReadToo(also.op),
+            (None, None) => Since::Initial,
+        }
+    }
+
+    fn why(&self, edge: &Edge<'a>) -> told::Why {
+        match edge.why {
+            Why::Session => told::Why::Session,
+            Why::Moments => told::Why::Moments,
+            Why::Written => told::Why::Step(edge.step.map_or(0, |step| self.index(step))),
+            Why::Read(read, write) => told::Why::Read {
+                write: write.op,
+                read: read.op,
+            },
+            Why::Missed(read, write) => told::Why::Missed(Missed {
+                read: read.op,
+                found: self.part.found(&read).map(|it| it.at()),
+                write: write.op,
+                since: self.since(&read, edge.second, edge.step),
+            }),
+        }
+    }
+
+    fn edges(&self, edges: &[Edge<'a>]) -> Result<Vec<told::Edge>, AllocError> {
+        let mut told = Vec::new(self.alloc);
+        for edge in edges {
+            told.push(told::Edge {
+                from: edge.first.at,
+                to: edge.second.at,
+                why: self.why(edge),
+            })?;
+        }
+        Ok(told)
+    }
+
+    /// Why a node cannot commit first.
+    fn against(&self, way: &Way<'a>) -> Result<Against, AllocError> {
+        let overwritten = match way.overwritten {
+            Some(edge) if let Why::Missed(read, write) = edge.why => {
+                self.part.found(&read).map(|found| Overwritten {
+                    read: read.at(),
+                    found: found.at(),
+                    write: write.at(),
+                })
+            }
+            _ => None,
+        };
+        let edges = self.edges(&way.edges)?;
+        Ok(Against { overwritten, edges })
+    }
+
+    /// The first writes of a key by two nodes.
+    fn both(&self, pair: Pair<'a>, key: &[u8]) -> Option<Both> {
+        Some(Both {
+            one: self.part.first_write(pair.first, key)?.at(),
+            other: self.part.first_write(pair.second, key)?.at(),
+        })
+    }
+
+    fn step(&self, step: &Step<'a>) -> Result<Option<told::Step>, AllocError> {
+        let Pair { first, second, key } = step.pair;
+        if !step.is_forced {
+            return Ok(Some(told::Step::Shown {
+                first: first.at,
+                second: second.at,
+                edges: self.edges(&step.way.edges)?,
+            }));
+        }
+        let Some(both) = self.both(step.pair, key) else {
+            return Ok(None);
+        };
+        let against = self.against(&step.way)?;
+        Ok(Some(told::Step::Forced { both, against }))
+    }
+
+    /// A circle, which ends with an edge that misses a write, where there is one.
+    fn circle(&self, way: &Way<'a>) -> Result<told::Ending, AllocError> {
+        let edges = way.edges.as_slice();
+        let seen = edges.iter().rev().take_while(|edge| !edge.is_missed());
+        let (line, behind) = edges.split_at(edges.len().saturating_sub(seen.count()));
+        let mut circle = self.edges(behind)?;
+        for edge in self.edges(line)?.iter() {
+            circle.push(*edge)?;
+        }
+        Ok(told::Ending::Circle(circle))
+    }
+
+    fn ending(&self, ending: &Ending<'a>) -> Result<Option<told::Ending>, AllocError> {
+        let two = match ending {
+            Ending::Circle(way) => return Ok(Some(self.circle(way)?)),
+            Ending::Neither(two) => two,
+        };
+        let Some(both) = self.both(two.pair, lost(two).unwrap_or(two.pair.key)) else {
+            return Ok(None);
+        };
+        Ok(Some(told::Ending::Neither {
+            both,
+            not_one: self.against(&two.not_first)?,
+            not_other: self.against(&two.not_second)?,
+        }))
+    }
+}
+
+/// The steps on which an ending rests, and those on which these rest in turn.
+fn needed_by<'a>(
+    alloc: Global,
+    steps: &[Step<'a>],
+    ending: &Ending<'a>,
+) -> Result<Vec<usize>, AllocError> {
+    let mut needed: Vec<usize> = Vec::new(alloc);
+    let mut later: Vec<&Step<'a>> = Vec::new(alloc);
+    for (number, step) in steps.iter().enumerate().rev() {
+        if ending.rests_on(number) || later.iter().any(|it| it.way.rests_on(number)) {
+            needed.push(number)?;
+            later.push(step)?;
+        }
+    }
+    needed.reverse();
+    Ok(needed)
+}
+
+/// What is found of a part, by its places.
+fn tell<'a>(
+    alloc: Global,
+    part: &Part<'a>,
+    found: &[Step<'a>],
+    ending: &Ending<'a>,
+) -> Result<Option<Refutation>, AllocError> {
+    let needed = needed_by(alloc, found, ending)?;
+    let telling = Telling {
+        alloc,
+        part,
+        needed: &needed,
+    };
+    let mut steps = Vec::new(alloc);
+    for (number, step) in found.iter().enumerate() {
+        if needed.contains(&number) {
+            steps.extend(telling.step(step)?)?;
+        }
+    }
+    match telling.ending(ending)? {
+        Some(ending) => Ok(Some(Refutation { steps, ending })),
+        None => Ok(None),
+    }
+}
+
+/// Why the snapshots and commits of these sessions, whose outcomes are known, have no order, where
+/// keys are locked or not; `None` where circles and steps do not show it, as where only a search
+/// does.
+pub fn propose(
+    alloc: Global,
+    sessions: &[Session],
+    is_locked: bool,
+) -> Result<Option<Refutation>, AllocError> {
+    let part = Part::of(alloc, sessions)?;
+    let ops = part.reads.len().saturating_add(part.writes.len());
+    if part.nodes.len() > MANY_NODES || ops > MANY_OPS {
+        return Ok(None);
+    }
+    match refute(alloc, &part, is_locked)? {
+        Some((steps, ending)) => tell(alloc, &part, &steps, &ending),
+        None => Ok(None),
+    }
+}
