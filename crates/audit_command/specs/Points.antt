@@ -2,6 +2,7 @@
 use Rattle.std.specs.Prelude.{◌≡◌, ◌×◌, ℕ, ◌||◌, Bool, true, false, List, [], ◌∷◌, ◌++◌, map}
 use Rattle.std.specs.Prelude.{if◌then◌else◌, codes, Option, None, IfSome, String}
 use Rattle.std.specs.List.{starts_with}
+use Rattle.std.specs.Bool.{nat_eq}
 use Rattle.std.specs.Option.{option_map}
 use Rattle.std.specs.String.{string_bytes}
 use Rattle.std.specs.declared.alloc.Global.{Global}
@@ -53,7 +54,7 @@ pub record IsRefutationTold
 -- a name of faults that snapshot isolation allows stands there
 abbrev pub is_allowed : List ℕ → Bool
 is_allowed [] = false
-is_allowed (b ∷ bs) = starts_with (codes "(G2-") (b ∷ bs) || is_allowed bs
+is_allowed (b ∷ bs) = starts_with nat_eq (b ∷ bs) (codes "(G2-") || is_allowed bs
 
 -- the other lines
 abbrev pub forbidden_in : List (List ℕ × Bool) → List ℕ

@@ -52,7 +52,7 @@ fn put_name(text: &mut Vec<u8>, name: Option<&'static str>) -> Result<(), AllocE
         Some(name) => {
             text.extend_from_slice(KNOWN_AS)?;
             text.extend_from_slice(name.as_bytes())?;
-            text.push(b'\n')
+            text.extend_from_slice(b"\n")
         }
     }
 }
@@ -146,7 +146,7 @@ fn put_forbidden(out: &mut Vec<u8>, text: &[u8]) -> Result<(), AllocError>
         let (line, _, after) = next_line(rest);
         if !is_allowed(line) {
             out.extend_from_slice(line)?;
-            out.push(b'\n')?;
+            out.extend_from_slice(b"\n")?;
         }
         rest = after;
     }

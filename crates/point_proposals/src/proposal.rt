@@ -13,6 +13,7 @@ const MANY_NODES: usize = 48;
 const MANY_OPS: usize = 4_000;
 
 /// A part, and the steps that are told of it, by their numbers.
+#[derive(Clone, Copy)]
 struct Telling<'a, 'b> {
     alloc: Global,
     part: &'b Part<'a>,
