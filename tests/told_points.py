@@ -45,7 +45,7 @@ WANTED = {'lost update (G-single)', 'read skew (G-single)', 'circular informatio
 
 # Two writers of a key: what the first sentence says begins with one of them and ends at the other.
 TWO_WRITERS = '\n'.join('session 1,begin,r z 2,r w 0,w k 10,commit,session 2,begin,r y 0,w k 11,w w 12,commit,session 3,begin,w y 1,w z 2,commit,'.split(',')).encode()
-TWO_SAID = "in short: if 1.1 came first, 2.1 did not see 3.1's y; 1.1 saw 3.1's z. If 2.1 came first, 1.1 did not see 2.1's w"
+TWO_SAID = "in short: 1.1 and 2.1 both wrote k. If 1.1 came first, 2.1 did not see 3.1's y; 1.1 saw 3.1's z. If 2.1 came first, 1.1 did not see 2.1's w"
 
 
 class Log:
@@ -250,7 +250,7 @@ class Telling:
                 must(found and found[1] == node, '%s cannot commit first is not said' % node)
                 self.not_first(node, against)
             both = [self.sentences('%s came first, ' % node, side, False) for node, side in zip((one, other), self.sides)]
-            right = ['%sif %s. If %s' % (SHORT, *it) for it in itertools.product(*both)] or [None]
+            right = ['%s%s and %s both wrote %s. If %s. If %s' % (SHORT, one, other, key, *it) for it in itertools.product(*both)] or [None]
             if len(self.alone) == 2 and all(self.alone) and len({it.group(2, 3) for it in self.alone}) == 1:
                 right = [SHORT + LOST % (one, other, self.alone[0][2])]
             self.met.add('neither')

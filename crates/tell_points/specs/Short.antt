@@ -7,8 +7,8 @@ use Rattle.log_lines.specs.Rows.{Table}
 use Rattle.level_refutations.specs.declared.evidence.TxnAt.{TxnAt}
 use Rattle.level_refutations.specs.declared.evidence.OpAt.{OpAt}
 use Rattle.level_refutations.specs.Edges.{op_of}
+use Rattle.point_refutations.specs.declared.refutation.Since.{Since}
 use Rattle.point_refutations.specs.declared.refutation.Since.TheVariants as since
-use Rattle.point_refutations.specs.declared.refutation.Missed.{Missed}
 use Rattle.point_refutations.specs.declared.refutation.Why.{Why}
 use Rattle.point_refutations.specs.declared.refutation.Why.TheVariants as why
 use Rattle.point_refutations.specs.declared.refutation.Edge.{Edge}
@@ -59,9 +59,9 @@ abbrev pub after_step_text : Table → List ClientSession → List Step → ℕ 
 after_step_text table ss steps k at = did_text ss (slice_get steps k) ++ codes " after "
     ++ name_text table ss at
 
-abbrev pub since_number_text : Missed → List ℕ
-since_number_text (record { read = r; found = f; write = w; since = since.Step k }) = number_text k
-since_number_text _ = []
+abbrev pub since_number : Since → List ℕ
+since_number (since.Step k) = number_text k
+since_number _ = []
 
 -- of the transaction to which it leads; of the one from which it does, where that misses a write
 abbrev pub said_text : Table → List ClientSession → List Step → TxnAt → TxnAt → Why → List ℕ
@@ -71,7 +71,7 @@ said_text table ss steps from to (why.Read write read) = saw_text table ss from 
 said_text table ss steps from to (why.Step k) = after_step_text table ss steps k from
     ++ number_text k
 said_text table ss steps from to (why.Missed m) = missed_text table ss to (op_of from m.read)
-    ++ since_number_text m
+    ++ since_number m.since
 
 -- of whom it says it
 abbrev pub whose : Edge → TxnAt
@@ -167,11 +167,20 @@ short_lost table ss b = codes "in short: " ++ (name_text table ss b.one.txn ++ (
     ++ (name_text table ss b.other.txn ++ (codes " read one version of " ++ (key_at ss b.one
     ++ codes " and both overwrote it; neither saw the other's\n")))))
 
+-- `. If 1.1 came first, `
+unfoldable pub if_text : Table → List ClientSession → TxnAt → List ℕ
+if_text table ss at = codes ". If " ++ (name_text table ss at ++ codes " came first, ")
+
+-- `in short: 1.1 and 2.1 both wrote x`
+unfoldable pub both_wrote_text : Table → List ClientSession → Both → List ℕ
+both_wrote_text table ss b = codes "in short: " ++ (name_text table ss b.one.txn ++ (codes " and "
+    ++ (name_text table ss b.other.txn ++ (codes " both wrote " ++ key_at ss b.one))))
+
+-- and what would be so, if the one came first, and if the other did
 abbrev pub short_both : Table → List ClientSession → List Step → Both → Against → Against → List ℕ
-short_both table ss steps b not_one not_other = codes "in short: if "
-    ++ name_text table ss b.one.txn ++ codes " came first, "
-    ++ against_sentence table ss steps not_one ++ codes ". If " ++ name_text table ss b.other.txn
-    ++ codes " came first, " ++ against_sentence table ss steps not_other ++ codes "\n"
+short_both table ss steps b not_one not_other = both_wrote_text table ss b
+    ++ if_text table ss b.one.txn ++ against_sentence table ss steps not_one
+    ++ if_text table ss b.other.txn ++ against_sentence table ss steps not_other ++ codes "\n"
 
 abbrev pub short_neither : Table → List ClientSession → List Step → Both → Against → Against
     → List ℕ

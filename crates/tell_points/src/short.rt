@@ -90,10 +90,10 @@ fn put_after_step(
 }
 
 /// Appends by which step a read missed a write, where it is by one.
-fn put_since_number(out: &mut Vec<u8>, log: &Log<'_>, missed: Missed) -> Result<(), AllocError>
-    ensures put { OnOk result (out.new.items ≡ out.old.items ++ spec.since_number_text missed) }
+fn put_since_number(out: &mut Vec<u8>, log: &Log<'_>, since: Since) -> Result<(), AllocError>
+    ensures put { OnOk result (out.new.items ≡ out.old.items ++ spec.since_number since) }
 {
-    match missed.since {
+    match since {
         Since::Step(index) => put_number(out, log, index),
         Since::Initial | Since::ReadToo(_) => Ok(()),
     }
@@ -125,7 +125,7 @@ fn put_said(
                 op: missed.read,
             };
             put_missed(out, log, to, read)?;
-            put_since_number(out, log, missed)
+            put_since_number(out, log, missed.since)
         }
     }
 }
@@ -329,6 +329,26 @@ fn put_short_lost(out: &mut Vec<u8>, log: &Log<'_>, both: Both) -> Result<(), Al
         Text(b" and both overwrote it; neither saw the other's\n"))
 }
 
+/// Appends that two wrote a key.
+#[tactic(auto, unfolding(crate::specs::Short::both_wrote_text))]
+fn put_both_wrote(out: &mut Vec<u8>, log: &Log<'_>, both: Both) -> Result<(), AllocError>
+    ensures put { OnOk result (out.new.items ≡ out.old.items
+        ++ spec.both_wrote_text (rows_of log.now.places.now) (map view log.now.sessions.now) both) }
+{
+    tell!(out, log;
+        Text(b"in short: "), Name(both.one.txn), Text(b" and "), Name(both.other.txn),
+        Text(b" both wrote "), Key(both.one))
+}
+
+/// Appends that one of them is supposed to come first.
+#[tactic(auto, unfolding(crate::specs::Short::if_text))]
+fn put_if(out: &mut Vec<u8>, log: &Log<'_>, at: TxnAt) -> Result<(), AllocError>
+    ensures put { OnOk result (out.new.items ≡ out.old.items
+        ++ spec.if_text (rows_of log.now.places.now) (map view log.now.sessions.now) at) }
+{
+    tell!(out, log; Text(b". If "), Name(at), Text(b" came first, "))
+}
+
 fn put_short_both(
     out: &mut Vec<u8>,
     log: &Log<'_>,
@@ -341,13 +361,10 @@ fn put_short_both(
         (rows_of log.now.places.now) (map view log.now.sessions.now) steps.now both not_one.now
         not_other.now) }
 {
-    tell!(out, log; Text(b"in short: if "))?;
-    tell!(out, log; Name(both.one.txn))?;
-    tell!(out, log; Text(b" came first, "))?;
+    put_both_wrote(out, log, both)?;
+    put_if(out, log, both.one.txn)?;
     put_against(out, log, steps, not_one)?;
-    tell!(out, log; Text(b". If "))?;
-    tell!(out, log; Name(both.other.txn))?;
-    tell!(out, log; Text(b" came first, "))?;
+    put_if(out, log, both.other.txn)?;
     put_against(out, log, steps, not_other)?;
     tell!(out, log; Text(b"\n"))
 }
