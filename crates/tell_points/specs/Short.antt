@@ -1,5 +1,5 @@
 -- What closes in a sentence or two: what each transaction saw of another one, and what not.
-use Rattle.std.specs.Prelude.{ℕ, ◌+◌, ◌<◌, ◌==◌, ◌&&◌, ◌||◌, not, nat_lt, Bool, true, false}
+use Rattle.std.specs.Prelude.{ℕ, ◌+◌, ◌&&◌, not, nat_lt, Bool, false}
 use Rattle.std.specs.Prelude.{List, [], ◌∷◌, ◌++◌, length, if◌then◌else◌, codes, decimal}
 use Rattle.std.specs.Prelude.{slice_get, Option, None, Some}
 use Rattle.session_log.specs.Text.{ClientSession}
