@@ -1,3 +1,4 @@
+pub mod Allowed
 mod Counting
 mod Names
 mod Parts

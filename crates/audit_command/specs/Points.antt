@@ -1,5 +1,5 @@
 -- Why a part has no order of its snapshots and commits, and what the field calls it.
-use Rattle.std.specs.Prelude.{◌≡◌, ◌×◌, ℕ, ◌||◌, Bool, true, false, List, [], ◌∷◌, ◌++◌, map}
+use Rattle.std.specs.Prelude.{◌≡◌, ℕ, ◌==◌, ◌||◌, Bool, true, false, List, [], ◌∷◌, ◌++◌, length, map}
 use Rattle.std.specs.Prelude.{if◌then◌else◌, codes, Option, None, IfSome, String}
 use Rattle.std.specs.List.{starts_with}
 use Rattle.std.specs.Bool.{nat_eq}
@@ -62,9 +62,8 @@ forbidden_in [] = []
 forbidden_in (l ∷ ls) = (if is_allowed l.0 then [] else l.0 ++ codes "\n") ++ forbidden_in ls
 
 abbrev pub serial_part : List ℕ → List ℕ
-serial_part [] = []
-serial_part (b ∷ bs) = codes "why they have no serial order either:\n"
-    ++ forbidden_in (lines (b ∷ bs))
+serial_part said = if length said == 0 then []
+    else codes "why they have no serial order either:\n" ++ forbidden_in (lines said)
 
 -- that a search shows it; and, where this says something, why they have no serial order either
 abbrev pub search_text : List ℕ → List ℕ

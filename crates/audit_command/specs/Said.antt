@@ -1,5 +1,5 @@
 -- What is said of a part: why it has no order of the level that is judged, and what the field calls it.
-use Rattle.std.specs.Prelude.{◌×◌, ℕ, true, false, List, Option, String}
+use Rattle.std.specs.Prelude.{ℕ, true, false, List, Option, String}
 use Rattle.std.specs.declared.alloc.Global.{Global}
 use Rattle.session_log.specs.Text.{ClientSession}
 use Rattle.judging.specs.declared.judged.RefutedPart.{RefutedPart}

@@ -149,22 +149,19 @@ abbrev pub against_text : Table → List ClientSession → Against → List ℕ
 against_text table ss a = some_overwritten_text table ss a.overwritten
     ++ way_text table ss indent a.edges.items
 
--- `both write x (lines 4 and 9)`
-unfoldable pub both_text : Table → List ClientSession → Both → List ℕ
-both_text table ss b = codes "both write " ++ (key_at ss b.one ++ (codes " (lines "
-    ++ (decimal (line_of table b.one) ++ (codes " and " ++ (decimal (line_of table b.other)
-    ++ codes ")")))))
-
 -- ---- steps
 
 -- `[1] `
 unfoldable pub bracket_text : ℕ → List ℕ
 bracket_text k = codes "[" ++ (decimal (number_of k) ++ codes "] ")
 
--- `[1] 1.1's commit before 2.1's snapshot:`
-unfoldable pub head_text : Table → List ClientSession → ℕ → TxnAt → TxnAt → List ℕ
-head_text table ss k first second = bracket_text k ++ name_text table ss first
-    ++ codes "'s commit before " ++ name_text table ss second ++ codes "'s snapshot:"
+-- `1.1's commit before 2.1's snapshot:`
+unfoldable pub before_text : Table → List ClientSession → TxnAt → TxnAt → List ℕ
+before_text table ss first second = name_text table ss first ++ (codes "'s commit before "
+    ++ (name_text table ss second ++ codes "'s snapshot:"))
+
+abbrev pub head_text : Table → List ClientSession → ℕ → TxnAt → TxnAt → List ℕ
+head_text table ss k first second = bracket_text k ++ before_text table ss first second
 
 -- one edge stands in the line itself
 abbrev pub shown_text : Table → List ClientSession → ℕ → TxnAt → TxnAt → List Edge → List ℕ
@@ -172,10 +169,29 @@ shown_text table ss k first second (e ∷ []) = bracket_text k ++ edge_text tabl
 shown_text table ss k first second edges = head_text table ss k first second ++ codes "\n"
     ++ way_text table ss indent edges
 
+-- ` both write x `
+unfoldable pub both_key : List ClientSession → Both → List ℕ
+both_key ss b = codes " both write " ++ (key_at ss b.one ++ codes " ")
+
+-- `(lines 4 and 9)`
+unfoldable pub both_lines : Table → Both → List ℕ
+both_lines table b = codes "(lines " ++ (decimal (line_of table b.one) ++ (codes " and "
+    ++ (decimal (line_of table b.other) ++ codes ")")))
+
+abbrev pub both_text : Table → List ClientSession → Both → List ℕ
+both_text table ss b = both_key ss b ++ both_lines table b
+
+-- `, and 2.1 cannot commit first:`
+unfoldable pub other_text : Table → List ClientSession → TxnAt → List ℕ
+other_text table ss at = codes ", and " ++ (name_text table ss at
+    ++ codes " cannot commit first:\n")
+
+abbrev pub forced_line : Table → List ClientSession → Both → List ℕ
+forced_line table ss b = both_text table ss b ++ other_text table ss b.other.txn
+
 abbrev pub forced_text : Table → List ClientSession → ℕ → Both → Against → List ℕ
-forced_text table ss k b a = head_text table ss k b.one.txn b.other.txn ++ codes " "
-    ++ both_text table ss b ++ codes ", and " ++ name_text table ss b.other.txn
-    ++ codes " cannot commit first:\n" ++ against_text table ss a
+forced_text table ss k b a = head_text table ss k b.one.txn b.other.txn ++ forced_line table ss b
+    ++ against_text table ss a
 
 abbrev pub step_text : Table → List ClientSession → ℕ → Step → List ℕ
 step_text table ss k (step.Shown first second edges) = shown_text table ss k first second edges.items
@@ -188,14 +204,27 @@ steps_text table ss k (s ∷ steps) = step_text table ss k s ++ steps_text table
 
 -- ---- two of which neither can commit first
 
+-- `1.1 cannot commit first:`
+unfoldable pub cannot_line : Table → List ClientSession → TxnAt → List ℕ
+cannot_line table ss at = name_text table ss at ++ codes " cannot commit first:\n"
+
 abbrev pub cannot_text : Table → List ClientSession → TxnAt → Against → List ℕ
-cannot_text table ss at a = name_text table ss at ++ codes " cannot commit first:\n"
-    ++ against_text table ss a
+cannot_text table ss at a = cannot_line table ss at ++ against_text table ss a
+
+unfoldable pub so_line : List ℕ
+so_line = codes ", so one of them commits before the other takes its snapshot\n"
+
+-- `1.1 and 2.1`
+unfoldable pub two_text : Table → List ClientSession → Both → List ℕ
+two_text table ss b = name_text table ss b.one.txn ++ (codes " and "
+    ++ name_text table ss b.other.txn)
 
 -- `1.1 and 2.1 both write x (lines 4 and 9), so one of them commits before the other takes its
--- snapshot`, and why neither does
+-- snapshot`
+abbrev pub two_line : Table → List ClientSession → Both → List ℕ
+two_line table ss b = two_text table ss b ++ both_text table ss b ++ so_line
+
+-- and why neither does
 abbrev pub neither_text : Table → List ClientSession → Both → Against → Against → List ℕ
-neither_text table ss b not_one not_other = name_text table ss b.one.txn ++ codes " and "
-    ++ name_text table ss b.other.txn ++ codes " " ++ both_text table ss b
-    ++ codes ", so one of them commits before the other takes its snapshot\n"
+neither_text table ss b not_one not_other = two_line table ss b
     ++ cannot_text table ss b.one.txn not_one ++ cannot_text table ss b.other.txn not_other

@@ -56,8 +56,8 @@ did_text ss _ = codes "came"
 
 -- `wrote x after 1.1`
 abbrev pub after_step_text : Table → List ClientSession → List Step → ℕ → TxnAt → List ℕ
-after_step_text table ss steps k at = did_text ss (slice_get steps k) ++ codes " after "
-    ++ name_text table ss at
+after_step_text table ss steps k at = did_text ss (slice_get steps k) ++ (codes " after "
+    ++ name_text table ss at)
 
 abbrev pub since_number : Since → List ℕ
 since_number (since.Step k) = number_text k

@@ -1,6 +1,6 @@
 -- How a refutation by points is told: what closes, in a sentence and in lines, its name, and the steps
 -- that it rests on.
-use Rattle.std.specs.Prelude.{ℕ, List, [], ◌∷◌, ◌++◌, codes, Option, None, Some}
+use Rattle.std.specs.Prelude.{ℕ, ◌==◌, if◌then◌else◌, List, [], ◌++◌, length, codes, Option, None, Some}
 use Rattle.session_log.specs.Text.{ClientSession}
 use Rattle.log_lines.specs.Rows.{Table}
 use Rattle.point_refutations.specs.declared.refutation.Step.{Step}
@@ -19,12 +19,12 @@ abbrev pub name_line : Option (List ℕ) → List ℕ
 name_line None = []
 name_line (Some name) = codes "known as: " ++ name ++ codes "\n"
 
-abbrev pub forced_line : List ℕ
-forced_line = codes "these orders of snapshots and commits are forced:\n"
+unfoldable pub steps_line : List ℕ
+steps_line = codes "these orders of snapshots and commits are forced:\n"
 
 abbrev pub all_steps_text : Table → List ClientSession → List Step → List ℕ
-all_steps_text table ss [] = []
-all_steps_text table ss (s ∷ steps) = forced_line ++ steps_text table ss 0 (s ∷ steps)
+all_steps_text table ss steps = if length steps == 0 then [] else steps_line
+    ++ steps_text table ss 0 steps
 
 abbrev pub refutation_text : Table → List ClientSession → Refutation → List ℕ
 refutation_text table ss r = short_text table ss r.steps.items r.ending

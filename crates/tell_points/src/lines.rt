@@ -79,19 +79,6 @@ fn put_against(out: &mut Vec<u8>, log: &Log<'_>, against: &Against) -> Result<()
     put_way(out, log, INDENT, &against.edges)
 }
 
-/// Appends that two write a key.
-#[tactic(auto, unfolding(crate::specs::Lines::both_text))]
-fn put_both(out: &mut Vec<u8>, log: &Log<'_>, both: Both) -> Result<(), AllocError>
-    ensures put { OnOk result (out.new.items ≡ out.old.items
-        ++ spec.both_text (rows_of log.now.places.now) (map view log.now.sessions.now) both) }
-{
-    let one = line_of(log.places, both.one) as u64;
-    let other = line_of(log.places, both.other) as u64;
-    tell!(out, log;
-        Text(b"both write "), Key(both.one), Text(b" (lines "), Number(one), Text(b" and "),
-        Number(other), Text(b")"))
-}
-
 /// The number of a step, in brackets.
 #[tactic(auto, unfolding(crate::specs::Lines::bracket_text))]
 fn put_bracket(out: &mut Vec<u8>, log: &Log<'_>, index: usize) -> Result<(), AllocError>
@@ -101,7 +88,21 @@ fn put_bracket(out: &mut Vec<u8>, log: &Log<'_>, index: usize) -> Result<(), All
 }
 
 /// Appends which transaction commits before another takes its snapshot.
-#[tactic(auto, unfolding(crate::specs::Lines::head_text))]
+#[tactic(auto, unfolding(crate::specs::Lines::before_text))]
+fn put_before(
+    out: &mut Vec<u8>,
+    log: &Log<'_>,
+    first: TxnAt,
+    second: TxnAt,
+) -> Result<(), AllocError>
+    ensures put { OnOk result (out.new.items ≡ out.old.items ++ spec.before_text
+        (rows_of log.now.places.now) (map view log.now.sessions.now) first second) }
+{
+    tell!(out, log;
+        Name(first), Text(b"'s commit before "), Name(second), Text(b"'s snapshot:"))
+}
+
+/// The same behind the number of a step.
 fn put_head(
     out: &mut Vec<u8>,
     log: &Log<'_>,
@@ -113,10 +114,7 @@ fn put_head(
         (rows_of log.now.places.now) (map view log.now.sessions.now) index first second) }
 {
     put_bracket(out, log, index)?;
-    tell!(out, log; Name(first))?;
-    tell!(out, log; Text(b"'s commit before "))?;
-    tell!(out, log; Name(second))?;
-    tell!(out, log; Text(b"'s snapshot:"))
+    put_before(out, log, first, second)
 }
 
 /// Appends a step that edges show.
@@ -140,6 +138,54 @@ fn put_shown(
     put_way(out, log, INDENT, edges)
 }
 
+/// Appends the key that both write.
+#[tactic(auto, unfolding(crate::specs::Lines::both_key))]
+fn put_both_key(out: &mut Vec<u8>, log: &Log<'_>, both: Both) -> Result<(), AllocError>
+    ensures put { OnOk result (out.new.items ≡ out.old.items
+        ++ spec.both_key (map view log.now.sessions.now) both) }
+{
+    tell!(out, log; Text(b" both write "), Key(both.one), Text(b" "))
+}
+
+/// Appends in which lines.
+#[tactic(auto, unfolding(crate::specs::Lines::both_lines))]
+fn put_both_lines(out: &mut Vec<u8>, log: &Log<'_>, both: Both) -> Result<(), AllocError>
+    ensures put { OnOk result (out.new.items ≡ out.old.items
+        ++ spec.both_lines (rows_of log.now.places.now) both) }
+{
+    let one = line_of(log.places, both.one) as u64;
+    let other = line_of(log.places, both.other) as u64;
+    tell!(out, log;
+        Text(b"(lines "), Number(one), Text(b" and "), Number(other), Text(b")"))
+}
+
+/// Appends that both write a key.
+fn put_both(out: &mut Vec<u8>, log: &Log<'_>, both: Both) -> Result<(), AllocError>
+    ensures put { OnOk result (out.new.items ≡ out.old.items
+        ++ spec.both_text (rows_of log.now.places.now) (map view log.now.sessions.now) both) }
+{
+    put_both_key(out, log, both)?;
+    put_both_lines(out, log, both)
+}
+
+/// Appends that the second one cannot commit first.
+#[tactic(auto, unfolding(crate::specs::Lines::other_text))]
+fn put_other(out: &mut Vec<u8>, log: &Log<'_>, at: TxnAt) -> Result<(), AllocError>
+    ensures put { OnOk result (out.new.items ≡ out.old.items
+        ++ spec.other_text (rows_of log.now.places.now) (map view log.now.sessions.now) at) }
+{
+    tell!(out, log; Text(b", and "), Name(at), Text(b" cannot commit first:\n"))
+}
+
+/// Appends both.
+fn put_forced_line(out: &mut Vec<u8>, log: &Log<'_>, both: Both) -> Result<(), AllocError>
+    ensures put { OnOk result (out.new.items ≡ out.old.items
+        ++ spec.forced_line (rows_of log.now.places.now) (map view log.now.sessions.now) both) }
+{
+    put_both(out, log, both)?;
+    put_other(out, log, both.other.txn)
+}
+
 /// Appends a step that is forced.
 fn put_forced(
     out: &mut Vec<u8>,
@@ -152,11 +198,7 @@ fn put_forced(
         (rows_of log.now.places.now) (map view log.now.sessions.now) index both against.now) }
 {
     put_head(out, log, index, both.one.txn, both.other.txn)?;
-    tell!(out, log; Text(b" "))?;
-    put_both(out, log, both)?;
-    tell!(out, log; Text(b", and "))?;
-    tell!(out, log; Name(both.other.txn))?;
-    tell!(out, log; Text(b" cannot commit first:\n"))?;
+    put_forced_line(out, log, both)?;
     put_against(out, log, against)
 }
 
@@ -186,7 +228,16 @@ pub fn put_steps(out: &mut Vec<u8>, log: &Log<'_>, steps: &[Step]) -> Result<(),
     Ok(())
 }
 
-/// Appends why a transaction cannot commit first.
+/// Appends that a transaction cannot commit first.
+#[tactic(auto, unfolding(crate::specs::Lines::cannot_line))]
+fn put_cannot_line(out: &mut Vec<u8>, log: &Log<'_>, at: TxnAt) -> Result<(), AllocError>
+    ensures put { OnOk result (out.new.items ≡ out.old.items
+        ++ spec.cannot_line (rows_of log.now.places.now) (map view log.now.sessions.now) at) }
+{
+    tell!(out, log; Name(at), Text(b" cannot commit first:\n"))
+}
+
+/// The same, and why.
 fn put_cannot(
     out: &mut Vec<u8>,
     log: &Log<'_>,
@@ -196,12 +247,39 @@ fn put_cannot(
     ensures put { OnOk result (out.new.items ≡ out.old.items ++ spec.cannot_text
         (rows_of log.now.places.now) (map view log.now.sessions.now) at against.now) }
 {
-    tell!(out, log; Name(at))?;
-    tell!(out, log; Text(b" cannot commit first:\n"))?;
+    put_cannot_line(out, log, at)?;
     put_against(out, log, against)
 }
 
-/// Appends two of which neither can commit first.
+/// Appends the names of two.
+#[tactic(auto, unfolding(crate::specs::Lines::two_text))]
+fn put_two(out: &mut Vec<u8>, log: &Log<'_>, both: Both) -> Result<(), AllocError>
+    ensures put { OnOk result (out.new.items ≡ out.old.items
+        ++ spec.two_text (rows_of log.now.places.now) (map view log.now.sessions.now) both) }
+{
+    tell!(out, log; Name(both.one.txn), Text(b" and "), Name(both.other.txn))
+}
+
+/// Appends what follows of two that write a key.
+#[tactic(auto, unfolding(crate::specs::Lines::so_line))]
+fn put_so(out: &mut Vec<u8>, log: &Log<'_>) -> Result<(), AllocError>
+    ensures put { OnOk result (out.new.items ≡ out.old.items ++ spec.so_line) }
+{
+    tell!(out, log;
+        Text(b", so one of them commits before the other takes its snapshot\n"))
+}
+
+/// Appends that they write a key.
+fn put_two_line(out: &mut Vec<u8>, log: &Log<'_>, both: Both) -> Result<(), AllocError>
+    ensures put { OnOk result (out.new.items ≡ out.old.items
+        ++ spec.two_line (rows_of log.now.places.now) (map view log.now.sessions.now) both) }
+{
+    put_two(out, log, both)?;
+    put_both(out, log, both)?;
+    put_so(out, log)
+}
+
+/// The same, and why neither of them can commit first.
 pub fn put_neither(
     out: &mut Vec<u8>,
     log: &Log<'_>,
@@ -213,13 +291,7 @@ pub fn put_neither(
         (rows_of log.now.places.now) (map view log.now.sessions.now) both not_one.now
         not_other.now) }
 {
-    tell!(out, log; Name(both.one.txn))?;
-    tell!(out, log; Text(b" and "))?;
-    tell!(out, log; Name(both.other.txn))?;
-    tell!(out, log; Text(b" "))?;
-    put_both(out, log, both)?;
-    tell!(out, log;
-        Text(b", so one of them commits before the other takes its snapshot\n"))?;
+    put_two_line(out, log, both)?;
     put_cannot(out, log, both.one.txn, not_one)?;
     put_cannot(out, log, both.other.txn, not_other)
 }

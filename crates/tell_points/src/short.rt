@@ -1,7 +1,6 @@
 //! What closes in a sentence: what each of its transactions saw of another one, and what not.
 
-ghost use Rattle.std.specs.Prelude.{◌≡◌, ◌++◌, None, map, OnOk, IfOk};
-ghost use Rattle.std.specs.Option.{option_copied};
+ghost use Rattle.std.specs.Prelude.{◌≡◌, ◌++◌, None, map, slice_get, OnOk, IfOk};
 ghost use Rattle.session_log.specs.Text.{view};
 ghost use Rattle.log_lines.specs.Rows.{rows_of};
 ghost use Rattle.point_refutations.specs.Edges.{is_missed};
@@ -63,13 +62,16 @@ fn put_missed(out: &mut Vec<u8>, log: &Log<'_>, at: TxnAt, read: OpAt) -> Result
 }
 
 /// Appends what a transaction did by a step.
-fn put_did(out: &mut Vec<u8>, log: &Log<'_>, step: Option<&Step>) -> Result<(), AllocError>
+fn put_did(out: &mut Vec<u8>, log: &Log<'_>, steps: &[Step], index: usize) -> Result<(), AllocError>
     ensures put { OnOk result (out.new.items ≡ out.old.items
-        ++ spec.did_text (map view log.now.sessions.now) (option_copied step.entry)) }
+        ++ spec.did_text (map view log.now.sessions.now) (slice_get steps.now index)) }
 {
-    match step {
-        Some(Step::Forced { both, .. }) => tell!(out, log; Text(b"wrote "), Key(both.one)),
-        _ => tell!(out, log; Text(b"came")),
+    if index >= steps.len() {
+        return tell!(out, log; Text(b"came"));
+    }
+    match &steps[index] {
+        Step::Forced { both, .. } => tell!(out, log; Text(b"wrote "), Key(both.one)),
+        Step::Shown { .. } => tell!(out, log; Text(b"came")),
     }
 }
 
@@ -84,9 +86,8 @@ fn put_after_step(
     ensures put { OnOk result (out.new.items ≡ out.old.items ++ spec.after_step_text
         (rows_of log.now.places.now) (map view log.now.sessions.now) steps.now index at) }
 {
-    put_did(out, log, steps.get(index))?;
-    tell!(out, log; Text(b" after "))?;
-    tell!(out, log; Name(at))
+    put_did(out, log, steps, index)?;
+    tell!(out, log; Text(b" after "), Name(at))
 }
 
 /// Appends by which step a read missed a write, where it is by one.

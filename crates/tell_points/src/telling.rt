@@ -4,6 +4,7 @@ ghost use Rattle.std.specs.Prelude.{◌≡◌, ◌++◌, [], map, OnOk, IfOk};
 ghost use Rattle.std.specs.Option.{option_copied};
 ghost use Rattle.session_log.specs.Text.{view};
 ghost use Rattle.log_lines.specs.Rows.{rows_of};
+ghost use Rattle.tell_points.specs.Names.{refutation_name};
 ghost use Rattle.tell_points.specs.Told as spec;
 
 use crate::lines::{put_neither, put_steps, put_way};
@@ -45,6 +46,22 @@ fn put_name(out: &mut Vec<u8>, log: &Log<'_>, name: Option<&'static str>) -> Res
     }
 }
 
+/// Appends the name of what a refutation shows.
+fn put_own_name(out: &mut Vec<u8>, log: &Log<'_>, refutation: &Refutation) -> Result<(), AllocError>
+    ensures put { OnOk result (out.new.items ≡ out.old.items
+        ++ spec.name_line (refutation_name (map view log.now.sessions.now) refutation.now)) }
+{
+    put_name(out, log, refutation_name(log.sessions, refutation))
+}
+
+/// Appends what stands before steps.
+#[tactic(auto, unfolding(crate::specs::Told::steps_line))]
+fn put_steps_line(out: &mut Vec<u8>, log: &Log<'_>) -> Result<(), AllocError>
+    ensures put { OnOk result (out.new.items ≡ out.old.items ++ spec.steps_line) }
+{
+    tell!(out, log; Text(FORCED))
+}
+
 /// Appends the steps that it rests on.
 fn put_all_steps(out: &mut Vec<u8>, log: &Log<'_>, steps: &[Step]) -> Result<(), AllocError>
     ensures put { OnOk result (out.new.items ≡ out.old.items ++ spec.all_steps_text
@@ -53,7 +70,7 @@ fn put_all_steps(out: &mut Vec<u8>, log: &Log<'_>, steps: &[Step]) -> Result<(),
     if steps.is_empty() {
         return Ok(());
     }
-    tell!(out, log; Text(FORCED))?;
+    put_steps_line(out, log)?;
     put_steps(out, log, steps)
 }
 
@@ -68,7 +85,7 @@ fn put_refutation(
 {
     put_short(out, log, &refutation.steps, &refutation.ending)?;
     put_ending(out, log, &refutation.ending)?;
-    put_name(out, log, refutation_name(log.sessions, refutation))?;
+    put_own_name(out, log, refutation)?;
     put_all_steps(out, log, &refutation.steps)
 }
 

@@ -1,4 +1,4 @@
-use Rattle.std.proofs.Common.{◌≡◌, ◌×◌, ◌++◌, None, drop, map}
+use Rattle.std.proofs.Common.{◌≡◌, ◌++◌, None, drop, map}
 use Rattle.session_log.specs.Text.{view}
 use Rattle.log_lines.specs.Rows.{rows_of}
 use Rattle.tell_points.specs.Short.{sentence_text, missed_last}
