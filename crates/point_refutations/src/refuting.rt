@@ -1,6 +1,6 @@
 //! Whether a refutation by points is right.
 
-ghost use Rattle.std.specs.Prelude.{◌≡◌, map, IsTrue, true};
+ghost use Rattle.std.specs.Prelude.{◌≡◌, map, IsTrue, true, []};
 ghost use Rattle.session_log.specs.Text.{view};
 ghost use Rattle.log_laws.specs.Logs.{IsSoundLog, IsLearntLog};
 ghost use Rattle.level_laws.specs.Snapshot.{HasPointOrder};
