@@ -1,12 +1,11 @@
 -- What an external read finds, by the places of points.
-use Rattle.std.proofs.Common.{◌≡◌, ◌⊎◌, ℕ, suc, ◌*◌, ◌<◌, ◌≤◌, Bool, true, false, ◌&&◌, List, ◌∷◌, length, map, eqb, eqb-true, Option, Some, None, refl, sym, ap, ◌∙◌, subst, inl, inr, arith, take}
+use Rattle.std.proofs.Common.{◌≡◌, ◌⊎◌, ℕ, suc, ◌*◌, ◌<◌, ◌≤◌, Bool, true, false, List, ◌∷◌, length, map, eqb, eqb-true, Option, Some, None, refl, sym, ap, ◌∙◌, subst, inl, inr, arith, take}
 use Rattle.std.specs.List.{Contains}
 use Rattle.std.specs.Option.{option_map_or}
 use Rattle.std.specs.Str.{bytes_eq}
 use Rattle.std.proofs.lemmas.Bool.{cases_order, and_parts, false≢true}
 use Rattle.std.proofs.lemmas.Slice.Eq.{bytes_eq-Decides}
 use Rattle.session_log.specs.Text.{ClientSession, Transaction}
-use Rattle.session_log.specs.declared.session.Op.{Op}
 use Rattle.session_log.specs.declared.session.Op.TheVariants.{Read, Write}
 use Rattle.serializability.proofs.Places.{Apart-from_IsDistinct}
 use Rattle.serializability.proofs.Once.{places_apart}
@@ -46,10 +45,10 @@ begins ss g v is = before_place g.points (snapshot v) (commit v) (lo_snapshot v 
 
 -- a commit that does not stand before a snapshot stands behind it
 behind : (ss : List ClientSession) (g : Given ss) (u v : ℕ) → (0 < u) × (u ≤ length (committed_in ss)) → 0 < v → (place g.points (commit u) < place g.points (snapshot v) → ⊥) → place g.points (snapshot v) < place g.points (commit u)
-behind ss g u v is lo no = elim (cases_order (place g.points (commit u)) (place g.points (snapshot v))) [
+behind ss g u v is lo never = elim (cases_order (place g.points (commit u)) (place g.points (snapshot v))) [
   | inl same ↦ absurd (differ same)
   | inr apart ↦ elim apart [
-    | inl less ↦ absurd (no less)
+    | inl less ↦ absurd (never less)
     | inr more ↦ more
   ]
 ]

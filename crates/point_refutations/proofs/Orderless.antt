@@ -1,7 +1,6 @@
 -- Where a refutation is right, the points have no order.
-use Rattle.std.proofs.Common.{◌≡◌, ◌≢◌, ◌⊎◌, ℕ, ◌<◌, Bool, true, false, not, ◌&&◌, List, [], ◌∷◌, ◌++◌, length, eqb, Option, Some, None, refl, sym, ap, ◌∙◌, subst, inl, inr, arith, append_assoc, append-nil}
+use Rattle.std.proofs.Common.{◌≡◌, ◌≢◌, ◌⊎◌, ℕ, ◌<◌, Bool, true, false, not, ◌&&◌, List, [], ◌∷◌, ◌++◌, Option, Some, None, refl, sym, ap, ◌∙◌, subst, inl, inr, arith, append_assoc, append-nil}
 use Rattle.std.specs.List.{AllByRecursion, Contains}
-use Rattle.std.specs.Str.{bytes_eq}
 use Rattle.std.proofs.lemmas.Bool.{and_parts, false≢true, not-true}
 use Rattle.std.proofs.lemmas.Slice.Eq.{bytes_eq-Decides}
 use Rattle.session_log.specs.Text.{ClientSession}
@@ -31,7 +30,7 @@ use Rattle.point_refutations.specs.declared.refutation.Ending.{Ending}
 use Rattle.point_refutations.specs.declared.refutation.Ending.TheVariants.{Circle, Neither}
 use Rattle.point_refutations.specs.declared.refutation.Refutation.{Refutation}
 use Rattle.point_refutations.specs.Edges.{edge_from, is_way}
-use Rattle.point_refutations.specs.Refuted.{writes_same, write_same, is_both, is_overwritten, is_against_by, is_against, is_some_way, is_step, are_steps, is_circle, is_neither, is_ending, is_refuted}
+use Rattle.point_refutations.specs.Refuted.{write_same, is_both, is_overwritten, is_against_by, is_against, is_some_way, is_step, are_steps, is_circle, is_neither, is_ending, is_refuted}
 use Rattle.point_refutations.proofs.Found.{Given, begins, finds_write, reader, writer, writer_of_key}
 use Rattle.point_refutations.proofs.Ways.{Comes, between, StepComes, way_comes, way_leads}
 

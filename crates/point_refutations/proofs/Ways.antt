@@ -1,5 +1,5 @@
 -- Edges and ways hold in each order of points.
-use Rattle.std.proofs.Common.{◌≡◌, ℕ, ◌<◌, ◌≤◌, Bool, true, false, not, ◌&&◌, cond, List, [], ◌∷◌, length, eqb, ltb, eqb-true, Option, Some, None, refl, sym, ap, ◌∙◌, subst, inl, inr, arith}
+use Rattle.std.proofs.Common.{◌≡◌, ℕ, ◌<◌, ◌≤◌, true, false, ◌&&◌, cond, List, [], ◌∷◌, length, eqb, ltb, eqb-true, Option, Some, None, refl, sym, ap, ◌∙◌, subst, inl, inr, arith}
 use Rattle.std.specs.Prelude.{slice_get, is_some, option_and_then}
 use Rattle.std.specs.List.{AllByRecursion, Contains}
 use Rattle.std.specs.Option.{option_map_or}
@@ -18,7 +18,7 @@ use Rattle.seen_laws.specs.Seen.{WritesKey}
 use Rattle.level_refutations.specs.declared.evidence.TxnAt.{TxnAt}
 use Rattle.level_refutations.specs.declared.evidence.OpAt.{OpAt}
 use Rattle.level_refutations.specs.declared.evidence.Step.TheVariants as hop_step
-use Rattle.level_refutations.specs.Places.{txn_at, op_at, is_same, is_named, is_external, is_of_key, is_of_initial, names_initial}
+use Rattle.level_refutations.specs.Places.{txn_at, is_same, is_named, is_external, is_of_key, is_of_initial, names_initial}
 use Rattle.level_refutations.specs.Edges.{is_session_step, op_of}
 use Rattle.level_refutations.specs.Laws.{Stands}
 use Rattle.level_refutations.proofs.Standing.{standing, session_is, one_node, in_session, within}
@@ -156,7 +156,7 @@ step_older ss g steps known read found to k v b e s r named t w =
     let own = begins ss g b (within ss to b r) in
     (finds_write ss g read v e s u.node u.wrote).last b w (omega (arith, before, own))
 
-older : (ss : List ClientSession) (g : Given ss) (steps : List Step) → AllByRecursion (StepComes ss g) steps → (read : OpAt) (to : TxnAt) (v b : ℕ) (e : External ss read v) → Stands ss read.txn v → Stands ss to b → WritesKey ss b e.key → (found : Option OpAt) → is_found ss read found ≡ true → (why : Since) → is_since ss steps read found to why ≡ true → place g.points (snapshot v) < place g.points (commit b)
+older : (ss : List ClientSession) (g : Given ss) (steps : List Step) → AllByRecursion (StepComes ss g) steps → (read : OpAt) (to : TxnAt) (v b : ℕ) (e : External ss read v) → Stands ss read.txn v → Stands ss to b → WritesKey ss b e.key → (found : Option OpAt) → is_found ss read found ≡ true → (reason : Since) → is_since ss steps read found to reason ≡ true → place g.points (snapshot v) < place g.points (commit b)
 older ss g steps known read to v b e s r w found is (since.ReadToo i) t = read_older ss g read (op_of to i) v b e s r t w
 older ss g steps known read to v b e s r w None is since.Initial t = initial_older ss g read v e s is b w
 older ss g steps known read to v b e s r w (Some f) is since.Initial t = absurd (false≢true t)
@@ -182,7 +182,7 @@ by_missed ss g steps known from to m t =
     }
 
 -- ---- edges
-why_comes : (ss : List ClientSession) (g : Given ss) (steps : List Step) → AllByRecursion (StepComes ss g) steps → (from to : TxnAt) (why : Why) → is_why ss steps from to why ≡ true → Comes ss g (cond (is_missed why) (Snapshot from) (Commit from)) (cond (is_missed why) (Commit to) (Snapshot to))
+why_comes : (ss : List ClientSession) (g : Given ss) (steps : List Step) → AllByRecursion (StepComes ss g) steps → (from to : TxnAt) (reason : Why) → is_why ss steps from to reason ≡ true → Comes ss g (cond (is_missed reason) (Snapshot from) (Commit from)) (cond (is_missed reason) (Commit to) (Snapshot to))
 why_comes ss g steps known from to why.Session t = by_session ss g from to t
 why_comes ss g steps known from to why.Moments t = by_moments ss g from to t
 why_comes ss g steps known from to (why.Read write read) t = by_read ss g from to write read t
