@@ -1,6 +1,6 @@
 //! Whether a refutation by points is right.
 
-ghost use Rattle.std.specs.Prelude.{◌≡◌, map, IsTrue, true};
+ghost use Rattle.std.specs.Prelude.{◌≡◌, map, IsTrue, true, []};
 ghost use Rattle.session_log.specs.Text.{view};
 ghost use Rattle.log_laws.specs.Logs.{IsSoundLog, IsLearntLog};
 ghost use Rattle.level_laws.specs.Snapshot.{HasPointOrder};
@@ -135,6 +135,14 @@ fn is_ending(is_locked: bool, sessions: &[Session], steps: &[Step], ending: &End
     }
 }
 
+/// Whether each step is right behind those before it, and they lead to the ending.
+fn is_right(is_locked: bool, sessions: &[Session], refutation: &Refutation) -> bool
+    ensures { result ≡ spec.is_refuted is_locked (map view sessions.now) refutation.now }
+{
+    are_steps(is_locked, sessions, &refutation.steps)
+        && is_ending(is_locked, sessions, &refutation.steps, &refutation.ending)
+}
+
 /// Whether the refutation is right: then these sessions, whose outcomes are known, have no order of
 /// their snapshots and commits, where keys are locked (snapshot isolation), or not (prefix
 /// consistency).
@@ -143,6 +151,5 @@ pub fn refutes(is_locked: bool, sessions: &[Session], refutation: &Refutation) -
     ensures none { IsTrue result → IsSoundLog (map view sessions.now)
         → IsLearntLog (map view sessions.now) → HasPointOrder is_locked (map view sessions.now) → ⊥ }
 {
-    are_steps(is_locked, sessions, &refutation.steps)
-        && is_ending(is_locked, sessions, &refutation.steps, &refutation.ending)
+    is_right(is_locked, sessions, refutation)
 }
