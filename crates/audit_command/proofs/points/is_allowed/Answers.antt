@@ -1,6 +1,11 @@
-use Rattle.std.proofs.Common.{sym, ◌∙◌}
+use Rattle.std.proofs.Common.{◌≡◌, false, codes, sym, ◌∙◌, subst}
+use Rattle.std.specs.Bool.{nat_eq}
+use Rattle.std.specs.List.{starts_with}
+use Rattle.std.proofs.lemmas.List.{take_rest}
 use Rattle.audit_command.proofs.Allowed.{allowed_behind}
 use Rattle.audit_command.proofs.points.is_allowed.Goals as goal
 
 pub loop-i-preserved : goal.loop-i-preserved
-loop-i-preserved c = allowed_behind c.args.line.now c.loop-i.i c.loop-i-test.true (sym c.starts_with.ensures.value ∙ c.if-starts_with.false) ∙ c.loop-i.invariant
+loop-i-preserved c =
+    let apart = subst (λ l. starts_with nat_eq l (codes "(G2-") ≡ false) (take_rest c.args.line.now c.loop-i.i) (sym c.starts_with.ensures.value ∙ c.if-starts_with.false) in
+    allowed_behind c.args.line.now c.loop-i.i c.loop-i-test.true apart ∙ c.loop-i.invariant

@@ -1,9 +1,9 @@
 use Rattle.std.proofs.Common.{length, sym, ◌∙◌}
 use Rattle.std.proofs.lemmas.Bool.{eqb-true}
-use Rattle.session_log.specs.Lines.{lines}
 use Rattle.audit_command.proofs.Allowed.{nothing_left}
 use Rattle.audit_command.proofs.points.put_forbidden.Goals as goal
 
-pub returns-clause-put : goal.returns-clause-put
-returns-clause-put c =
-    sym (nothing_left c.loop-rest.out.items c.loop-rest.rest.now (sym (eqb-true (length c.loop-rest.rest.now) 0 (sym c.is_empty.ensures ∙ c.loop-rest-test.false)))) ∙ c.loop-rest.invariant
+pub returns : goal.returns
+returns c =
+    let empty = sym (eqb-true (length c.loop-rest.rest.now) 0 (sym c.is_empty.ensures ∙ c.loop-rest-test.false)) in
+    record { put = sym (nothing_left c.loop-rest.out.items c.loop-rest.rest.now empty) ∙ c.loop-rest.invariant }
