@@ -62,7 +62,7 @@ there_write : (b : Bool) (w : ℕ) (o : Option ℕ) (rest : Bool) → (option_ma
 there_write true w o rest f h = absurd (false≢true h)
 there_write false w o rest f h = f h
 
-read_there : (k : List ℕ) (w : ℕ) (ops : List Op) → option_map_or (λ r. eqb r w) (first_read k ops) false ≡ true → reads_as k w ops ≡ true
+pub read_there : (k : List ℕ) (w : ℕ) (ops : List Op) → option_map_or (λ r. eqb r w) (first_read k ops) false ≡ true → reads_as k w ops ≡ true
 read_there k w [] e = absurd (false≢true e)
 read_there k w (Read key v ∷ ops) e = there_read (bytes_eq k key) v w (first_read k ops) (reads_as k w ops) (read_there k w ops) e
 read_there k w (Write key v ∷ ops) e = there_write (bytes_eq k key) w (first_read k ops) (reads_as k w ops) (read_there k w ops) e

@@ -8,3 +8,6 @@ pub mod Knowing
 pub mod Missing
 pub mod Totals
 pub mod Sets
+pub mod Ranks
+pub mod Counted
+pub mod Lines

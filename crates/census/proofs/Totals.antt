@@ -13,7 +13,7 @@ use Rattle.census.specs.Updates.{is_lost, lost_in}
 use Rattle.census.specs.Tables.{view_ref, view_fault}
 use denote.Ref.{Bor}
 
-count_mapped : {X Y : Type 0} (p : Y → Bool) (g : X → Y) (xs : List X) → count_by p (map g xs) ≡ count_by (λ x. p (g x)) xs
+pub count_mapped : {X Y : Type 0} (p : Y → Bool) (g : X → Y) (xs : List X) → count_by p (map g xs) ≡ count_by (λ x. p (g x)) xs
 count_mapped p g [] = refl
 count_mapped p g (x ∷ xs) =
     sum_by-cons (λ y. cond (p y) 1 0) (g x) (map g xs)

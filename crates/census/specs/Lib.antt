@@ -3,5 +3,7 @@ pub mod States
 pub mod Reads
 pub mod Updates
 pub mod Tables
+pub mod Counts
+pub mod Worst
 pub mod Census
 pub mod Text

@@ -1,6 +1,8 @@
 -- The census as text.
 use Rattle.std.specs.Prelude.{ℕ, ◌+◌, ◌==◌, if◌then◌else◌, List, ◌++◌, codes, decimal}
+use Rattle.std.specs.List.{flat_map}
 use Rattle.census.specs.declared.numbers.Census.{Census}
+use Rattle.census.specs.declared.numbers.KeyFaults.{KeyFaults}
 
 abbrev pub reads_word : ℕ → List ℕ
 reads_word n = if n == 1 then codes " read\n" else codes " reads\n"
@@ -24,6 +26,10 @@ first_line n = if n == 0 then codes "census: no fault of A1 to A7\n" else
 unfoldable pub count_line : List ℕ → ℕ → List ℕ → List ℕ
 count_line name n word = name ++ decimal n ++ word
 
+-- a line: a key and its number
+unfoldable pub key_line : KeyFaults → List ℕ
+key_line l = codes "key " ++ l.key ++ count_line (codes ": ") l.faults (faults_word l.faults)
+
 unfoldable pub census_text : Census → List ℕ
 census_text c =
     first_line (total_of c)
@@ -36,3 +42,4 @@ census_text c =
     ++ count_line (codes "A5 future read: ") c.future_reads (reads_word c.future_reads)
     ++ count_line (codes "A6 split read: ") c.split_reads (reads_word c.split_reads)
     ++ count_line (codes "A7 lost update: ") c.lost_updates (transactions_word c.lost_updates)
+    ++ flat_map key_line c.worst_keys.items

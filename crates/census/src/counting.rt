@@ -8,9 +8,11 @@ ghost use Rattle.census.specs.Tables.{view_ref};
 ghost use Rattle.census.specs.Census.{IsCensus};
 
 use crate::faults::faults_of;
-use crate::lost::lost_of;
+use crate::key_counts::KeyCounts;
+use crate::lost::{add_all_lost_keys, lost_of};
 use crate::numbers::Census;
 use crate::tables::Tables;
+use crate::worst::worst_of;
 use serializability::ReadAnomaly;
 use session_log::{Key, Session, Txn};
 use std::alloc::{AllocError, Global};
@@ -74,6 +76,9 @@ pub fn census(alloc: Global, sessions: &[Session]) -> Result<Census, AllocError>
     let faults = found.as_slice();
     let lost = lost_of(alloc, &tables.updates, txns)?;
     let kept = lost.as_slice();
+    let mut counts = KeyCounts::new(alloc);
+    counts.add_reads(faults)?;
+    add_all_lost_keys(alloc, &mut counts, &tables.updates, kept)?;
     Ok(Census {
         unknown_reads: count_of(faults, ReadAnomaly::Unknown),
         aborted_reads: count_of(faults, ReadAnomaly::Aborted),
@@ -82,5 +87,6 @@ pub fn census(alloc: Global, sessions: &[Session]) -> Result<Census, AllocError>
         future_reads: count_of(faults, ReadAnomaly::Future),
         split_reads: count_of(faults, ReadAnomaly::Split),
         lost_updates: kept.len(),
+        worst_keys: worst_of(alloc, &counts)?,
     })
 }

@@ -1,7 +1,17 @@
 //! The numbers of a census.
 
+use session_log::Key;
+
+/// A key, and how many faults it has: reads of it that break serializability by themselves, and
+/// transactions that are in a lost update of it.
+#[derive(Debug, Drop)]
+pub struct KeyFaults {
+    pub key: Key,
+    pub faults: usize,
+}
+
 /// How many reads and transactions of a log break serializability by themselves.
-#[derive(Clone, Copy, Debug, PartialEq, Eq)]
+#[derive(Debug, Drop)]
 pub struct Census {
     /// Reads of what no transaction wrote (A1).
     pub unknown_reads: usize,
@@ -17,4 +27,6 @@ pub struct Census {
     pub split_reads: usize,
     /// Transactions that update a version which another one updates too (A7).
     pub lost_updates: usize,
+    /// The keys with the most faults, ten at most, the worst first.
+    pub worst_keys: Vec<KeyFaults>,
 }

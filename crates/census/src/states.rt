@@ -95,7 +95,7 @@ impl KeyState {
 /// What was done with each key.
 #[derive(Drop)]
 pub struct States<'a> {
-    table: BTreeMap<&'a Key, KeyState>,
+    pub table: BTreeMap<&'a Key, KeyState>,
 }
 
 impl<'a> States<'a> {

@@ -1,10 +1,11 @@
 //! The census as text.
 
 ghost use Rattle.std.specs.Prelude.{◌≡◌, ◌++◌, IfOk, OnOk};
-ghost use Rattle.census.specs.Text.{census_text, count_line, first_line};
+ghost use Rattle.std.specs.List.{flat_map};
+ghost use Rattle.census.specs.Text.{census_text, count_line, first_line, key_line};
 ghost use Rattle.census.specs.Text.{faults_word, reads_word, total_of, transactions_word};
 
-use crate::numbers::Census;
+use crate::numbers::{Census, KeyFaults};
 use itoa::Buffer;
 use std::alloc::{AllocError, Global};
 
@@ -38,8 +39,8 @@ fn faults_word(count: u128) -> &'static [u8]
 }
 
 /// How many faults there are.
-pub fn total_of(census: Census) -> u128
-    ensures total { result ≡ total_of census }
+pub fn total_of(census: &Census) -> u128
+    ensures total { result ≡ total_of census.now }
 {
     census.unknown_reads as u128
         + census.aborted_reads as u128
@@ -92,13 +93,33 @@ fn put_transactions(out: &mut Vec<u8>, name: &[u8], count: usize) -> Result<(), 
     put_count(out, name, count, transactions_word(count))
 }
 
-/// A line of how many faults there are, and one for each anomaly.
+/// Appends a line of so many faults of a key.
+#[tactic(auto, unfolding(crate::specs::Text::key_line))]
+fn put_key(out: &mut Vec<u8>, line: &KeyFaults) -> Result<(), AllocError>
+    ensures put { OnOk result (out.new.items ≡ out.old.items ++ key_line line.now) }
+{
+    out.extend_from_slice(b"key ")?;
+    out.extend_from_slice(line.key.as_bytes())?;
+    put_count(out, b": ", line.faults, faults_word(line.faults as u128))
+}
+
+/// Appends a line for each of these keys.
+fn put_keys(out: &mut Vec<u8>, lines: &[KeyFaults]) -> Result<(), AllocError>
+    ensures put { OnOk result (out.new.items ≡ out.old.items ++ flat_map key_line lines.now) }
+{
+    for line in lines {
+        put_key(out, line)?;
+    }
+    Ok(())
+}
+
+/// A line of how many faults there are, one for each anomaly, and one for each of the worst keys.
 #[tactic(auto, unfolding(crate::specs::Text::census_text))]
 pub fn census_text(alloc: Global, census: &Census) -> Result<Vec<u8>, AllocError>
     ensures text { IfOk result (λ text. text.items ≡ census_text census.now) }
 {
     let mut out = Vec::new(alloc);
-    put_total(&mut out, total_of(*census))?;
+    put_total(&mut out, total_of(census))?;
     put_reads(&mut out, b"A1 unknown read: ", census.unknown_reads)?;
     put_reads(&mut out, b"A2 aborted read: ", census.aborted_reads)?;
     put_reads(
@@ -110,5 +131,6 @@ pub fn census_text(alloc: Global, census: &Census) -> Result<Vec<u8>, AllocError
     put_reads(&mut out, b"A5 future read: ", census.future_reads)?;
     put_reads(&mut out, b"A6 split read: ", census.split_reads)?;
     put_transactions(&mut out, b"A7 lost update: ", census.lost_updates)?;
+    put_keys(&mut out, census.worst_keys.as_slice())?;
     Ok(out)
 }

@@ -31,8 +31,8 @@ fn census_of<R: Threads + Sync>(
 
 /// How the command ends: a read or a transaction that is counted leaves no serial order, and where
 /// none is, nothing was judged.
-fn status_of(census: Census) -> Status
-    ensures status { result ≡ status_of census }
+fn status_of(census: &Census) -> Status
+    ensures status { result ≡ status_of census.now }
 {
     if total_of(census) == 0 {
         Status::Unknown
@@ -59,5 +59,5 @@ pub fn put_census<R: Threads + Sync, W: Sink>(
     let census = census_of(rt, alloc, log, workers)?;
     let text = census_text(alloc, &census)?;
     write_all(sink, &text)?;
-    Ok(status_of(census))
+    Ok(status_of(&census))
 }

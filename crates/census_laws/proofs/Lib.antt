@@ -1,0 +1,5 @@
+pub mod Places
+pub mod Finds
+pub mod Faultless
+pub mod Unlost
+pub mod Uncounted
