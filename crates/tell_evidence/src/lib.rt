@@ -1,8 +1,8 @@
 //! Evidence against a level of isolation below prefix consistency, told in sentences: what a read
 //! names and what it sees, each with its lines in the log, so that a reader needs no other theory.
 //!
-//! Called by `audit_command`. It knows no judge, and does not ask whether the evidence is right: of a
-//! place that is not in the log it tells number 0, line 0 and no key.
+//! Called by `audit_command` and `tell_points`. It knows no judge, and does not ask whether the
+//! evidence is right: of a place that is not in the log it tells number 0, line 0 and no key.
 //!
 //! What the field calls such a fault:
 //!
