@@ -95,7 +95,7 @@ def counted(sessions):
 ORDER = 'check first: did the client record its operations in their order?'
 HINTS = {'A1': 'check first: does the log have each write of all clients, under its own key?', 'A2': 'check first: is the abort certain?', 'A4': ORDER, 'A5': ORDER}
 # What is said of a part that has an order without that of sessions.
-SERIAL_APART = 'these break the order of sessions alone: without it they have a serial order; of the rest of the log this says nothing'
+SERIAL_APART = 'these have a serial order if the order of sessions does not count; of the rest of the log this says nothing'
 # What is said where a log has an order without its moments, and none with them.
 TIME_ALONE = ['only real time was broken: the whole log has a serial order, but none in the order of its moments', 'check first: do the clients share a clock?']
 # What stands before what holds without moments, and before a last part, which breaks a weaker level.

@@ -103,7 +103,7 @@ listed txns = codes "transactions " ++ txns_text txns ++ 10 ∷ []
 -- that it has a serial order without that of sessions
 abbrev pub sessions_line : Bool → List ℕ
 sessions_line told = if told
-    then codes "these break the order of sessions alone: without it they have a serial order; of the rest of the log this says nothing\n"
+    then codes "these have a serial order if the order of sessions does not count; of the rest of the log this says nothing\n"
     else []
 
 -- why it has no order, and what to check first
@@ -181,7 +181,7 @@ level_row level (Some word) = kept_line level word ++ 10 ∷ []
 -- which part shows that snapshot isolation was not kept: one of the answer's, or one behind them
 abbrev pub shown_by : Word → Option ToldPart → List ℕ
 shown_by word.NotSerializable None = codes ", as shown below\n"
-shown_by word.NotSerializable (Some p) = codes ", as the last part shows\n"
+shown_by word.NotSerializable (Some p) = codes ", as a part below shows\n"
 shown_by _ _ = 10 ∷ []
 
 -- a line of snapshot isolation

@@ -177,7 +177,7 @@ fn put_sessions(out: &mut Vec<u8>, is_serial_apart: bool) -> Result<(), AllocErr
     if is_serial_apart {
         put(
             out,
-            b"these break the order of sessions alone: without it they have a serial order; of the rest of the log this says nothing\n",
+            b"these have a serial order if the order of sessions does not count; of the rest of the log this says nothing\n",
         )
     } else {
         Ok(())
@@ -374,7 +374,7 @@ fn put_shown_by(out: &mut Vec<u8>, word: Word, shown: &Option<ToldPart>) -> Resu
         Word::Serializable | Word::Unknown => put(out, b"\n"),
         Word::NotSerializable => match shown {
             None => put(out, b", as shown below\n"),
-            Some(_) => put(out, b", as the last part shows\n"),
+            Some(_) => put(out, b", as a part below shows\n"),
         },
     }
 }

@@ -26,29 +26,29 @@ abbrev pub sight_text : Table → List ClientSession → Overlooked → List ℕ
 sight_text table ss o = path_text table ss o.read o.write o.path.items
 
 -- what the read names, by which path it sees the other write, and which of the two is the earlier:
--- `so the x of 1.3 stands before the x of 1.2`
+-- `so the x of 1.3 is older than the x of 1.2`
 unfoldable pub forced_text : Table → List ClientSession → Overlooked → OpAt → List ℕ
 forced_text table ss o found =
     does_text table ss (codes " reads ") o.read ++ (wrote_text table ss found ++ (codes "\n"
     ++ (sight_text table ss o ++ (codes "so " ++ (version_text table ss o.write
-    ++ (codes " stands before " ++ (version_text table ss found ++ codes "\n")))))))
+    ++ (codes " is older than " ++ (version_text table ss found ++ codes "\n")))))))
 
--- `in short: 2.7 reads the x of 1.2 and sees 1.3, which wrote x too and comes after 1.2`
+-- `in short: 2.7 sees 1.3, which wrote x too and comes after 1.2, but reads the x of 1.2`
 unfoldable pub short_forced : Table → List ClientSession → Overlooked → OpAt → List ℕ
 short_forced table ss o found =
-    codes "in short: " ++ (name_text table ss o.read.txn ++ (codes " reads "
-    ++ (version_text table ss found ++ (codes " and sees " ++ (name_text table ss o.write.txn
-    ++ (codes ", which wrote " ++ (key_at ss o.write ++ (codes " too and comes after "
-    ++ (name_text table ss found.txn ++ codes "\n")))))))))
+    codes "in short: " ++ (name_text table ss o.read.txn ++ (codes " sees "
+    ++ (name_text table ss o.write.txn ++ (codes ", which wrote " ++ (key_at ss o.write
+    ++ (codes " too and comes after " ++ (name_text table ss found.txn ++ (codes ", but reads "
+    ++ (version_text table ss found ++ codes "\n")))))))))
 
 -- ---- a read of the initial value that overlooks a write
 
--- `in short: 2.7 reads the initial value of x and sees 1.3, which wrote x`
+-- `in short: 2.7 sees 1.3, which wrote x, but reads the initial value of x`
 unfoldable pub short_initial : Table → List ClientSession → Overlooked → List ℕ
 short_initial table ss o =
-    codes "in short: " ++ (name_text table ss o.read.txn ++ (codes " reads the initial value of "
-    ++ (key_at ss o.read ++ (codes " and sees " ++ (name_text table ss o.write.txn
-    ++ (codes ", which wrote " ++ (key_at ss o.write ++ codes "\n")))))))
+    codes "in short: " ++ (name_text table ss o.read.txn ++ (codes " sees "
+    ++ (name_text table ss o.write.txn ++ (codes ", which wrote " ++ (key_at ss o.write
+    ++ (codes ", but reads the initial value of " ++ (key_at ss o.read ++ codes "\n")))))))
 
 -- what it names, by which path it sees the write, and what it should name:
 -- `so 2.7 should read the x of 1.3 or a later one`

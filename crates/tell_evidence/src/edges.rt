@@ -29,7 +29,7 @@ fn put_forced(
 {
     tell!(out, log;
         Does(b" reads ", it.read), Wrote(found), Text(b"\n"), Path(it), Text(b"so "),
-        Version(it.write), Text(b" stands before "), Version(found), Text(b"\n"))
+        Version(it.write), Text(b" is older than "), Version(found), Text(b"\n"))
 }
 
 /// Appends a forced edge of a circle in a sentence.
@@ -44,9 +44,9 @@ fn put_short_forced(
         (rows_of log.now.places.now) (map view log.now.sessions.now) it.now found) }
 {
     tell!(out, log;
-        Text(b"in short: "), Name(it.read.txn), Text(b" reads "), Version(found),
-        Text(b" and sees "), Name(it.write.txn), Text(b", which wrote "), Key(it.write),
-        Text(b" too and comes after "), Name(found.txn), Text(b"\n"))
+        Text(b"in short: "), Name(it.read.txn), Text(b" sees "), Name(it.write.txn),
+        Text(b", which wrote "), Key(it.write), Text(b" too and comes after "), Name(found.txn),
+        Text(b", but reads "), Version(found), Text(b"\n"))
 }
 
 /// Appends a read of the initial value in a sentence.
@@ -56,9 +56,9 @@ fn put_short_initial(out: &mut Vec<u8>, log: &Log<'_>, it: &Overlooked) -> Resul
         ++ short_initial (rows_of log.now.places.now) (map view log.now.sessions.now) it.now) }
 {
     tell!(out, log;
-        Text(b"in short: "), Name(it.read.txn), Text(b" reads the initial value of "),
-        Key(it.read), Text(b" and sees "), Name(it.write.txn), Text(b", which wrote "),
-        Key(it.write), Text(b"\n"))
+        Text(b"in short: "), Name(it.read.txn), Text(b" sees "), Name(it.write.txn),
+        Text(b", which wrote "), Key(it.write), Text(b", but reads the initial value of "),
+        Key(it.read), Text(b"\n"))
 }
 
 /// Appends what the read names, which write it sees, and what it should name.
