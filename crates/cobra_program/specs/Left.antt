@@ -23,7 +23,7 @@ pub record IsSilent (w : Seen) : Type 0 where
 -- a line on standard error says why the call ends, and the status is that line's
 pub record EndsFor (e : Ending) (w : Seen) (status : ℕ) : Type 0 where
   pub told : IsLineTold w.lines w.later w.is_broken e
-  pub status : status ≡ status_of e
+  pub code : status ≡ status_of e
 
 -- that is all
 pub record EndsAtOnce (e : Ending) (w : Seen) (status : ℕ) : Type 0 where
