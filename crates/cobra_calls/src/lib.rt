@@ -1,7 +1,7 @@
 //! The calls of the program, over bytes and sinks: what the command of a request tells of a log, and
 //! why a call ends without an answer.
 //!
-//! Called by `cobra_program`. It opens no file, and reads no word of the command line.
+//! Called by `cobra_program`; `cobra_poly` makes its worlds. It opens no file, and reads no word of the command line.
 #![tactic(auto)]
 
 mod answering;
