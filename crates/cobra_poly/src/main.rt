@@ -1,5 +1,4 @@
-//! The program: its words, and the world that it runs in. What it does with them stands in the crates
-//! below.
+//! The program's `main`: its words, and the world. What it does with them stands in `cobra_program`.
 #![tactic(auto)]
 
 mod outside;

@@ -1,6 +1,5 @@
-//! What is outside of the program, as the system has it: files, standard input and the two outputs.
-//! Nothing here decides anything. What is read, told and answered is said by `cobra_calls`, for each
-//! such world.
+//! What is outside of the program, as the system has it: files, standard input and standard error.
+//! Nothing here decides anything. What a call does is said by `cobra_program`, for each such world.
 
 ghost use Rattle.std.specs.Prelude.{None};
 

@@ -1,5 +1,5 @@
 -- A call, by its words or by why they cannot be had.
-use Rattle.std.proofs.Common.{◌≡◌, ℕ, List, map, string_bytes, Option, Result, Ok, Err, Vec, String, sym, subst}
+use Rattle.std.proofs.Common.{◌≡◌, ℕ, List, map, string_bytes, Option, Some, Result, Ok, Err, Vec, String, sym, subst}
 use Rattle.std.specs.IoError.{error_kind}
 use Rattle.std.specs.declared.alloc.Global.{Global}
 use Rattle.std.specs.declared.io.Error.{Error}
@@ -17,3 +17,6 @@ without_words start words e c status is h = subst (λ w. IsProgram start w c sta
 
 pub read_so : (start : Option Instant) (items texts : List (String Global)) (read : Option Words) (c : Left) (status : ℕ) → texts ≡ items → IsRead (map string_bytes texts) read → IsFollowed start read c status → IsCall start (map string_bytes items) c status
 read_so start items texts read c status same h follows = by_words read (subst (λ xs. IsRead (map string_bytes xs) read) same h) follows
+
+pub read_as : (texts : List (List ℕ)) (read : Option Words) (some words : Words) → read ≡ Some some → some ≡ words → IsRead texts read → IsRead texts (Some words)
+read_as texts read some words e is h = subst (λ w. IsRead texts (Some w)) is (subst (λ r. IsRead texts r) e h)
