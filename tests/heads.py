@@ -4,13 +4,13 @@
 A head says so in a paragraph that begins with `Called`, `Cited` or `Named`, and each crate has one, but for programs, tests and benches. Each crate that this paragraph names must stand on the crate in
 crates.txt; one that the first sentence has behind `Called by` must name it in its code, and not in proofs alone. Each crate that calls a
 function of it must be named there, but for tests and benches; unless the paragraph speaks of a group, as `the crates that tell` or `the
-commands`. The program `cobra_poly` stands for the crate of its calls too. Last line: 'heads: N passed, M failed'."""
+commands`. The program `cobra_poly` stands for the crates of its calls too. Last line: 'heads: N passed, M failed'."""
 import glob, os, re, sys
 
 TOP = os.path.dirname(os.path.dirname(os.path.abspath(__file__)))
 ASIDE = re.compile(r'.*_(tests|bench)|whole_way')
 # What makes the calls of the program.
-CALLS = {'cobra_poly': 'cobra_calls'}
+CALLS = {'cobra_poly': ('cobra_calls', 'cobra_program')}
 GROUP = re.compile(r'\b(wherever|crates|every crate|commands|no command|whoever)\b')
 
 
@@ -55,10 +55,10 @@ def faults(crate, stands, uses):
             yield 'it says not who calls it'
         return
     named = [name for name in re.findall(r'`(\w+)`', said) if name in stands]
-    named += [calls for name, calls in CALLS.items() if name in named and crate in stands.get(calls, ()) and calls not in named]
+    named += [call for name, calls in CALLS.items() if name in named for call in calls if crate in stands.get(call, ()) and call not in named]
     first = re.split('[;.]| and cited by ', said)[0]
     for name in named:
-        if CALLS.get(name) in named:
+        if any(call in named for call in CALLS.get(name, ())):
             continue
         if crate not in stands[name]:
             yield '%s is named, and does not stand on it' % name

@@ -21,6 +21,7 @@ use Rattle.cobra_answers.specs.declared.status.Status.{Status}
 use Rattle.cobra_answers.specs.declared.stop.Stop.TheVariants as stop
 use Rattle.cobra_words.specs.declared.request.Request.{Request}
 use Rattle.cobra_words.specs.declared.request.AuditWords.{AuditWords}
+use Rattle.cobra_words.specs.declared.commands.TheConstants.{VERSION}
 use Rattle.cobra_calls.specs.declared.ending.Ending.{Ending}
 use Rattle.cobra_calls.specs.declared.ending.Ending.TheVariants.{Stop}
 use Rattle.cobra_calls.specs.Calls.{log_name}
@@ -35,7 +36,7 @@ deadline_of (Some start) (Some seconds) = Some (record { start = start; seconds 
 deadline_of (Some start) None = None
 deadline_of None seconds = None
 
--- what these words ask for; the version that an object names is free
+-- what these words ask for; an object names this version of the program
 pub record AreOptions (r : Request) (w : AuditWords) (start : Option Instant) (o : AuditOptions)
     : Type 0 where
   pub workers : o.means.deciding.workers ≡ r.workers
@@ -52,6 +53,7 @@ pub record AreOptions (r : Request) (w : AuditWords) (start : Option Instant) (o
   pub order : o.order ≡ is_some w.order
   pub form : o.form ≡ w.format
   pub quiet : o.quiet ≡ w.quiet
+  pub version : o.version.now ≡ VERSION.now
 
 -- ---- names
 

@@ -59,6 +59,16 @@ pub fn one_more(failures: u64) -> u64
     }
 }
 
+/// How many reads failed after one that gave this.
+pub fn failures_after(failures: u64, read: &Result<Vec<u8>, Unread>) -> u64
+    ensures after { result ≡ read_failures failures read.now }
+{
+    match read {
+        Err(Unread::Device(_)) => one_more(failures),
+        _ => failures,
+    }
+}
+
 /// A sink that hands on what it holds back: standard output.
 pub trait Outlet: Sink {
     /// Whether nothing is held back.

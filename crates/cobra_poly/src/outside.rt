@@ -1,12 +1,9 @@
-//! What is outside of the program, as the system has it: files, standard input and the two outputs.
-//! Nothing here decides anything. What is read, told and answered is said by `cobra_calls`, for each
-//! such world.
+//! What is outside of the program, as the system has it: files, standard input and standard error.
+//! Nothing here decides anything. What a call does is said by `cobra_program`, for each such world.
 
-ghost use Rattle.std.specs.Prelude.{◌≡◌, ◌^◌, ◌<◌, None};
-ghost use Rattle.output.specs.Sinks.{one_more};
-ghost use Rattle.cobra_calls.specs.Worlds.{read_failures};
+ghost use Rattle.std.specs.Prelude.{None};
 
-use cobra_calls::{Errors, Inputs, NewFiles, Unread, one_more, read_up_to};
+use cobra_calls::{Errors, Inputs, NewFiles, Unread, failures_after, one_more, read_up_to};
 use output::SinkFailed;
 use std::alloc::Global;
 use std::fmt::Display;
@@ -20,16 +17,6 @@ pub struct SystemInputs<'a, R, I> {
     pub rt: &'a R,
     pub input: Option<I>,
     pub failures: u64,
-}
-
-/// How many reads failed after one that gave this.
-fn failures_after(failures: u64, read: &Result<Vec<u8>, Unread>) -> u64
-    ensures after { result ≡ read_failures failures read.now }
-{
-    match read {
-        Err(Unread::Device(_)) => one_more(failures),
-        _ => failures,
-    }
 }
 
 impl<R: Files, I: Read + Drop> Inputs for SystemInputs<'_, R, I> {

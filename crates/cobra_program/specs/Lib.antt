@@ -1,0 +1,5 @@
+pub mod Left
+pub mod Stages
+pub mod Texts
+pub mod Audits
+pub mod Program
