@@ -87,22 +87,19 @@ public final class Jdbc implements AutoCloseable {
 
     /** The same; the label says on a line what it is for, beside the log in a file of its own. */
     public String transaction(String label, Body body) throws SQLException {
-        if (connection == null) {
-            Connection its = connecting.connect();
-            its.setAutoCommit(false);
-            connection = its;
-            watched = (Connection) watched(its, Connection.class);
-        }
         failed = false;
         Recorder.Transaction txn = session.begin(label);
         try {
+            if (connection == null)
+                connect();
             body.run(watched, txn);
             // a driver may say nothing of a commit on a connection that is gone
             if (txn.outcome() == null && (failed || connection.isClosed()))
                 txn.abort();
         } catch (Throwable fault) {
             // no commit was sent
-            rollBack();
+            if (connection != null)
+                rollBack();
             if (txn.outcome() == null)
                 txn.abort();
             if (fault instanceof SQLException && isExpected((SQLException) fault))
@@ -114,6 +111,13 @@ public final class Jdbc implements AutoCloseable {
         else
             commit(txn);
         return txn.outcome();
+    }
+
+    private void connect() throws SQLException {
+        Connection its = connecting.connect();
+        its.setAutoCommit(false);
+        connection = its;
+        watched = (Connection) watched(its, Connection.class);
     }
 
     private void commit(Recorder.Transaction txn) throws SQLException {

@@ -38,6 +38,9 @@ public final class Recorder implements AutoCloseable {
     private static final int CLIENTS = 1000, MAX_SESSION = 65535;
     /** So many characters of a client may stand in memory before they go to its file. */
     private static final int BUFFER = 1 << 16;
+    /** And for so many nanoseconds, as long as transactions end; or for longer, where files are slow, so that this takes some hundredth of the
+     * time. */
+    private static final long HELD = 1000000000, PAUSE = HELD / 50;
     /** The keeper opens and closes rounds, under this number of a session, by fences: keys that begin so. */
     private static final int KEEPER = MAX_SESSION;
     private static final String FENCE = "fence/";
@@ -240,6 +243,8 @@ public final class Recorder implements AutoCloseable {
     private Thread keeper;
     private Throwable fault;
     private int lastRound;
+    private long due = System.nanoTime() + HELD;
+    private int turns;
 
     /** The recorder of a run, whose log is to stand at this path. */
     public Recorder(String path, Options options) throws IOException {
@@ -1061,6 +1066,14 @@ public final class Recorder implements AutoCloseable {
             }
         }
 
+        void tryToFlush(List<String> open) {
+            try {
+                flush(open);
+            } catch (IOException fault) {
+                // what cannot be written stays in memory, and close() tells where it still cannot be
+            }
+        }
+
         void put(List<String> more) {
             more.forEach(lines::append);
         }
@@ -1239,7 +1252,7 @@ public final class Recorder implements AutoCloseable {
                 // one that nobody waits for goes on, and its outcome stays unknown
                 (isCutOff ? unlearnt.lines : lines).add(written.get(wid));
                 if (options.durable && !isCutOff)
-                    tryToFlush(lines);
+                    session.part.tryToFlush(lines);
                 return wid;
             }
         }
@@ -1299,14 +1312,16 @@ public final class Recorder implements AutoCloseable {
             } else if (its.equals("unknown") && options.rounds == 0)
                 session.number = 0;
             if (session.part.lines.length() > BUFFER)
-                tryToFlush(Collections.emptyList());
-        }
-
-        private void tryToFlush(List<String> open) {
-            try {
-                session.part.flush(open);
-            } catch (IOException fault) {
-                // what cannot be written stays in memory, and close() tells where it still cannot be
+                session.part.tryToFlush(Collections.emptyList());
+            long now = System.nanoTime();
+            if (now - due > 0) {
+                due = now + HELD;
+                for (int left = parts.size(); left > 0 && System.nanoTime() - now < PAUSE; left--) {
+                    Part part = parts.get(turns++ % parts.size());
+                    // of one without lines an open transaction may stand in the file, where it is durable
+                    if (part.lines.length() > 0)
+                        part.tryToFlush(Collections.emptyList());
+                }
             }
         }
 

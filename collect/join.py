@@ -37,7 +37,7 @@ def parts_of(path):
         return [path]
     names = sorted(name for name in os.listdir(path) if re.fullmatch(r'[0-9.]+|unknown(\.[0-9]+)?', name))
     if not names:
-        raise Stop('%s: it has no files of a recorder' % path)
+        raise Stop('%s: it has no files of a recorder; if a recorder left it, nothing had been written yet: a durable one writes at once' % path)
     return [os.path.join(path, name) for name in names]
 
 

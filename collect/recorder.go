@@ -40,6 +40,8 @@ const (
 	clients, maxSession = 1000, 65535
 	// So many bytes of a client may stand in memory before they go to its file.
 	buffer = 1 << 16
+	// And for so long, as long as transactions end; or for longer, where files are slow, so that this takes some hundredth of the time.
+	mostHeld, mostSwept = time.Second, 20 * time.Millisecond
 	// The keeper opens and closes rounds, under this number of a session, by fences: keys that begin so.
 	keeper, fence = maxSession, "fence/"
 	// So many rounds a transaction of unknown outcome is carried into, as long as nobody reads what it wrote.
@@ -137,7 +139,8 @@ type Recorder struct {
 	turn             sync.Mutex
 	clock            func() int64
 	last             int64
-	number           int
+	due              time.Time
+	number, turns    int
 	parts, idle      []*part
 	open             map[*Transaction]bool
 	counts           map[string]int
@@ -191,7 +194,7 @@ func New(path string, options Options) (*Recorder, error) {
 		return nil, err
 	}
 	run := &Recorder{path: path, options: options, clock: options.Clock, open: map[*Transaction]bool{}, counts: map[string]int{}}
-	run.isShared = options.Share != [2]int{}
+	run.isShared, run.due = options.Share != [2]int{}, time.Now().Add(mostHeld)
 	if !run.isShared {
 		run.options.Share = [2]int{1, 1}
 	}
@@ -469,6 +472,17 @@ func (run *Recorder) end(txn *Transaction, outcome string) {
 	if session.part.lines.Len() > buffer {
 		// what cannot be written stays in memory, and Close tells where it still cannot be
 		_ = session.part.flush(nil)
+	}
+	if now := time.Now(); now.After(run.due) {
+		run.due = now.Add(mostHeld)
+		for left := len(run.parts); left > 0 && time.Since(now) < mostSwept; left-- {
+			its := run.parts[run.turns%len(run.parts)]
+			run.turns++
+			// of one without lines an open transaction may stand in the file, where it is durable
+			if its.lines.Len() > 0 {
+				_ = its.flush(nil)
+			}
+		}
 	}
 }
 

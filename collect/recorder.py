@@ -16,8 +16,9 @@ import atexit, collections, hashlib, itertools, json, operator, os, re, shutil, 
 # An identity is a count times CLIENTS plus its client's number: its last three digits are the client. Of N processes that write one log the
 # K-th has every N-th count and every N-th session, from K on.
 CLIENTS, MAX_SESSION, MAX_IDENTITY = 1000, 65535, 2 ** 64 - 1
-# So many lines of a client may stand in memory before they go to its file.
-BUFFER = 4096
+# So many lines of a client may stand in memory before they go to its file, and for so many seconds, as long as transactions end; or for longer,
+# where files are slow, so that this takes some hundredth of the time.
+BUFFER, HELD, PAUSE = 4096, 1, 0.02
 # The keeper opens and closes rounds, under this number of a session, by fences: keys that begin so.
 KEEPER, FENCE = MAX_SESSION, 'fence/'
 # So many rounds a transaction of unknown outcome is carried into, as long as nobody reads what it wrote.
@@ -314,7 +315,7 @@ class Recorder:
         self._open, self._taken = {}, set()
         self._counts, self._strange, self._left_open, self._warnings = collections.Counter(), None, [], None
         self._carried, self._dropped, self._sessions, self._late, self._last_round, self._labels = [], [], [], [], 0, []
-        self._closed, self._process = False, os.getpid()
+        self._closed, self._process, self._due, self._turns = False, os.getpid(), time.monotonic() + HELD, 0
         self._durable, self._rounds, self._transact, self._patience, self._bound = durable, rounds, transact, patience, bound
         if rounds:
             self._begin_rounds()
@@ -513,6 +514,17 @@ class Recorder:
             session.number = session.number if self._rounds else None
         if len(part.lines) > BUFFER:
             part.flush()
+        now = time.monotonic()
+        if now > self._due:
+            self._due = now + HELD
+            for _ in self._parts:
+                its = self._parts[self._turns % len(self._parts)]
+                self._turns += 1
+                # of one without lines an open transaction may stand in the file, where it is durable
+                if its.lines:
+                    its.flush()
+                if time.monotonic() > now + PAUSE:
+                    break
 
     # What follows is of rounds. The keeper is a thread of its own, which opens and closes them; clients read and write fences in theirs.
 

@@ -303,8 +303,8 @@ with open(os.path.join(os.path.dirname(HERE), 'examples', 'list_append.edn')) as
 
 def invented(count, line):
     """What is told of appends before which the log has a read that was not made."""
-    return ('appends to lists that their transactions did not read: %d, the first in line %d; the log has a read before each, which is right at '
-            'snapshot and above, and the levels below need --blind' % (count, line))
+    return ("appends to lists that their transactions did not read: %d, the first in line %d; the log has a read before each, so 'not kept' of a "
+            'level below snapshot may be wrong: for these levels import with --blind' % (count, line))
 
 
 def blind(log, *left_out):

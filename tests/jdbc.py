@@ -2,7 +2,7 @@
 """jdbc.py PROGRAM: collect/Jdbc.java, over collect/Recorder.java.
 
 By a driver that is made here it is asked what becomes of a transaction where a statement, commit or rollback fails, for each code that it tells
-apart. Then clients of H2, HSQLDB and Derby, embedded, run a small load at once, of which some break their connection off; PROGRAM must find that
+apart. Then the whole test that docs/COLLECTING.md has is compiled and run as it stands there. Then clients of H2, HSQLDB and Derby, embedded, run a small load at once, of which some break their connection off; PROGRAM must find that
 its log keeps what the store promises. A compiler or a store that is not installed is passed over, with a line that says so. Last line: 'jdbc: N
 passed, M failed'."""
 import os, re, shutil, subprocess, sys, tempfile
@@ -55,10 +55,14 @@ body java.lang.IllegalStateException: made: thrown IllegalStateException, 1 conn
 aborts null: abort, 1 connected
 commits null: thrown Misuse, 1 connected
 closes null: thrown Misuse, 1 connected
+connect 08006: abort, 2 connected
+connect 08000: abort, 2 connected
+connect 57P03: abort, 2 connected
+connect 28000: thrown as it was, 2 connected
 rollback 08006: abort, 2 connected, broken off
 """
 # How the log has them, each with a second transaction: those that are thrown have their outcome too, and a commit that is rolled back is so again.
-OUTCOMES = {'commit': 34, 'abort': 32, 'unknown': 10}
+OUTCOMES = {'commit': 38, 'abort': 36, 'unknown': 10}
 
 
 def compiled(folder):
@@ -75,6 +79,11 @@ def java(folder, *words, jar=None, cwd=None):
     how = ['-XX:+UseSerialGC', '-XX:TieredStopAtLevel=1', '-Dderby.locks.waitTimeout=5', '-Dderby.locks.deadlockTimeout=1', '-Dderby.stream.error.file=/dev/null']
     return subprocess.run(['java', *how, '-cp', path, *words], cwd=cwd or folder, stdin=subprocess.DEVNULL, stdout=subprocess.PIPE,
                           stderr=subprocess.PIPE, universal_newlines=True, timeout=LATE)
+
+
+def jar_of(command):
+    found = re.search(r'[^: ]+\.jar', command)
+    return found and found[0]
 
 
 class Checks:
@@ -99,6 +108,26 @@ class Checks:
             self.expect(got == right, 'answers: %s, wanted %s' % (got, right))
         counts = {name: len(re.findall('^%s$' % name, self.text(), re.M)) for name in ('commit', 'abort', 'unknown')}
         self.expect(counts == OUTCOMES, 'outcomes: %s' % counts)
+
+    def page(self):
+        """The whole test that docs/COLLECTING.md has, by its own lines."""
+        with open(os.path.join(TOP, 'docs', 'COLLECTING.md'), encoding='utf-8') as file:
+            section = re.search('^### A whole test by JDBC\n(.*?)^##', file.read(), re.M | re.S)[1]
+        text, at = re.search('^```java\n(.*?)^```', section, re.M | re.S)[1], os.path.join(self.folder, 'page')
+        os.mkdir(at)
+        for name in ('Recorder.java', 'Jdbc.java'):
+            shutil.copy(os.path.join(TOP, 'collect', name), at)
+        with open(os.path.join(at, re.search('class ([A-Za-z]+)', text)[1] + '.java'), 'w') as out:
+            out.write(text)
+        commands = re.findall(r'^    \$ (.*)\n((?:    [^$].*\n)*)', section, re.M)
+        self.expect([command.split()[0] for command, _ in commands] == ['javac', 'java', './run'], 'the page: %s' % commands)
+        for command, wanted in commands:
+            if jar_of(command) and not os.path.exists(jar_of(command)):
+                print('jdbc: note: the page is passed over, since %s is not installed' % jar_of(command))
+                return
+            ran = subprocess.run(command.replace('./run', self.program), shell=True, cwd=at, stdin=subprocess.DEVNULL, stdout=subprocess.PIPE, stderr=subprocess.PIPE,
+                                 universal_newlines=True, timeout=LATE)
+            self.expect(ran.returncode == 0 and ran.stdout == wanted.replace('    ', '') and not ran.stderr, 'the page: %s: %s' % (command, ran))
 
     def way(self, store, more, level, kept):
         jar, url = STORES[store]
@@ -125,6 +154,7 @@ def main():
         if shutil.which('javac') and shutil.which('java'):
             compiled(folder)
             checks.answers()
+            checks.page()
             for way in WAYS:
                 checks.way(*way)
         else:

@@ -89,7 +89,17 @@ def by_hand(checks):
         checks.expect(status == 65 and words in error, '%r: %d %s' % (log, status, error))
     os.makedirs(checks.path('nothing'))
     (status, told, error), _ = checks.mend(checks.path('nothing'))
-    checks.expect(status == 65 and 'no files of a recorder' in error, 'an empty folder: %d %s' % (status, error))
+    checks.expect(status == 65 and 'nothing had been written yet' in error, 'an empty folder: %d %s' % (status, error))
+    # the name that docs/COLLECTING.md has
+    left = checks.path('run.log.x8k2f1ab')
+    os.makedirs(left)
+    with open(os.path.join(left, '1'), 'w') as out:
+        out.write('session 1\nbegin\nw x 1001\n')
+    status, told, error = checks.call(sys.executable, MEND, left)
+    checks.expect(status == 0 and told.startswith(left + '.mended.log: ') and os.path.exists(left + '.mended.log'), "a folder's own name: %d %s%s" % (status, told, error))
+    for path in left + '.mended.log', left + '/1':
+        os.remove(path)
+    os.rmdir(left)
 
 
 def cut(dice, text):

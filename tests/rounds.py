@@ -550,6 +550,16 @@ def followed(checks):
     os.mkdir(copy)
     found, said, error = checks.follow(copy, '--once')
     checks.expect(found == 70 and 'there is no round' in error, 'no round: %d %s' % (found, error))
+    os.rmdir(copy)
+    found, said, error = checks.follow(copy, '--once')
+    checks.expect(found == 2 and 'no such folder' in error, 'no folder: %d %s' % (found, error))
+    words = [sys.executable, FOLLOW, copy, '--level', 'snapshot', '--program', checks.program]
+    waits = subprocess.Popen(words, stdin=subprocess.DEVNULL, stdout=subprocess.DEVNULL, stderr=subprocess.PIPE, universal_newlines=True)
+    checks.expect(waits.stderr.readline() == 'follow.py: %s is not there yet: it is waited for\n' % copy, 'a folder that is not there yet')
+    shutil.copytree(folder, copy + '.new')
+    os.rename(copy + '.new', copy)
+    error = waits.communicate(timeout=600)[1]
+    checks.expect(waits.returncode == 0 and not error, 'a folder that comes: %d %s' % (waits.returncode, error))
 
 
 def alongside(checks):

@@ -242,6 +242,8 @@ STORES = {
     'H2': (lambda: embedded('h2.jar', 'jdbc:h2:mem:stores;DB_CLOSE_DELAY=-1;LOCK_TIMEOUT=5000'), [
         Way('serializable', 'snapshot', 'serializable'), Way('serializable kill=20', 'snapshot'), Way('serializable moments=1', 'strict-snapshot'),
         Way('snapshot', 'snapshot', 'serializable'), Way('repeatable-read', 'snapshot', 'serializable'),
+        # it has a snapshot of each table, from when the transaction first uses it; the ways above have one table
+        Way('repeatable-read tables=2 keys=10', 'read-committed', 'monotonic-atomic-view'), Way('snapshot tables=2', 'snapshot', 'serializable'),
         Way('read-committed', 'monotonic-atomic-view', 'read-atomic'), Way('read-uncommitted', None, 'read-committed')]),
     'HSQLDB': (lambda: embedded('hsqldb.jar', 'jdbc:hsqldb:mem:stores'), [
         Way('serializable ;hsqldb.tx=locks', 'serializable', part=5), Way('serializable ;hsqldb.tx=mvlocks kill=20', 'serializable', part=5),

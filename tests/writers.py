@@ -4,13 +4,14 @@
 First the lines that docs/COLLECTING.md has for each are compiled and run. Then all get the same script of events, whose clock is part of it: sessions that begin, leave and come back, outcomes of each kind, odd
 keys, labels, writes that are refused, shares, files that are there already, and what a harness may do wrong. What comes of each event, the
 warnings, the logs and the labels must be the same, byte for byte. Then threads of each language use a small store at once, whose log PROGRAM must find to be
-serializable, and so must their rounds be, by tools/follow.py; labels must stand beside both, and be those of their transactions; and a log of which each language wrote a share must fit together. A language whose compiler is not installed is passed over,
+serializable, and so must their rounds be, by tools/follow.py; labels must stand beside both, and be those of their transactions; and a log of which each language wrote a share must fit together. Of a run that is
+killed what ended a second before must be there. A language whose compiler is not installed is passed over,
 with a line that says so. Last line: 'writers: N passed, M failed'.
 
 The events, one a line: open OUT all|none K N yes|no (N 0: no share; whether OUT may be replaced), clock N, name KEY, text UTF-16 KEY,
 session S, begin S [LABEL], read S KEY SEEN, before S KEY SEEN W, write S KEY W, refused S W, commit S, abort S, unknown S, leave S, close, load OUT
 THREADS TRANSACTIONS, rounds DIR THREADS TRANSACTIONS EVERY. A KEY is hexadecimal, or - for none, and so is a LABEL; SEEN is none, @W, or text: and hexadecimal."""
-import contextlib, io, os, random, re, shutil, subprocess, sys, tempfile
+import contextlib, glob, io, os, random, re, shutil, subprocess, sys, tempfile, time
 
 HERE = os.path.dirname(os.path.abspath(__file__))
 COLLECT, WRITERS = os.path.join(os.path.dirname(HERE), 'collect'), os.path.join(HERE, 'writers')
@@ -19,6 +20,8 @@ import reference, scripts
 from recorder import Misuse, Recorder, name_of
 
 SCRIPTS, EVENTS = 150, 60
+# Longer than a recorder holds what it is told.
+HELD = 1.2
 KEYS = [b'x', b'stock/7', b'', b' ', b'\xff', b'hex:ff', b'hex:', b'sha:', b'\xc3\xb6', b'k' * 64, b'k' * 65, b'\x00' * 30, b'\x00' * 31, b'x\n']
 TEXTS = ['x', 'ö', '\ud800', '\udfff x', '\U0001f600', 'a' * 40 + '\ud800']
 # What a store may give back, and what no value begins with.
@@ -302,6 +305,37 @@ class Checks:
         texts = [self.text(log) for log in logs]
         self.expect(any(b'\nunknown\n' in text for text in texts), '%s: rounds: no unknown outcome' % language)
 
+    def killed(self, language, words):
+        """What ended more than a second before is in the files of all clients, and so it is behind a kill."""
+        out = self.path('killed-%s.log' % language)
+        first = ['open %s none 0 0 no' % out, *map('session '.__add__, 'ab'), 'begin a', 'write a 78 1', 'commit a', 'begin b', 'write b 78 2', 'commit b']
+        then = ['begin a', 'write a 78 3', 'commit a']
+        left = lambda: {os.path.basename(path): self.text(path) for path in glob.glob(out + '.*/*')}
+        wanted = {'1': b'session 1\nbegin\nw x 1001\ncommit\nbegin\nw x 2001\ncommit\n', '2': b'session 2\nbegin\nw x 1002\ncommit\n'}
+        if words is None:
+            client = InPython()
+            list(client.told(first))
+            time.sleep(HELD)
+            list(client.told(then))
+        else:
+            client = subprocess.Popen(words, stdin=subprocess.PIPE, stdout=subprocess.DEVNULL)
+            for lines in first, then:
+                client.stdin.write(''.join(line + '\n' for line in lines).encode())
+                client.stdin.flush()
+                # it begins, and does the first lines
+                late = time.monotonic() + 60
+                while lines is first and not glob.glob(out + '.*') and time.monotonic() < late:
+                    time.sleep(0.05)
+                time.sleep(HELD)
+            while left() != wanted and time.monotonic() < late:
+                time.sleep(0.05)
+            client.kill()
+            client.wait()
+        self.expect(left() == wanted, '%s: killed: %s' % (language, left()))
+        if words is None:
+            with contextlib.redirect_stderr(io.StringIO()):
+                client.run.close()
+
     def shares(self, started):
         """One log, of which each language writes a share."""
         logs, out = [], self.path('joined.log')
@@ -331,6 +365,8 @@ def main():
             checks.compare(language, words)
             checks.load(language, words)
             checks.rounds(language, words)
+            checks.killed(language, words)
+        checks.killed('Python', None)
         checks.shares(started)
     print('writers: %d passed, %d failed' % (checks.passed, checks.failed))
     return 1 if checks.failed else 0

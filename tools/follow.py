@@ -1,7 +1,7 @@
 #!/usr/bin/env python3
 """follow.py DIR --level LEVEL [-- WORDS]: judges the rounds of a run, each as it comes.
 
-DIR is the folder of a recorder's rounds (docs/COLLECTING.md). Each round goes through `audit --level LEVEL WORDS`, and a line tells what is
+DIR is the folder of a recorder's rounds (docs/COLLECTING.md); it is waited for, if it is not there yet. Each round goes through `audit --level LEVEL WORDS`, and a line tells what is
 said of it. At the first round that does not keep the level it tells why, keeps that round and the ones beside it, and ends. The whole run
 keeps the level exactly if each round does. That takes for granted what is checked here as well: what a round is, that each begins with
 what the one before it left, that no identity was written twice, and at strict levels that no transaction of a round ended before one of
@@ -235,7 +235,14 @@ class Follower:
     def path(self, number):
         return os.path.join(self.given.folder, '%06d.log' % number if isinstance(number, int) else number)
 
+    def await_folder(self):
+        if not os.path.isdir(self.given.folder):
+            scripts.say('%s is not there yet: it is waited for' % self.given.folder)
+        while not os.path.isdir(self.given.folder):
+            time.sleep(PAUSE)
+
     def follow(self):
+        self.await_folder()
         waiting = collections.deque()
         with concurrent.futures.ThreadPoolExecutor(self.given.workers) as pool:
             for number, path in self.rounds():
@@ -249,7 +256,7 @@ class Follower:
             while waiting:
                 self.tell(*waiting.popleft(), len(waiting))
         if self.has_died() and not self.given.once and not os.path.exists(self.path('end')):
-            raise Stop('the recorder of %s died or gave up, and this is judged up to round %06d: tools/mend.py makes a log of what is behind it' % (
+            raise Stop('the recorder of %s died or gave up, and this is judged up to round %06d: mend.py makes a log of what is behind it' % (
                 self.given.folder, self.judged))
         if not self.judged:
             raise Stop('there is no round in %s' % self.given.folder)
@@ -318,7 +325,7 @@ def parse():
     parser.add_argument('--once', action='store_true', help='judge what is there, and wait for no more')
     parser.add_argument('--clients', type=int, default=1000, metavar='N',
                         help="identities are counts times N plus a client's number; of K processes 1000 times K: %(default)s")
-    parser.add_argument('--program', default=scripts.RUN, help="the program; this repository's ./run, where absent")
+    parser.add_argument('--program', default=scripts.RUN, help='the program: %(default)s')
     cut = sys.argv.index('--') if '--' in sys.argv else len(sys.argv)
     given = parser.parse_args(sys.argv[1:cut])
     given.words = sys.argv[cut + 1:]
@@ -327,7 +334,7 @@ def parse():
             given.level, ', '.join(LEVELS)))
     if min(given.workers, given.clients) < 1:
         parser.error('a number is too small')
-    if not os.path.isdir(given.folder):
+    if not os.path.isdir(given.folder) and (given.once or os.path.exists(given.folder)):
         parser.error('%s: there is no such folder' % given.folder)
     return given
 

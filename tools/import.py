@@ -659,9 +659,6 @@ def tell(history):
     say('%d transactions in %d sessions: %s' % (len(outcomes), len(history.sessions), counts))
     for note in notes(history):
         say(note)
-    if history.invented:
-        say('appends to lists that their transactions did not read: %d, the first in line %d; the log has a read before each, which is right at '
-            'snapshot and above, and the levels below need --blind' % (len(history.invented), min(line for *_, line in history.invented)))
     renamed = [(name, edn(key)) for key, name in history.names.items() if name.startswith('key:')]
     for name, key in renamed[:10]:
         say('%s is the key %s' % (name, key))
@@ -679,6 +676,13 @@ def advise_initial(history):
     if type(value) is int and is_only_one and not is_written:
         say('reads of %d, which no transaction wrote: %d, the first in line %d; if each register held %d before the run, take --initial %d'
             % (value, len(history.unwritten), line, value, value))
+
+
+def advise_blind(history):
+    """Tells last at which levels the log may be judged, if it has reads that no transaction made."""
+    if history.invented:
+        say("appends to lists that their transactions did not read: %d, the first in line %d; the log has a read before each, so 'not kept' of a "
+            'level below snapshot may be wrong: for these levels import with --blind' % (len(history.invented), min(line for *_, line in history.invented)))
 
 
 def write(history, lists, given):
@@ -736,6 +740,7 @@ def main():
         tell(history)
         if given.initial is None:
             advise_initial(history)
+        advise_blind(history)
     except Unreadable as wrong:
         stop(UNREADABLE, '%s:%d: %s' % (given.history, wrong.line, wrong))
     except OSError as wrong:

@@ -4,7 +4,7 @@
 LOG is such a log, or the folder that a recorder left which was not closed: beside its log, or of rounds the one of the last round. What
 cannot be read is left out, a transaction without an end is unknown, and an identity that was read and that nobody wrote is written by a new
 transaction of unknown outcome: nobody knows who wrote it, and a store that did nothing wrong is not refused for it. It prints what it did.
-OUT is LOG with `.mended.log` in the place of its end, where it is not said. For `audit` the mended log is a log.
+OUT is LOG with `.mended.log` in the place of `.log` or `.part`, or behind it, where it is not said. For `audit` the mended log is a log.
 
 Statuses: 0, the log was written; 65, it cannot be mended; 70, a file cannot be read or written, or may not be replaced."""
 import argparse, os, re, sys

@@ -624,7 +624,7 @@ def main():
     words.add_argument('--level', help='draws why the log does not keep this level, as audit --level has it: snapshot, serializable, ..')
     words.add_argument('--unit', choices=UNITS, help='what the moments of the log count: us of the recorder, ns of an imported history of Jepsen')
     words.add_argument('--explained', help='a file with what explain says of the log; the program is asked why, where absent')
-    words.add_argument('--program', help="the program; this repository's ./run, where absent")
+    words.add_argument('--program', default=scripts.RUN, help='the program: %(default)s')
     given = words.parse_args()
     if given.level and given.explained:
         words.error('--explained is what explain says without a level')

@@ -22,7 +22,13 @@ public final class Answers {
         calls.clear();
         String outcome;
         int[] connected = {0};
-        try (Jdbc client = new Jdbc(run, () -> failing(name, connected[0]++ == 0 ? fault : null, isClosed && connected[0] == 1))) {
+        Jdbc.Connecting connecting = () -> {
+            boolean isFirst = connected[0]++ == 0;
+            if (isFirst && name.equals("connect"))
+                throw (SQLException) fault;
+            return failing(name, isFirst ? fault : null, isFirst && isClosed);
+        };
+        try (Jdbc client = new Jdbc(run, connecting)) {
             try {
                 outcome = client.transaction(body);
             } catch (SQLException | RuntimeException | Error thrown) {
@@ -72,6 +78,8 @@ public final class Answers {
             ask(run, "aborts", null, false, (connection, txn) -> txn.abort());
             ask(run, "commits", null, false, (connection, txn) -> connection.commit());
             ask(run, "closes", null, false, (connection, txn) -> connection.close());
+            for (String state : Arrays.asList("08006", "08000", "57P03", "28000"))
+                ask(run, "connect", new SQLException("made", state), false, writes);
             ask(run, "rollback", new SQLException("made", "08006"), false, (connection, txn) -> txn.abort());
         }
     }

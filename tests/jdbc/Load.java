@@ -5,12 +5,19 @@ import java.util.concurrent.atomic.AtomicInteger;
 
 /**
  * Load URL LEVEL OUT NAME=VALUE..: random transactions of clients that run at once, by JDBC, and their log. LEVEL is serializable, snapshot (H2 alone), repeatable-read, read-committed or read-uncommitted; of the names sessions, transactions,
- * keys, pause (milliseconds), seed, moments (all), kill (so many transactions to one whose connection is broken off) and scan (a share of 100 that
- * read all keys in one statement). One connection stays open, so that a store in memory stays.
+ * keys, tables (into which they are dealt), pause (milliseconds), seed, moments (all), kill (so many transactions to one whose connection is
+ * broken off) and scan (a share of 100 that read all keys, each table in one statement). One connection stays open, so that a store in memory stays.
  */
 public final class Load {
     private static final List<String> LEVELS = Arrays.asList("read-uncommitted", "read-committed", "repeatable-read", "serializable");
     private static final int[] NUMBERS = {1, 2, 4, 8};
+
+    private static int tables;
+
+    /** The table in which a key has its row. */
+    private static String table(int key) {
+        return "stock" + key % tables;
+    }
 
     static Connection connect(String url, String level) throws SQLException {
         Connection connection = DriverManager.getConnection(url);
@@ -24,7 +31,7 @@ public final class Load {
     }
 
     private static void read(Connection connection, Recorder.Transaction txn, int key) throws SQLException {
-        try (PreparedStatement ask = connection.prepareStatement("SELECT wid FROM stock WHERE item = ?")) {
+        try (PreparedStatement ask = connection.prepareStatement("SELECT wid FROM " + table(key) + " WHERE item = ?")) {
             ask.setInt(1, key);
             try (ResultSet row = ask.executeQuery()) {
                 // H2 at READ UNCOMMITTED may find no row while another client changes it
@@ -34,16 +41,18 @@ public final class Load {
         }
     }
 
-    /** All keys by one statement: each has its read, in the order in which the store gives them. */
+    /** All keys of a table by one statement: each has its read, in the order in which the store gives them. */
     private static void scan(Connection connection, Recorder.Transaction txn) throws SQLException {
-        try (Statement ask = connection.createStatement(); ResultSet row = ask.executeQuery("SELECT item, wid FROM stock")) {
-            while (row.next())
-                txn.read("k" + row.getInt(1), row.getLong(2));
+        for (int number = 0; number < tables; number++) {
+            try (Statement ask = connection.createStatement(); ResultSet row = ask.executeQuery("SELECT item, wid FROM " + table(number))) {
+                while (row.next())
+                    txn.read("k" + row.getInt(1), row.getLong(2));
+            }
         }
     }
 
     private static void write(Connection connection, Recorder.Transaction txn, int key) throws SQLException {
-        try (PreparedStatement set = connection.prepareStatement("UPDATE stock SET wid = ? WHERE item = ?")) {
+        try (PreparedStatement set = connection.prepareStatement("UPDATE " + table(key) + " SET wid = ? WHERE item = ?")) {
             set.setLong(1, txn.write("k" + key));
             set.setInt(2, key);
             set.executeUpdate();
@@ -80,18 +89,20 @@ public final class Load {
     public static void main(String[] words) throws Exception {
         String url = words[0], level = words[1];
         Map<String, Integer> how = new HashMap<>();
-        for (String it : "sessions=8 transactions=400 keys=20 pause=1 seed=1 moments=0 kill=0 scan=0".split(" "))
+        for (String it : "sessions=8 transactions=400 keys=20 pause=1 seed=1 moments=0 kill=0 scan=0 tables=1".split(" "))
             how.put(it.split("=")[0], Integer.parseInt(it.split("=")[1]));
         for (String it : Arrays.copyOfRange(words, 3, words.length))
             how.put(it.split("=")[0], Integer.parseInt(it.split("=")[1]));
+        tables = how.get("tables");
         Recorder.Options options = new Recorder.Options().overwrite();
         if (how.get("moments") == 1)
             options.moments();
         try (Connection first = DriverManager.getConnection(url); Recorder run = new Recorder(words[2], options)) {
             try (Statement statement = first.createStatement()) {
-                statement.execute("CREATE TABLE stock (item INT PRIMARY KEY, wid BIGINT)");
+                for (int number = 0; number < tables; number++)
+                    statement.execute("CREATE TABLE " + table(number) + " (item INT PRIMARY KEY, wid BIGINT)");
                 for (int key = 0; key < how.get("keys"); key++)
-                    statement.execute("INSERT INTO stock VALUES (" + key + ", 0)");
+                    statement.execute("INSERT INTO " + table(key) + " VALUES (" + key + ", 0)");
             }
             AtomicInteger turns = new AtomicInteger();
             ExecutorService pool = Executors.newFixedThreadPool(how.get("sessions"));
@@ -113,7 +124,8 @@ public final class Load {
                 last.transaction(Load::scan);
             }
             try (Statement statement = first.createStatement()) {
-                statement.execute("DROP TABLE stock");
+                for (int number = 0; number < tables; number++)
+                    statement.execute("DROP TABLE " + table(number));
             }
         }
         System.exit(0);
