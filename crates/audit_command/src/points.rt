@@ -11,6 +11,7 @@ ghost use Rattle.session_log.specs.Version.{first_line};
 ghost use Rattle.judging.specs.Made.{IsMadeOf};
 ghost use Rattle.audit_command.specs.Why.{anomaly_name};
 ghost use Rattle.point_refutations.specs.Refuted.{is_refuted};
+ghost use Rattle.tell_points.specs.Told.{name_line};
 ghost use Rattle.audit_command.specs.Points as spec;
 
 use crate::explaining::{Explained, MANY_LINES, explain_serial, owned, places_of};
@@ -45,7 +46,7 @@ const ALLOWED: &[u8] = b"(G2-";
 /// Appends the line of a name, where there is one.
 fn put_name(text: &mut Vec<u8>, name: Option<&'static str>) -> Result<(), AllocError>
     ensures put { OnOk result (text.new.items
-        ≡ text.old.items ++ spec.name_line (option_copied name.entry)) }
+        ≡ text.old.items ++ name_line (option_copied name.entry)) }
 {
     match name {
         None => Ok(()),

@@ -148,18 +148,24 @@ impl<'a, 'b> Telling<'a, 'b> {
     }
 }
 
+/// Whether one of the steps with these numbers rests on another one.
+fn one_rests_on(steps: &[Step<'_>], numbers: &[usize], step: usize) -> bool {
+    numbers.iter().any(|number| match steps.get(*number) {
+        Some(it) => it.way.rests_on(step),
+        None => false,
+    })
+}
+
 /// The steps on which an ending rests, and those on which these rest in turn.
-fn needed_by<'a>(
+fn needed_by(
     alloc: Global,
-    steps: &[Step<'a>],
-    ending: &Ending<'a>,
+    steps: &[Step<'_>],
+    ending: &Ending<'_>,
 ) -> Result<Vec<usize>, AllocError> {
     let mut needed: Vec<usize> = Vec::new(alloc);
-    let mut later: Vec<&Step<'a>> = Vec::new(alloc);
-    for (number, step) in steps.iter().enumerate().rev() {
-        if ending.rests_on(number) || later.iter().any(|it| it.way.rests_on(number)) {
+    for number in (0..steps.len()).rev() {
+        if ending.rests_on(number) || one_rests_on(steps, &needed, number) {
             needed.push(number)?;
-            later.push(step)?;
         }
     }
     needed.reverse();

@@ -7,9 +7,9 @@
 
 mod lines;
 mod names;
-mod reasons;
 mod short;
 mod telling;
+mod whys;
 
 pub use names::refutation_name;
 pub use telling::refutation_text;

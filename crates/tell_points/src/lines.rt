@@ -5,7 +5,7 @@ ghost use Rattle.session_log.specs.Text.{view};
 ghost use Rattle.log_lines.specs.Rows.{rows_of};
 ghost use Rattle.tell_points.specs.Lines as spec;
 
-use crate::reasons::{number_of, put_reason};
+use crate::whys::{number_of, put_reason};
 use level_refutations::TxnAt;
 use point_refutations::{Against, Both, Edge, Overwritten, PointAt, Step, edge_from, edge_to};
 use std::alloc::AllocError;

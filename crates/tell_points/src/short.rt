@@ -6,7 +6,7 @@ ghost use Rattle.log_lines.specs.Rows.{rows_of};
 ghost use Rattle.point_refutations.specs.Edges.{is_missed};
 ghost use Rattle.tell_points.specs.Short as spec;
 
-use crate::reasons::number_of;
+use crate::whys::number_of;
 use level_refutations::{OpAt, TxnAt};
 use point_refutations::{
     Against, Both, Edge, Ending, Missed, Overwritten, Since, Step, Why, is_same_read,
