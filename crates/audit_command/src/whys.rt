@@ -12,7 +12,7 @@ ghost use Rattle.audit_command.specs.Why.{read_name, anomaly_name};
 
 use crate::explaining::{Explained, explain_serial, owned, searched};
 use crate::overlooked::explain_below;
-use crate::points::explain_snapshot;
+use crate::snapshots::explain_snapshot;
 use deciding::Means;
 use judging::{Finding, JudgeMeans, Level, RefutedPart};
 use session_history::{Anomaly, ReadAnomaly};

@@ -3,7 +3,7 @@ use Rattle.session_log.specs.Text.{view}
 use Rattle.session_log.specs.Version.{first_line}
 use Rattle.audit_command.specs.Points.{IsSearchTold, search_text}
 use Rattle.audit_command.proofs.Allowed.{forbidden_name}
-use Rattle.audit_command.proofs.points.explain_search.Goals as goal
+use Rattle.audit_command.proofs.snapshots.explain_search.Goals as goal
 
 pub returns : goal.returns
 returns g c =

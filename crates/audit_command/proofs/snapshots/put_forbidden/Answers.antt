@@ -1,7 +1,7 @@
 use Rattle.std.proofs.Common.{length, sym, ◌∙◌}
 use Rattle.std.proofs.lemmas.Bool.{eqb-true}
 use Rattle.audit_command.proofs.Allowed.{nothing_left}
-use Rattle.audit_command.proofs.points.put_forbidden.Goals as goal
+use Rattle.audit_command.proofs.snapshots.put_forbidden.Goals as goal
 
 pub returns : goal.returns
 returns c =

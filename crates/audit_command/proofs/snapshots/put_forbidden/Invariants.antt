@@ -1,7 +1,7 @@
 use Rattle.std.proofs.Common.{◌≡◌, ℕ, ◌++◌, length}
 use Rattle.session_log.specs.Lines.{lines}
 use Rattle.audit_command.specs.Points.{forbidden_in}
-use Rattle.audit_command.proofs.points.put_forbidden.Given as goal
+use Rattle.audit_command.proofs.snapshots.put_forbidden.Given as goal
 
 abbrev pub invariant-loop-rest : goal.invariant-loop-rest
 invariant-loop-rest l = l.out.items ++ forbidden_in (lines l.rest) ≡ l.initial.out.items ++ forbidden_in (lines l.text)

@@ -3,7 +3,7 @@ use Rattle.session_log.specs.Text.{view}
 use Rattle.log_lines.specs.Rows.{rows_of}
 use Rattle.tell_points.specs.Names.{refutation_name}
 use Rattle.tell_points.specs.Told.{refutation_text}
-use Rattle.audit_command.proofs.points.tell_refutation.Goals as goal
+use Rattle.audit_command.proofs.snapshots.tell_refutation.Goals as goal
 
 pub returns : goal.returns
 returns c =

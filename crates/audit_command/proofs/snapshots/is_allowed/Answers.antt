@@ -3,7 +3,7 @@ use Rattle.std.specs.Bool.{nat_eq}
 use Rattle.std.specs.List.{starts_with}
 use Rattle.std.proofs.lemmas.List.{take_rest}
 use Rattle.audit_command.proofs.Allowed.{allowed_behind}
-use Rattle.audit_command.proofs.points.is_allowed.Goals as goal
+use Rattle.audit_command.proofs.snapshots.is_allowed.Goals as goal
 
 pub loop-i-preserved : goal.loop-i-preserved
 loop-i-preserved c =
