@@ -169,7 +169,7 @@ class Answer:
         weakest = next((level for level in reversed(LADDER) if self.weaker.get(level) == 'not kept'), None)
         self.weakest = self.last_part(middle, weakest)
         self.shown = self.last_part(middle, SNAPSHOT)
-        shows = ', as %s' % ('shown below' if self.shown is None else 'the last part shows')
+        shows = ', as %s' % ('shown below' if self.shown is None else 'a part below shows')
         for line in lines:
             must(line[3] == (shows if line.group(1, 2) == (SNAPSHOT, 'not kept') else None), 'what shows it: %r' % line[0])
         told, ladder = list(self.weaker), [level for level in self.weaker if level in LADDER]
