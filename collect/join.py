@@ -170,7 +170,7 @@ class Joined:
         if self.given:
             yield 'identities that were read and that nobody wrote, given to unknown transactions: %d: %s' % (len(self.given), some(self.given))
         if not (self.left_out or self.ended or self.given):
-            yield 'nothing was missing'
+            yield 'nothing is seen to be missing'
 
     def stands_once(self, seen, line, path, number):
         word = line.rpartition(b' ')[2]

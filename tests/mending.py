@@ -30,7 +30,7 @@ runpy.run_path(sys.argv[0], run_name='__main__')
 '''
 # A log that is not complete, the mended one, and what is said.
 BY_HAND = [
-    ('complete', 'log 3\nsession 1\nbegin\nw x 1\ncommit\n', 'log 3\nsession 1\nbegin\nw x 1\ncommit\n', 'nothing was missing'),
+    ('complete', 'log 3\nsession 1\nbegin\nw x 1\ncommit\n', 'log 3\nsession 1\nbegin\nw x 1\ncommit\n', 'nothing is seen to be missing'),
     ('no end of a transaction', 'log 3\nsession 1\nbegin 5\nw x 1\n', 'log 3\nsession 1\nbegin 5\nw x 1\nunknown\n', 'unknown now: 1: 1.1'),
     ('no end of a line', 'log 3\nsession 1\nbegin\nw x 1\nw y 2', 'log 3\nsession 1\nbegin\nw x 1\nunknown\n', 'left out: 1'),
     ('no end of a commit', 'log 3\nsession 1\nbegin 3\nw x 1\ncommit 4', 'log 3\nsession 1\nbegin 3\nw x 1\nunknown\n', 'unknown now: 1: 1.1'),
