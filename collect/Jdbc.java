@@ -98,11 +98,12 @@ public final class Jdbc implements AutoCloseable {
                 txn.abort();
         } catch (Throwable fault) {
             // no commit was sent
+            boolean isToBeExpected = isToBeExpected(fault);
             if (connection != null)
                 rollBack();
             if (txn.outcome() == null)
                 txn.abort();
-            if (fault instanceof SQLException && isExpected((SQLException) fault))
+            if (isToBeExpected)
                 return txn.outcome();
             throw fault;
         }
@@ -115,7 +116,13 @@ public final class Jdbc implements AutoCloseable {
 
     private void connect() throws SQLException {
         Connection its = connecting.connect();
-        its.setAutoCommit(false);
+        try {
+            its.setAutoCommit(false);
+        } catch (SQLException fault) {
+            boolean isGone = its.isClosed();
+            its.close();
+            throw isGone ? new SQLException("the connection was closed as it was made", "08003", fault) : fault;
+        }
         connection = its;
         watched = (Connection) watched(its, Connection.class);
     }
@@ -124,19 +131,24 @@ public final class Jdbc implements AutoCloseable {
         try {
             connection.commit();
         } catch (Throwable fault) {
-            boolean isSql = fault instanceof SQLException;
-            if (isSql && isRolledBack((SQLException) fault)) {
+            if (fault instanceof SQLException && isRolledBack((SQLException) fault)) {
                 txn.abort();
                 rollBack();
                 return;
             }
+            boolean isToBeExpected = isToBeExpected(fault);
             txn.unknown();
             drop();
-            if (isSql && isExpected((SQLException) fault))
+            if (isToBeExpected)
                 return;
             throw fault;
         }
         txn.commit();
+    }
+
+    /** Whether an exception is to be expected by its codes, or since the connection is gone: MariaDB's driver has no code for that. */
+    private boolean isToBeExpected(Throwable fault) throws SQLException {
+        return fault instanceof SQLException && (isExpected((SQLException) fault) || connection != null && connection.isClosed());
     }
 
     /** The same object of a driver, which takes note of what fails, and leaves to this class what is its own. */

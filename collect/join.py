@@ -12,6 +12,8 @@ Statuses: 0, the log was written; 65, the logs do not fit together; 70, a file c
 import argparse, os, re, sys, tempfile
 from recorder import holds_something
 
+# How files begin that were compressed, and by what.
+COMPRESSED = {b'\xfd7zXZ\0': 'xz', b'\x1f\x8b': 'gzip', b'\x28\xb5\x2f\xfd': 'zstd', b'BZh': 'bzip2'}
 DOES_NOT_FIT, AROUND, MOST = 65, 70, 2 ** 64 - 1
 ENDS = re.compile(rb'(commit|abort|unknown)\b')
 TWICE = {b'w': ('the identity', 'have all processes the same N, and each a K of its own?'),
@@ -52,6 +54,11 @@ def kept_apart(path):
     return wids
 
 
+def compressed_by(line):
+    """The program that compressed what begins with this line, if one did."""
+    return next((program for first, program in COMPRESSED.items() if line.startswith(first)), None)
+
+
 def version_of(path):
     """The first line of a log where it says the version, else nothing."""
     if os.path.isdir(path):
@@ -60,6 +67,8 @@ def version_of(path):
         line = log.readline()
     if not line:
         raise Stop('%s: it is empty, and no log' % path)
+    if compressed_by(line):
+        raise Stop('%s: it is compressed by %s: %s -dc %s writes it as it was' % (path, *[compressed_by(line)] * 2, path))
     if not re.match(rb'log [23]\n|session [0-9]+\n', line):
         raise Stop('%s:1: a log begins with a version, or with a session, and not with %r' % (path, line[:40]))
     return line if line.startswith(b'log ') else b''

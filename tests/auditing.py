@@ -172,6 +172,16 @@ def blind_log(count, sessions=1, keys=1, key='x', outcome='commit', moments=Fals
     return ''.join(line + '\n' for line in lines).encode()
 
 
+def hot_key(count, moments=False):
+    """So many writers of a key and as many readers, each in a session of its own."""
+    begin, commit = ('begin 0', 'commit 9') if moments else ('begin', 'commit')
+    lines = ['log 3'] if moments else []
+    for n in range(1, count + 1):
+        for turn, op in enumerate('wr'):
+            lines += ['session %d' % (2 * n + turn), begin, '%s x %d' % (op, n), commit]
+    return ''.join(line + '\n' for line in lines).encode()
+
+
 def at_once(count):
     """As many writers of a key, all of them at once."""
     return re.sub(b'begin [0-9]+', b'begin 0', re.sub(b'commit [0-9]+', b'commit 9', blind_log(count, moments=True)))
@@ -206,6 +216,9 @@ OPEN_END = b'log 3\nsession 1\nbegin 0\nw a 1000000\ncommit\n' + blind_log(1200,
 
 UNKNOWN = b'session 2\nbegin\nw y 9999\nunknown\nsession 3\nbegin\nr y 9999\nabort\nsession 4\nbegin\nr y 9999\ncommit\n'
 READ_TWICE = b'session 2\nbegin\nr x0 2\nr x0 1\ncommit\n'
+# Who writes 900001 comes first by its identity, but is read behind 900002.
+WRONG_GUESS = (b'session 5001\nbegin\nw s 900001\ncommit\nsession 5002\nbegin\nw s 900002\ncommit\n'
+               b'session 5003\nbegin\nr s 900002\ncommit\nbegin\nr s 900001\ncommit\n')
 NOT_WRITTEN = b'session 3000\nbegin\nr x0 999999\ncommit\n'
 
 # Of a log: words, the first line, and what stands in a line between that and the counts.
@@ -236,7 +249,11 @@ ANSWERED = [
     ('all at once, read twice', at_once(448) + READ_TWICE, [], 'not serializable', []),
     ('an early transaction without an end', OPEN_END, [], 'serializable', []),
     ('1,024 sessions at once', blind_log(2048, 1024, 5), [], 'serializable', []),
-    ('1,025 sessions at once', blind_log(2050, 1025, 5), [], 'unknown: more than 1024 sessions at once', []),
+    ('1,025 sessions at once', blind_log(2050, 1025, 5), [], 'serializable', []),
+    ('1,025 sessions at once, and a guess that is wrong', blind_log(2050, 1025, 5) + WRONG_GUESS, [], 'unknown: more than 1024 sessions at once', []),
+    ('64 sessions at once, and a guess that is wrong', blind_log(128, 64, 5) + WRONG_GUESS, [], 'serializable', []),
+    ('60,000 sessions that write and read a key', hot_key(30000), [], 'serializable', []),
+    ('60,000 sessions that write and read a key, all at once', hot_key(30000, moments=True), [], 'serializable', []),
     ('1,025 sessions at once, and a read of nothing', blind_log(2050, 1025, 5) + NOT_WRITTEN, [], 'not serializable',
      ['shown by 1 transactions: A1']),
     ('a circle of 64 sessions', circle(64), [], 'not serializable', ['shown by 64 transactions: A8']),
@@ -254,6 +271,7 @@ REFUSED = [
     (gzip.compress(b'session 1\n'), 1, 'L1', 'compressed by gzip'),
     (bz2.compress(b'session 1\n'), 1, 'L1', 'compressed by bzip2'),
     (lzma.compress(b'session 1\n'), 1, 'L1', 'compressed by xz'),
+    (b'\x28\xb5\x2f\xfd\x04\x58\x51\x00\x00session 1\n', 1, 'L1', 'compressed by zstd'),
     (b'session 1\n\n', 2, 'L1', 'empty line'),
     (b'session 1\n# begin\n', 2, 'L1', 'comment'),
     (b'session 1\nbegin\nr\tx 0\n', 3, 'L1', 'tab'),

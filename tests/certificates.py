@@ -98,6 +98,9 @@ HINTS = {'A1': 'check first: does the log have each write of all clients, under 
 SERIAL_APART = 'these have a serial order if the order of sessions does not count; of the rest of the log this says nothing'
 # What is said where a log has an order without its moments, and none with them.
 TIME_ALONE = ['only real time was broken: the whole log has a serial order, but none in the order of its moments', 'check first: do the clients share a clock?']
+# What is said of a store where no level was named: whether the log has an order without its moments, or keeps a weaker level.
+NO_BLAME = {True: 'a store that promises no strict level did nothing wrong: name its level by --level',
+            False: 'a store that promises no more than that did nothing wrong: name its level by --level'}
 # What stands before what holds without moments, and before a last part, which breaks a weaker level.
 WITHOUT, WHY_NOT = 'without real time: ', 'why %s was not kept:'
 
@@ -154,10 +157,10 @@ class Answer:
 
     def below(self, middle):
         """Takes what holds without moments, the lines of weaker levels, and the part that breaks the weakest one, from the ends of these."""
-        if middle[:2] == TIME_ALONE:
+        if middle[:len(TIME_ALONE)] == TIME_ALONE:
             self.without = 'serializable'
             must(self.verdict == 'not serializable', 'told of %r: %r' % (self.verdict, TIME_ALONE))
-            del middle[:2]
+            del middle[:len(TIME_ALONE)]
         elif middle and middle[0].startswith(WITHOUT):
             self.without = middle.pop(0)[len(WITHOUT):]
             must(self.without in STATUS and self.without != 'refused', 'without moments %r' % self.without)
@@ -166,6 +169,9 @@ class Answer:
         lines = list(itertools.takewhile(bool, lines))
         self.weaker = {line[1]: line[2] for line in lines}
         del middle[:len(lines)]
+        is_kept = self.without == 'serializable' or 'kept' in self.weaker.values()
+        said = [middle.pop(0)] if middle and middle[0] in NO_BLAME.values() else []
+        must(said == ([NO_BLAME[self.without == 'serializable']] if is_kept else []), 'of the store that keeps %r: %r' % (self.weaker, said))
         weakest = next((level for level in reversed(LADDER) if self.weaker.get(level) == 'not kept'), None)
         self.weakest = self.last_part(middle, weakest)
         self.shown = self.last_part(middle, SNAPSHOT)

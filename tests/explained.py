@@ -72,7 +72,7 @@ WANTED += ['A9 known as: ' + name for name in
            ('cycle with one missed write (G-single)', 'cycle with one missed write and sessions (G-single-process)',
             'cycle of writes and real time (G0-realtime)', 'a read from the future (G1c-process)', 'read skew (G-single)',
             'read skew by way of sessions (G-single-process)', 'a session misses its own write (G-single-process)',
-            'write skew (G2-item)', 'write skew by way of sessions (G2-item-process)', 'cycle of missed writes (G2-item)',
+            'write skew (G2-item)', 'write skew by way of sessions (G2-item-process)', 'write skew in a ring (G2-item)',
             'long fork by way of sessions (G-nonadjacent-item-process)')]
 WANTED += ['%s with%s crossed reads' % (what, out) for what in ('tree', 'A9') for out in ('', 'out')]
 WANTED += ['tree with steps', 'a cycle with 2 decided orders', 'a cycle with a step and a decided order', 'an order of 2 decided above', 'graph']
@@ -213,14 +213,16 @@ class Log:
             return by_order('write cycle (G0)', 'cycle of writes and sessions (G0-process)', 'cycle of writes and real time (G0-realtime)')
         if not missed:
             return 'session order against real time'
-        if missed == 1 and 'order of writes' in kinds:
+        if missed == 1 and ('order of writes' in kinds or len(kinds) > 2):
             return 'cycle with one missed write' + by_order(' (G-single)', ' and sessions (G-single-process)', ' and real time (G-single-realtime)')
-        if missed == 1 and len(kinds) == 2 and 'read' not in kinds:
+        if missed == 1 and 'read' not in kinds:
             return by_order(None, 'a session misses its own write (G-single-process)', 'stale read (G-single-realtime)')
         if missed == 1:
             return 'read skew' + by_order(' (G-single)', ' by way of sessions (G-single-process)', ' by way of real time (G-single-realtime)')
         if len(kinds) == 2:
             return 'write skew' + by_order(' (G2-item)', ' by way of sessions (G2-item-process)', ' by way of real time (G2-item-realtime)')
+        if missed == len(kinds):
+            return 'write skew in a ring' + by_order(' (G2-item)', ' by way of sessions (G2-item-process)', ' by way of real time (G2-item-realtime)')
         if are_apart:
             return 'long fork' + by_order(' (G-nonadjacent-item)', ' by way of sessions (G-nonadjacent-item-process)',
                                           ' by way of real time (G-nonadjacent-item-realtime)')

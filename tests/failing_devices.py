@@ -77,6 +77,7 @@ MODELS = {'two_writers.log': b's SATISFIABLE\nv 1 -2 3 0\n', 'two_chains.log': b
           'overlap_in_time.log': b's SATISFIABLE\n'}
 CHECKED = ('forced_choices.log', 'forced_cycle.log', 'crossed_readers.log', 'lost_update.log', 'unknown_chain.log', 'stale_in_time.log')
 REFUTED, PROOF = 'forced_cycle.log', b'0\n'
+DRAWN = {'shop.log': 'snapshot', 'stale_in_time.log': 'strict-serializable'}
 EXPLAINED = {'crossed_readers.log': 'text', 'forced_cycle.log': 'dot', 'unknown_read.log': 'text'}
 # Commands that tell by name what cannot be read or written, and of each fault the words behind that name.
 LONG = 'audit', 'split'
@@ -127,7 +128,8 @@ class Sweeps:
         return 5, written.encode(), (line + '\n').encode()
 
     def failing_reads(self, words, whole, means='READ_FAILS'):
-        fault = self.unread(words, FAULTS[means]) if words[0] in LONG else INPUT
+        # `explain --level` reads a log as `audit` does
+        fault = self.unread(words, FAULTS[means]) if words[0] in LONG or '--level' in words else INPUT
         for n in range(1, MOST):
             got, met = self.run(words, **{means: n})
             self.count(got == (fault if met else whole), words, '%s %d' % (means, n), got)
@@ -198,6 +200,9 @@ def calls(folder, names):
     for name in EXPLAINED:
         if name in names:
             yield ['explain', '--workers', '1', '--format', EXPLAINED[name], os.path.join(generate.EXAMPLES, name)]
+    for name, level in DRAWN.items():
+        if name in names:
+            yield ['explain', '--workers', '1', '--format', 'dot', '--level', level, os.path.join(generate.EXAMPLES, name)]
     large = os.path.join(folder, 'large.log')
     with open(large, 'wb') as out:
         out.write(b''.join(b'session %d\nbegin\nw k%d %d\ncommit\n' % (k, k, k) for k in range(1, 41)))

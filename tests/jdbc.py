@@ -34,6 +34,7 @@ commit 90121: unknown, 2 connected, broken off
 commit XX000: thrown as it was, 2 connected, broken off
 commit null: thrown as it was, 2 connected, broken off
 commit HY000: unknown, 2 connected, broken off
+commit null: unknown, 2 connected, broken off
 commit java.lang.IllegalStateException: made: thrown as it was, 2 connected, broken off
 prepareStatement 40001: abort, 1 connected
 createStatement 40001: abort, 1 connected
@@ -49,6 +50,7 @@ prepareStatement 42S02: thrown as it was, 1 connected
 createStatement 42S02: abort, 1 connected
 prepareStatement 08006: abort, 1 connected
 createStatement 08006: abort, 1 connected
+prepareStatement null: abort, 2 connected, broken off
 createStatement 23505: commit, 1 connected
 closed null: abort, 2 connected, broken off
 body java.lang.IllegalStateException: made: thrown IllegalStateException, 1 connected
@@ -60,9 +62,11 @@ connect 08000: abort, 2 connected
 connect 57P03: abort, 2 connected
 connect 28000: thrown as it was, 2 connected
 rollback 08006: abort, 2 connected, broken off
+setAutoCommit null: abort, 2 connected
+setAutoCommit 42000: thrown as it was, 2 connected
 """
 # How the log has them, each with a second transaction: those that are thrown have their outcome too, and a commit that is rolled back is so again.
-OUTCOMES = {'commit': 38, 'abort': 36, 'unknown': 10}
+OUTCOMES = {'commit': 42, 'abort': 39, 'unknown': 11}
 
 
 def compiled(folder):

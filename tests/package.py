@@ -153,13 +153,14 @@ class Checks:
         readme.stand_ins(tools)
         text = content(os.path.join(work, 'README.md')).decode()
         of_repository = './run', './check', './prove', './install', './solve', './package', 'toolchain', 'clone', '<!--', 'tools/'
-        for name in ('README.md', 'examples/README.md', 'examples/EXPLAINED.md', *('docs/%s.md' % it for it in 'COLLECTING FORMATS SCALE CI IMPORTING JEPSEN'.split())):
+        for name in ('README.md', 'examples/README.md', 'examples/EXPLAINED.md', *('docs/%s.md' % it for it in 'COLLECTING FORMATS SCALE CI IMPORTING JEPSEN STORES SOLVERS'.split())):
             strange = [word for word in of_repository if word in content(os.path.join(work, name)).decode()]
             self.expect(not strange, '%s speaks of %s' % (name, strange))
         links = re.findall(r'\]\(([^)#:]+)', text)
         self.expect('PROVED' in links and all(os.path.exists(os.path.join(work, it)) for it in links), 'README.md links to %s' % links)
         page, commands = readme.Page(work, os.path.join(at, 'bin') + os.pathsep + tools), readme.transcripts(text)
-        for command, status, said in commands + [(block, 0, said) for block, said in readme.scripts(text)]:
+        solvers = content(os.path.join(work, 'docs', 'SOLVERS.md')).decode()
+        for command, status, said in commands + [(block, 0, said) for block, said in (*readme.scripts(text), *readme.scripts(solvers))]:
             page.told(page.start(command), command, status, said)
         self.passed, self.failed = self.passed + page.passed, self.failed + page.failed
         self.expect(len(commands) > 20, 'README.md has %d commands' % len(commands))

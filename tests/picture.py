@@ -434,13 +434,13 @@ class Checks:
         page, whole = os.path.join(self.folder, 'none.html'), lambda name: os.path.join(generate.EXAMPLES, name)
         skew = whole('write_skew.log')
         for words, status, said in (
-            ([whole('two_writers.log')], AROUND, 'this log is serializable'), ([whole('unknown_not_last.log')], 2, 'unknown_not_last.log:6: '),
+            ([whole('two_writers.log')], 0, 'this log is serializable'), ([whole('unknown_not_last.log')], 2, 'unknown_not_last.log:6: '),
             ([whole('there_is_none.log')], AROUND, 'there_is_none.log'), ([skew, '--program', '/there/is/none'], AROUND, '/there/is/none'),
             ([skew, '--program', shutil.which('false')], AROUND, 'ends with 1'), ([skew, '--explained', skew], AROUND, 'not serializable'),
             ([skew, '--program', self.failing('unknown', '{"verdict":"unknown","reason":"1 closed"}', 3)], 3, '1 closed'),
             ([skew, '--program', self.failing('device', '', 5)], 5, 'ends with 5'),
             ([skew, '--program', self.failing('silent', '{"verdict":"not serializable","code":null,"part":[],"explanation":[]}', 1)], AROUND, 'nothing to draw'),
-            ([skew, '--level', 'snapshot'], AROUND, 'snapshot isolation is kept'), ([skew, '--level', 'none'], 2, 'possible values'),
+            ([skew, '--level', 'snapshot'], 0, 'snapshot isolation is kept'), ([skew, '--level', 'none'], 2, 'possible values'),
             ([skew, '--level', 'snapshot', '--explained', skew], 2, 'without a level'),
             ([skew, '--explained', self.put('audited', self.audit(skew))], AROUND, 'this is what audit says'),
             ([skew, '--explained', self.put('json', self.audit(skew, '--format', 'json'))], AROUND, 'this is what audit says'),

@@ -1,5 +1,5 @@
 #!/usr/bin/env python3
-"""readme.py [FOLDER]: the commands of README.md and of docs/IMPORTING.md, word by word, on a fresh clone of the repository.
+"""readme.py [FOLDER]: the commands of README.md, docs/SOLVERS.md and docs/IMPORTING.md, word by word, on a fresh clone of the repository.
 
 A line `    $ COMMAND` is run by bash at the top of the clone, and must write the lines that stand below it, and end with the status that a
 comment `# status N` behind it names, or 0. A block ```sh is run whole, must end with status 0 and write what its comments `# prints TEXT`
@@ -94,7 +94,7 @@ class Page:
 
 
 def stand_ins(folder):
-    """Scripts for the solvers that README.md names and that are not installed."""
+    """Scripts for the solvers that docs/SOLVERS.md names and that are not installed."""
     for name in ('cadical', 'minisat'):
         if shutil.which(name):
             continue
@@ -131,7 +131,9 @@ def main():
         with open(os.path.join(clone, 'docs', 'IMPORTING.md'), encoding='utf-8') as file:
             for command, status, text in transcripts(file.read()):
                 page.told(page.start('exec 2>&1; ' + command), command, status, text)
-        for block, text in scripts(page_text):
+        with open(os.path.join(clone, 'docs', 'SOLVERS.md'), encoding='utf-8') as file:
+            solvers_text = file.read()
+        for block, text in (*scripts(page_text), *scripts(solvers_text)):
             page.told(page.start(block), block, 0, text)
         without_toolchain(bare)
         for command, wanted, more in (

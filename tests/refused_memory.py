@@ -117,6 +117,7 @@ def main():
                       ['decode', '--workers', '4', '--model', paths['answer'], log], ['decode', '--plain', '--model', paths['plain_answer'], log]]
         calls += [['explain', '--workers', count, log] for count, name in (('1', 'forced_cycle'), ('4', 'crossed_readers'), ('4', 'lost_update')) for log in examples(name)]
         calls += [['explain', '--workers', '1', '--format', 'dot', log] for log in examples('crossed_readers', 'stale_in_time', 'intermediate_read')]
+        calls += [['explain', '--workers', '1', '--format', 'dot', '--level', level, log] for level, name in (('snapshot', 'shop'), ('causal', 'shop')) for log in examples(name)]
         for log in examples('crossed_readers'):
             formula = refuting.read_formula(subprocess.run([program, 'encode', log], stdout=subprocess.PIPE, check=True).stdout)
             drat = refuting.own_proof(formula[1])

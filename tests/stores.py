@@ -1,7 +1,8 @@
 #!/usr/bin/env python3
 """stores.py PROGRAM [LARGE]: logs of real stores, by the collectors in collect/, against what the stores promise.
 
-H2, HSQLDB and Derby run in the process of their clients, by JDBC, and so do Firebird and Tarantool, by loads/. PostgreSQL, MariaDB, Redis and
+H2, HSQLDB and Derby run in the process of their clients, by JDBC, and so do Firebird and Tarantool, by loads/; loads/counters.py has updates that
+read what they do not show. PostgreSQL, MariaDB, Redis and
 etcd are started here, as a user that is not root, with all that they have in a temporary folder and on sockets in it, etcd on ports of this
 machine; where a package of Debian's is missing it is installed, and what cannot be had is passed over, with a note. Each way of a store
 promises a level, or none: each of its logs must keep that level, also where connections are cut, and some log must break a level above it, or
@@ -25,6 +26,9 @@ SMALL, LARGE = 500, 2500
 # How many small runs of one way there are, but only one when a busy machine has spent so many seconds and no LARGE was named; and how many
 # runs a way may take until one breaks a level that it does not promise.
 RUNS, SECONDS, TRIES = 2, 60, 12
+# What a store says that fails by itself. HSQLDB looks for deadlocks by a call for each transaction that waits, and where others wait in a
+# ring these calls do not end.
+OWN_FAULTS = {'HSQLDB': 'org.hsqldb.TransactionManagerCommon.checkDeadlock'}
 # What the members of etcd take for a dead leader, in milliseconds: a busy machine is slow to answer.
 HEARTBEAT, ELECTION = 300, 3000
 
@@ -227,6 +231,14 @@ def tarantool():
     yield collector
 
 
+@contextlib.contextmanager
+def counters(store, start):
+    """What calls the load of loads/counters.py over the server that this starts."""
+    with start() as (python, _, address):
+        yield lambda words, seed, transactions, keys, log: run(
+            [python, os.path.join(LOADS, 'counters.py'), store, *words, str(transactions), str(keys), str(seed), address, log], timeout=600)
+
+
 class Way:
     """Words for a collector; the level that each log must keep, or None; and the level that some log must break, or None."""
 
@@ -272,6 +284,8 @@ STORES = {
     'Redis': (redis, [
         Way('', 'serializable'), Way('--kill 20', 'serializable'), Way('--moments all', 'strict-serializable'),
         Way('--level multi', 'monotonic-atomic-view', 'read-atomic')]),
+    'Redis, counters': (lambda: counters('redis', redis), [Way('shown', 'serializable'), Way('hidden', 'serializable')]),
+    'PostgreSQL, counters': (lambda: counters('postgresql', postgresql), [Way('shown', 'serializable'), Way('hidden', 'serializable')]),
     'Firebird': (firebird, [
         Way('', 'snapshot', 'serializable'), Way('--moments all', 'strict-snapshot'),
         Way('--level table-stability --sessions 3 --keys 4 --pause 1', None, 'serializable'),
@@ -326,13 +340,17 @@ class Checks:
             sizes.insert(1, max(SMALL, self.large // way.part))
         for seed in range(TRIES):
             is_late = answers and self.late and time.monotonic() > self.late
-            if (seed >= len(sizes) or is_late) and (is_broken or way.broken is None):
+            if (not sizes or is_late) and (is_broken or way.broken is None):
                 break
-            count = sizes[seed] if seed < len(sizes) and not is_late else SMALL
+            count = sizes[0] if sizes and not is_late else SMALL
             began = time.monotonic()
             collected = self.collect(collector, way.words, seed, count)
+            if collected.returncode and OWN_FAULTS.get(store, name) in collected.stdout:
+                print('stores: note: %s failed by itself, and is run again: %s' % (name, OWN_FAULTS[store]))
+                continue
+            del sizes[:1]
             if collected.returncode:
-                self.expect(False, '%s: %s' % (name, collected.stdout))
+                self.expect(False, '%s: %s' % (name, collected.stdout[:2000]))
                 continue
             took = time.monotonic() - began
             with open(self.log) as log:

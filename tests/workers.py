@@ -16,6 +16,7 @@ import glob, os, random, subprocess, sys, tempfile
 HERE = os.path.dirname(os.path.abspath(__file__))
 sys.path[:0] = [HERE, os.path.join(HERE, '..', 'bench')]
 import generate, long_logs, reference
+from auditing import WRONG_GUESS
 from make_noise import noisy_log
 from refused_memory import c_compiler
 
@@ -169,7 +170,9 @@ def at_once(program, folder, compiler):
     which alone asks for memory so often; and three in none."""
     source, library, many, hard = (os.path.join(folder, name) for name in ('gate.c', 'gate.so', 'many.log', 'hard.log'))
     sessions, _ = long_logs.sessions_of(long_logs.served(random.Random(5), 20000), random.Random(5), 0)
-    for path, data in ((source, GATE.encode()), (many, generate.text_of(sessions, 3)), (hard, noisy_log(80, 12).encode())):
+    # what is tried before the clocks is stuck there, so that they begin
+    stuck = generate.text_of(sessions, 3) + WRONG_GUESS
+    for path, data in ((source, GATE.encode()), (many, stuck), (hard, noisy_log(80, 12).encode())):
         with open(path, 'wb') as out:
             out.write(data)
     subprocess.run([compiler, '-shared', '-fPIC', '-o', library, source, '-ldl'], check=True)

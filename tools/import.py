@@ -9,6 +9,8 @@ What was left out, and why, stands on standard error. docs/IMPORTING.md says wha
 as the history. Nothing of this is proved: what `check` says of the log is."""
 import argparse, json, re, sys
 
+# How files begin that were compressed, and by what.
+COMPRESSED = {b'\xfd7zXZ\0': 'xz', b'\x1f\x8b': 'gzip', b'\x28\xb5\x2f\xfd': 'zstd', b'BZh': 'bzip2'}
 USAGE, UNREADABLE, AROUND = 2, 65, 70
 MAX_SESSIONS, MAX_MOMENT, MAX_DEPTH, MAX_TOLD = 65535, 2 ** 64 - 1, 100, 400
 STATUSES = '''Status 0 where the log was written, and 1 with --lists where it was and the lists contradict each other; %d for a usage fault;
@@ -136,7 +138,8 @@ def decoded(lines):
         try:
             yield number, line.decode()
         except UnicodeDecodeError:
-            raise Unreadable(number, 'a byte that is no UTF-8')
+            program = next((program for first, program in COMPRESSED.items() if number == 1 and line.startswith(first)), None)
+            raise Unreadable(number, 'it is compressed by %s: %s -dc HISTORY writes it as it was' % (program, program) if program else 'a byte that is no UTF-8')
 
 
 def tokens(lines):

@@ -107,7 +107,7 @@ def labels_of(path, is_needed=False):
 
 def audited(program, path, level=None):
     """What `audit --explain` of a refuted log says as JSON, with a level where one is asked for. Stop where it is none, with the program's status
-    where it refuses or does not know."""
+    where it refuses, does not know, or finds nothing wrong."""
     refuted, held = ('not kept', 'kept') if level else ('not serializable', 'serializable')
     words = [program or RUN, 'audit', '--explain', '--format', 'json', '--workers', '1', *(['--only', '--level', level] if level else [])]
     ran = subprocess.run([*words, os.path.join('.', path)], stdin=subprocess.DEVNULL, stdout=subprocess.PIPE, stderr=subprocess.PIPE)
@@ -116,7 +116,7 @@ def audited(program, path, level=None):
         return report
     if (ran.returncode, report.get('verdict')) == (SERIALIZABLE, held):
         what = '%s is kept' % report['level'] if level else 'this log is serializable'
-        raise Stop('%s: it has an order, which audit --order writes, and so there is no fault to tell' % what)
+        raise Stop('%s: it has an order, which audit --order writes, and so there is no fault to tell' % what, SERIALIZABLE)
     said = report.get('reason') or ran.stderr.decode(errors='replace').strip()
     raise Stop("audit does not say '%s', but ends with %d: %s" % (refuted, ran.returncode, said),
                ran.returncode if ran.returncode in (REFUSED, UNKNOWN, OUT_OF_MEMORY, DEVICE_FAILED) else AROUND)

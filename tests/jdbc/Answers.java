@@ -6,14 +6,17 @@ import java.util.*;
 public final class Answers {
     private static final List<String> calls = new ArrayList<>();
 
-    /** A connection of which these calls throw this. */
+    /** A connection of which these calls throw this; it is closed, or from then on. */
     private static Connection failing(String name, Throwable fault, boolean isClosed) {
+        boolean[] hasFailed = {fault == null};
         return (Connection) Proxy.newProxyInstance(Answers.class.getClassLoader(), new Class<?>[]{Connection.class}, (proxy, method, words) -> {
             calls.add(method.getName());
-            if (method.getName().equals(name) && fault != null)
+            if (method.getName().equals(name) && fault != null) {
+                hasFailed[0] = true;
                 throw fault;
+            }
             if (method.getName().equals("isClosed"))
-                return isClosed;
+                return isClosed && hasFailed[0];
             return null;
         });
     }
@@ -47,6 +50,7 @@ public final class Answers {
             for (String state : Arrays.asList("40001", "40P01", "40XL1", "40003", "23505", "25P02", "08003", "08006", "08007", "57P01", "HYT00", "90121", "XX000", null))
                 ask(run, "commit", new SQLException("made", state), false, writes);
             ask(run, "commit", new SQLTransientConnectionException("made", "HY000", 1205), false, writes);
+            ask(run, "commit", new SQLException("closed"), true, writes);
             ask(run, "commit", new IllegalStateException("made"), false, writes);
             for (SQLException fault : Arrays.asList(new SQLException("made", "40001"), new SQLException("made", "XCL16"), new SQLException("made", "90131"),
                     new SQLException("made", "HY000", 1020), new SQLException("made", "HY000", 7), new SQLException("made", "42S02"), new SQLException("made", "08006"))) {
@@ -63,6 +67,7 @@ public final class Answers {
                     }
                 });
             }
+            ask(run, "prepareStatement", new SQLException("closed"), true, (connection, txn) -> connection.prepareStatement(""));
             ask(run, "createStatement", new SQLException("back to a savepoint", "23505"), false, (connection, txn) -> {
                 txn.write("x");
                 try {
@@ -81,6 +86,8 @@ public final class Answers {
             for (String state : Arrays.asList("08006", "08000", "57P03", "28000"))
                 ask(run, "connect", new SQLException("made", state), false, writes);
             ask(run, "rollback", new SQLException("made", "08006"), false, (connection, txn) -> txn.abort());
+            ask(run, "setAutoCommit", new SQLException("closed"), true, writes);
+            ask(run, "setAutoCommit", new SQLException("made", "42000"), false, writes);
         }
     }
 }

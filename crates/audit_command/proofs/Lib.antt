@@ -1,5 +1,4 @@
 pub mod Allowed
-mod Counting
 mod Names
 mod Parts
 mod Doubles

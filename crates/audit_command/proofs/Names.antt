@@ -9,7 +9,7 @@ use Rattle.log_definitions.specs.Unknown.{resolved}
 use Rattle.log_definitions.specs.Serial.{Committed, committed_in, node_in, node_of}
 use Rattle.log_laws.proofs.Resolved.{nodes_stay}
 use Rattle.session_history.specs.Tables.{name_in}
-use Rattle.order_checks.specs.Numbered.{names_of}
+use Rattle.node_names.specs.Names.{names_of}
 use Rattle.order_text.specs.Text.{name_line, order_text}
 use Rattle.audit_command.specs.Orders.{name_at, names_text}
 

@@ -20,7 +20,8 @@ use Rattle.audit_command.specs.declared.options.AuditOptions.{AuditOptions}
 use Rattle.audit_command.specs.declared.told.Word.{Word}
 use Rattle.audit_command.specs.declared.told.Word.TheVariants as word
 use Rattle.audit_command.specs.declared.told.Answer.{Answer}
-use Rattle.audit_command.specs.Audited.{is_serial, is_kept, asks_levels, asks_strict, asks_plain, at_snapshot, states_moments, IsWordWhere}
+use Rattle.audit_command.specs.Audited.{is_serial, asks_levels, asks_strict, asks_plain, at_snapshot, states_moments, IsWordWhere}
+use Rattle.audit_command.specs.Words.{is_kept}
 
 -- ---- what is asked
 each_of : (x y z : Bool) → (x && y && z) ≡ true → ((x && (y || z)) ≡ true) × (y ≡ true)

@@ -12,6 +12,8 @@ use Rattle.log_definitions.specs.Serial.{IsSerialOrder}
 use Rattle.long_log_definitions.specs.LongLog.{IsLongLog, IsLongLogFault}
 use Rattle.fault_words.specs.Words.{IsSaidOf}
 use Rattle.order_text.specs.Text.{order_text}
+use Rattle.call_options.specs.declared.format.Format.{Format}
+use Rattle.call_options.specs.declared.format.Format.TheVariants as format
 use Rattle.call_options.specs.declared.report_form.ReportForm.{ReportForm}
 use Rattle.call_options.specs.declared.report_form.ReportForm.TheVariants.{Text, Json}
 use Rattle.judging.specs.Levels.{HasOrderAt, HasNoOrderAt}
@@ -38,10 +40,12 @@ use Rattle.audit_command.specs.Levels.{judged_of, is_above, asks_moments}
 use Rattle.audit_command.specs.Lower.{weakest_of}
 use Rattle.audit_command.specs.declared.told.ToldTxn.{ToldTxn}
 use Rattle.audit_command.specs.declared.told.Lower.{Lower}
-use Rattle.audit_command.specs.Words.{status_of}
+use Rattle.audit_command.specs.Words.{status_of, is_kept}
 use Rattle.audit_command.specs.Places.{told_by}
 use Rattle.audit_command.specs.Report.{report_text}
 use Rattle.audit_command.specs.Said.{IsSaid}
+use Rattle.audit_command.specs.Drawn.{IsDrawnWhere}
+use Rattle.audit_command.specs.Graph.{graph_text}
 use Rattle.audit_command.specs.Why.{told_where}
 use Rattle.audit_command.specs.Printed.{IsLine, AreLines}
 use Rattle.audit_command.specs.Objects.{report_object, refusal_object, parts_of}
@@ -90,6 +94,7 @@ pub record IsPartTold (o : AuditOptions) (n : ℕ) (ss : List ClientSession) (p 
       p.is_serial_apart
   pub said : (text : List ℕ) × IsSaid o.means n (resolved ss) p.refuted p.known_as text
       × (p.why.items ≡ told_where o.explain text)
+  pub drawn : IsDrawnWhere o.explanation o.means n (resolved ss) p.refuted p.graph.items
 
 abbrev pub AreToldParts : AuditOptions → ℕ → List ClientSession → List ToldPart → Type 0
 AreToldParts o n ss parts = AllByRecursion (IsPartTold o n ss) parts
@@ -170,10 +175,6 @@ asks_strict o ss a = asks_levels o a && is_serial o.means.level && states_moment
 
 abbrev pub asks_plain : AuditOptions → List ClientSession → Answer → Bool
 asks_plain o ss a = asks_levels o a && (is_serial o.means.level || states_moments (resolved ss))
-
-abbrev pub is_kept : Option Word → Bool
-is_kept (Some word.Serializable) = true
-is_kept _ = false
 
 abbrev pub at_snapshot : JudgeMeans → JudgeMeans
 at_snapshot m = record m { level = level.Snapshot }
@@ -377,6 +378,11 @@ abbrev pub text_in : ReportForm → AuditOptions → Told → List ℕ
 text_in Text o told = report_text o.faults o.quiet told
 text_in Json o told = report_object o.explain o.quiet o.version.now told
 
+-- or a graph, where that is asked for
+abbrev pub written_in : Format → AuditOptions → Told → List ℕ
+written_in format.Text o told = text_in o.form o told
+written_in format.Dot o told = graph_text told
+
 -- the log is one, what is told of it is so, and the text is that of what is told
 pub record IsAudited (o : AuditOptions) (log : List ℕ) (a : Audited) : Type 0 where
   pub sessions : List ClientSession
@@ -390,7 +396,7 @@ pub record IsAudited (o : AuditOptions) (log : List ℕ) (a : Audited) : Type 0 
       told.answer told.snapshot told.shown told.lower told.lowest
   pub totals : AreTotals (seen o.no_moments sessions) told.totals
   pub ends : a.reply.status ≡ status_of told.answer
-  pub text : a.reply.text.items ≡ text_in o.form o told
+  pub text : a.reply.text.items ≡ written_in o.explanation o told
   pub part : IsPartFile (part_asked told.answer o.part) a.part
   pub order : IsOrderFile o.means.level (seen o.no_moments sessions)
       (order_asked told.answer o.order) a.order

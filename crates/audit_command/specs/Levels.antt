@@ -1,7 +1,9 @@
 -- What the level of isolation that is asked for means for judging.
-use Rattle.std.specs.Prelude.{◌||◌, ℕ, Bool, false, not, Option, None, Some, nat_lt}
+use Rattle.std.specs.Prelude.{◌||◌, ℕ, Bool, true, false, not, Option, None, Some, nat_lt}
 use Rattle.seen_laws.specs.declared.level.Level.{Level as BelowLevel}
 use Rattle.seen_laws.specs.declared.level.Level.TheVariants as below
+use Rattle.call_options.specs.declared.format.Format.{Format}
+use Rattle.call_options.specs.declared.format.Format.TheVariants.{Text, Dot}
 use Rattle.isolation.specs.Levels.{is_strict}
 use Rattle.isolation.specs.declared.level.Isolation.{Isolation}
 use Rattle.isolation.specs.declared.level.Isolation.TheVariants as isolation
@@ -51,9 +53,15 @@ abbrev pub leaves_moments : Option Isolation → Bool
 leaves_moments None = false
 leaves_moments (Some level) = not (is_strict level)
 
--- the options, with what the level that is asked for means for judging
+-- a graph is asked for
+abbrev pub is_graph : Format → Bool
+is_graph Text = false
+is_graph Dot = true
+
+-- the options, with what the level that is asked for means for judging; for a graph no other is judged
 abbrev pub settled : AuditOptions → AuditOptions
 settled o = record o {
   means = record o.means { level = judged_level o.level };
+  only = o.only || is_graph o.explanation;
   no_moments = o.no_moments || leaves_moments o.level;
 }

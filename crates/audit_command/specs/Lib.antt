@@ -2,6 +2,8 @@ pub mod Apart
 pub mod Audited
 pub mod Counts
 pub mod Distinct
+pub mod Drawn
+pub mod Graph
 pub mod Levels
 pub mod Lower
 pub mod Objects

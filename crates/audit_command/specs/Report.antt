@@ -1,13 +1,14 @@
 -- The report as text.
-use Rattle.std.specs.Prelude.{ℕ, ◌==◌, nat_lt, Bool, if◌then◌else◌, List, [], ◌∷◌, ◌++◌}
-use Rattle.std.specs.Prelude.{length, codes, decimal, count_by, Option, Some, None}
+use Rattle.std.specs.Prelude.{ℕ, ◌==◌, nat_lt, Bool, not, ◌&&◌, ◌||◌, if◌then◌else◌}
+use Rattle.std.specs.Prelude.{List, [], ◌∷◌, ◌++◌}
+use Rattle.std.specs.Prelude.{length, codes, decimal, count_by, Option, Some, None, is_some}
 use Rattle.std.specs.List.{flat_map}
 use Rattle.std.specs.String.{string_bytes}
 use Rattle.std.specs.Prelude.{String}
 use Rattle.std.specs.declared.alloc.Global.{Global}
 use Rattle.isolation.specs.Levels.{level_title}
 use Rattle.audit_command.specs.Words.{code_number, finding_title, hint_text, word_text, word_of}
-use Rattle.audit_command.specs.Words.{verdict_text, kept_text}
+use Rattle.audit_command.specs.Words.{verdict_text, kept_text, is_kept}
 use Rattle.judging.specs.declared.judged.Finding.{Finding}
 use Rattle.isolation.specs.declared.level.Isolation.{Isolation}
 use Rattle.isolation.specs.declared.level.Isolation.TheVariants.{StrictSnapshot, Snapshot, Prefix}
@@ -196,11 +197,32 @@ lower_text w = level_row Prefix w.prefix ++ level_row Causal w.causal
     ++ level_row MonotonicAtomicView w.monotonic_atomic_view
     ++ level_row ReadCommitted w.read_committed
 
+-- something weaker was kept
+abbrev pub is_lower_kept : Lower → Bool
+is_lower_kept w = is_kept w.prefix || is_kept w.causal || is_kept w.read_atomic
+    || is_kept w.monotonic_atomic_view || is_kept w.read_committed
+
+abbrev pub is_some_kept : Told → Bool
+is_some_kept told = is_kept told.without_moments || is_kept told.strict_snapshot
+    || is_kept told.snapshot || is_lower_kept told.lower
+
+abbrev pub promise_text : Option Word → List ℕ
+promise_text without = if is_kept without then codes "a store that promises no strict level"
+    else codes "a store that promises no more than that"
+
+-- Where no level was named and a weaker one was kept, the store may have promised no more: the level
+-- that is told last, or each one that is not of moments.
+unfoldable pub blame_text : Told → List ℕ
+blame_text told = if not (is_some told.level) && is_some_kept told
+    then promise_text told.without_moments
+    ++ codes " did nothing wrong: name its level by --level\n"
+    else []
+
 -- what holds without moments and at weaker levels
 unfoldable pub weaker_text : Told → List ℕ
 weaker_text told = without_row (word_of told.answer) told.without_moments
     ++ level_row StrictSnapshot told.strict_snapshot ++ snapshot_row told.snapshot told.shown
-    ++ lower_text told.lower
+    ++ lower_text told.lower ++ blame_text told
 
 -- a part that shows that snapshot isolation was not kept
 abbrev pub broken_text : ToldPart → List ℕ

@@ -1,5 +1,5 @@
 -- The words for what stands against a part, and for verdicts.
-use Rattle.std.specs.Prelude.{ℕ, List, [], codes, Option, None, Some}
+use Rattle.std.specs.Prelude.{ℕ, Bool, true, false, List, [], codes, Option, None, Some}
 use Rattle.serializability.specs.declared.anomaly.Anomaly.{Anomaly}
 use Rattle.serializability.specs.declared.anomaly.Anomaly.TheVariants as anomaly
 use Rattle.serializability.specs.declared.anomaly.ReadAnomaly.{ReadAnomaly}
@@ -84,3 +84,8 @@ status_of answer.NoMoments = status.Unknown
 status_of (answer.NotSerializable parts) = status.NotSerializable
 status_of (answer.TooFew committed asked) = status.Unknown
 status_of (answer.Undecided reason advice) = status.Unknown
+
+-- it was kept, as far as this is told
+abbrev pub is_kept : Option Word → Bool
+is_kept (Some word.Serializable) = true
+is_kept _ = false

@@ -7,8 +7,9 @@ ghost use Rattle.session_log.specs.declared.fault.LogFault.TheVariants.{Memory};
 ghost use Rattle.long_log_definitions.specs.LongLog.{IsLongLog, IsLongLogFault};
 ghost use Rattle.audit_command.specs.Levels.{settled};
 ghost use Rattle.audit_command.specs.Words.{status_of};
-ghost use Rattle.audit_command.specs.Audited.{seen, text_in, IsAudited, IsRefused};
+ghost use Rattle.audit_command.specs.Audited.{seen, text_in, written_in, IsAudited, IsRefused};
 
+use crate::graph::graph_text;
 use crate::known::{Known, know};
 use crate::levels::settled;
 use crate::lower::judge_lower;
@@ -20,7 +21,7 @@ use crate::report::report_text;
 use crate::telling::Answered;
 use crate::told::{Answer, Told};
 use crate::without::judge_weaker;
-use call_options::ReportForm;
+use call_options::{Format, ReportForm};
 use cobra_answers::{Reply, Status};
 use judging::leave_out_moments;
 use long_reading::read_long_log;
@@ -54,8 +55,8 @@ fn seen(sessions: Vec<Session>, no_moments: bool) -> Vec<Session>
     sessions
 }
 
-/// The text in the form that is asked for.
-fn text_of(alloc: Global, options: &AuditOptions<'_>, told: &Told) -> Result<Vec<u8>, AllocError>
+/// The report in the form that is asked for.
+fn report_of(alloc: Global, options: &AuditOptions<'_>, told: &Told) -> Result<Vec<u8>, AllocError>
     ensures text { IfOk result (λ text. text.items
         ≡ text_in options.now.form options.now told.now) }
 {
@@ -67,11 +68,22 @@ fn text_of(alloc: Global, options: &AuditOptions<'_>, told: &Told) -> Result<Vec
     }
 }
 
+/// The same; or a graph, where that is asked for.
+fn text_of(alloc: Global, options: &AuditOptions<'_>, told: &Told) -> Result<Vec<u8>, AllocError>
+    ensures text { IfOk result (λ text. text.items
+        ≡ written_in options.now.explanation options.now told.now) }
+{
+    match options.explanation {
+        Format::Text => report_of(alloc, options, told),
+        Format::Dot => graph_text(alloc, told),
+    }
+}
+
 /// How the command ends that tells this, and what it writes.
 fn reply_of(alloc: Global, options: &AuditOptions<'_>, told: &Told) -> Result<Reply, AllocError>
     ensures ends { IfOk result (λ reply. reply.status ≡ status_of told.now.answer) }
     ensures text { IfOk result (λ reply. reply.text.items
-        ≡ text_in options.now.form options.now told.now) }
+        ≡ written_in options.now.explanation options.now told.now) }
 {
     Ok(Reply {
         status: status_of(&told.answer),
@@ -79,20 +91,21 @@ fn reply_of(alloc: Global, options: &AuditOptions<'_>, told: &Told) -> Result<Re
     })
 }
 
-/// What an audit of a long log of these sessions comes to.
+/// What an audit of a long log of these sessions comes to. Its bytes are given back first.
 fn audit_sessions<R: Threads + Wait + Clock + Eprint + Sync, P: Progress>(
     rt: &R,
     alloc: Global,
-    log: &[u8],
+    log: Vec<u8>,
     version: Version,
     sessions: Vec<Session>,
     options: &AuditOptions<'_>,
     progress: &mut P,
 ) -> Result<Audited, AllocError>
-    requires long { IsLongLog log.now (map view sessions.items) }
-    requires version { version ≡ version_of log.now }
-    ensures audited { IfOk result (IsAudited options.now log.now) }
+    requires long { IsLongLog log.items (map view sessions.items) }
+    requires version { version ≡ version_of log.items }
+    ensures audited { IfOk result (IsAudited options.now log.items) }
 {
+    drop(log);
     let sessions = seen(sessions, options.no_moments);
     let Known {
         sessions,
@@ -141,23 +154,24 @@ fn refused(alloc: Global, log: &[u8], fault: LogFault, options: &AuditOptions<'_
 }
 
 /// Says of a log of any length whether it has an order of the level of isolation that is asked for: a
-/// serial one, where none is.
+/// serial one, where none is. The log's bytes are given back as soon as it is read.
 ///
 /// # Errors
 /// The log's first fault, with the object that says so, where one is asked for; want of memory.
 pub fn audit<R: Threads + Wait + Clock + Eprint + Sync, P: Progress>(
     rt: &R,
     alloc: Global,
-    log: &[u8],
+    log: &mut Vec<u8>,
     options: &AuditOptions<'_>,
     progress: &mut P,
 ) -> Result<Audited, Refusal>
-    ensures audited { IfOk result (IsAudited (settled options.now) log.now) }
-    ensures refused { IfErr result (IsRefused options.now log.now) }
+    ensures audited { IfOk result (IsAudited (settled options.now) log.old.items) }
+    ensures refused { IfErr result (IsRefused options.now log.old.items) }
 {
     match read_long_log(rt, alloc, log, options.means.deciding.workers) {
         Ok((version, sessions)) => {
             let settled = settled(options);
+            let log = std::mem::replace(log, Vec::new(alloc));
             match audit_sessions(rt, alloc, log, version, sessions, &settled, progress) {
                 Ok(audit) => Ok(audit),
                 Err(AllocError) => Err(Refusal::Memory),

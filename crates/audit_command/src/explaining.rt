@@ -35,7 +35,7 @@ use tell_decision::explain_placed;
 pub const MANY_LINES: usize = 1_000_000_000;
 
 /// What is said where a search shows that no order is left, and nothing else does.
-const SEARCH_SHOWS: &[u8] = b"no order of them is left: a search shows it\n";
+pub const SEARCH_SHOWS: &[u8] = b"no order of them is left: a search shows it\n";
 
 /// What stands before the name that the field has for a fault.
 const KNOWN_AS: &[u8] = b"known as: ";

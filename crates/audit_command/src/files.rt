@@ -9,7 +9,7 @@ ghost use Rattle.audit_command.specs.Orders.{name_at, names_text};
 
 use crate::lines::put_number;
 use crate::told::ToldPart;
-use order_checks::names_of;
+use node_names::names_of;
 use session_log::{Op, Session, Txn, Version, print_log};
 use std::alloc::{AllocError, Global};
 

@@ -7,7 +7,7 @@ ghost use Rattle.session_log.specs.Version.{first_line};
 ghost use Rattle.log_laws.specs.Logs.{IsSoundLog};
 ghost use Rattle.audit_command.specs.Audited.{first_part, part_asked, IsPartFile, IsKnown};
 
-use crate::counts::count_log;
+use crate::counts::counts_of;
 use crate::files::{PartFile, part_file};
 use crate::options::AuditOptions;
 use crate::telling::{Answered, JudgedLog, answer_of};
@@ -15,6 +15,7 @@ use crate::told::{Answer, ToldPart, Totals};
 use crate::totals::totals_of;
 use judging::{Judged, judge_whole};
 use progress::Progress;
+use session_history::Tally;
 use session_log::{Session, Version};
 use std::alloc::{AllocError, Global};
 use std::io::Eprint;
@@ -87,12 +88,14 @@ pub fn know<R: Threads + Wait + Clock + Eprint + Sync, P: Progress>(
     ensures known { IfOk result (IsKnown options.now (first_line version)
         (map view sessions.items)) }
 {
-    let counts = count_log(alloc, &sessions)?;
+    let tally = Tally::of(&sessions);
+    let count = sessions.len();
     let Judged {
         sessions,
         at,
         proposal,
         verdict,
+        keys,
     } = judge_whole(rt, alloc, sessions, &options.means, progress)?;
     let log = JudgedLog {
         version,
@@ -100,6 +103,7 @@ pub fn know<R: Threads + Wait + Clock + Eprint + Sync, P: Progress>(
         at: &at,
         proposal: &proposal,
     };
+    let counts = counts_of(tally, count, keys)?;
     let committed = counts.committed;
     let answered = answer_of(rt, alloc, &log, verdict, committed, options, progress)?;
     let totals = totals_of(counts, &sessions)?;

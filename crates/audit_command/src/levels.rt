@@ -2,9 +2,10 @@
 
 ghost use Rattle.std.specs.Prelude.{◌≡◌};
 ghost use Rattle.audit_command.specs.Levels.{judged_of, judged_level, depth_below, depth, is_above};
-ghost use Rattle.audit_command.specs.Levels.{asks_moments, leaves_moments, settled};
+ghost use Rattle.audit_command.specs.Levels.{asks_moments, leaves_moments, is_graph, settled};
 
 use crate::options::AuditOptions;
+use call_options::Format;
 use isolation::Isolation;
 use judging::{JudgeMeans, Level};
 
@@ -84,7 +85,18 @@ fn leaves_moments(asked: Option<Isolation>) -> bool
     }
 }
 
-/// The options, with what the level that is asked for means for judging.
+/// Whether a graph is asked for.
+fn is_graph(format: Format) -> bool
+    ensures graph { result ≡ is_graph format }
+{
+    match format {
+        Format::Text => false,
+        Format::Dot => true,
+    }
+}
+
+/// The options, with what the level that is asked for means for judging: for a graph no other is
+/// judged.
 pub fn settled<'a>(options: &AuditOptions<'a>) -> AuditOptions<'a>
     ensures settled { result ≡ settled options.now }
 {
@@ -94,6 +106,7 @@ pub fn settled<'a>(options: &AuditOptions<'a>) -> AuditOptions<'a>
     };
     AuditOptions {
         means,
+        only: options.only || is_graph(options.explanation),
         no_moments: options.no_moments || leaves_moments(options.level),
         ..*options
     }

@@ -1,6 +1,6 @@
 //! What is asked of an audit.
 
-use call_options::ReportForm;
+use call_options::{Format, ReportForm};
 use isolation::Isolation;
 use judging::JudgeMeans;
 
@@ -27,6 +27,9 @@ pub struct AuditOptions<'a> {
     /// Whether the serial order is asked for.
     pub order: bool,
     pub form: ReportForm,
+    /// How it is written why a part has no order. As a graph, that and comments are all that is written,
+    /// whatever the form, and no other level is judged.
+    pub explanation: Format,
     /// The first line alone, or of an object the verdict.
     pub quiet: bool,
     /// The version of the program, which an object names.

@@ -10,6 +10,7 @@ ghost use Rattle.audit_command.specs.Report.{listed, codes_where, behind_first, 
 ghost use Rattle.audit_command.specs.Report.{level_row, weaker_text, short_title, found_text};
 ghost use Rattle.audit_command.specs.Report.{kept_line, shown_by, snapshot_row, broken_text, last_part};
 ghost use Rattle.audit_command.specs.Report.{lower_text, title_of, why_lowest, lowest_part};
+ghost use Rattle.audit_command.specs.Report.{is_lower_kept, is_some_kept, promise_text, blame_text};
 ghost use Rattle.audit_command.specs.Lower.{or_above, weakest_of};
 ghost use Rattle.audit_command.specs.Words as spec;
 
@@ -18,6 +19,7 @@ use crate::codes::{
 };
 use crate::lines::{put, put_count, put_line, put_lines, put_name, put_number};
 use crate::told::{Answer, Lower, Told, ToldPart, ToldTxn, Totals, Word};
+use crate::without::is_kept;
 use isolation::Isolation;
 use std::alloc::{AllocError, Global};
 
@@ -65,7 +67,8 @@ fn put_reason(out: &mut Vec<u8>, answer: &Answer) -> Result<(), AllocError>
     }
 }
 
-fn put_first_line(
+/// Appends the first line.
+pub fn put_first_line(
     out: &mut Vec<u8>,
     level: Option<Isolation>,
     answer: &Answer,
@@ -152,7 +155,7 @@ fn put_found(out: &mut Vec<u8>, part: &ToldPart) -> Result<(), AllocError>
 }
 
 /// Appends how many transactions a part has, and what was found of it.
-fn put_heading(out: &mut Vec<u8>, part: &ToldPart) -> Result<(), AllocError>
+pub fn put_heading(out: &mut Vec<u8>, part: &ToldPart) -> Result<(), AllocError>
     ensures put { OnOk result (out.new.items ≡ out.old.items ++ heading_of part.now) }
 {
     put_number(out, b"shown by ", part.txns.len())?;
@@ -162,7 +165,7 @@ fn put_heading(out: &mut Vec<u8>, part: &ToldPart) -> Result<(), AllocError>
 }
 
 /// Appends the line of a part's transactions.
-fn put_listed(out: &mut Vec<u8>, txns: &[ToldTxn]) -> Result<(), AllocError>
+pub fn put_listed(out: &mut Vec<u8>, txns: &[ToldTxn]) -> Result<(), AllocError>
     ensures put { OnOk result (out.new.items ≡ out.old.items ++ listed txns.now) }
 {
     put(out, b"transactions ")?;
@@ -494,6 +497,52 @@ fn put_lowest(
 }
 
 /// Appends what holds without moments and at weaker levels, where that is told.
+/// Whether a level below snapshot isolation was kept.
+fn is_lower_kept(lower: &Lower) -> bool
+    ensures { result ≡ is_lower_kept lower.now }
+{
+    is_kept(lower.prefix)
+        || is_kept(lower.causal)
+        || is_kept(lower.read_atomic)
+        || is_kept(lower.monotonic_atomic_view)
+        || is_kept(lower.read_committed)
+}
+
+/// Whether something weaker was kept.
+fn is_some_kept(told: &Told) -> bool
+    ensures { result ≡ is_some_kept told.now }
+{
+    is_kept(told.without_moments)
+        || is_kept(told.strict_snapshot)
+        || is_kept(told.snapshot)
+        || is_lower_kept(&told.lower)
+}
+
+/// Appends which store promises no more than that.
+fn put_promise(out: &mut Vec<u8>, without: Option<Word>) -> Result<(), AllocError>
+    ensures put { OnOk result (out.new.items ≡ out.old.items ++ promise_text without) }
+{
+    if is_kept(without) {
+        put(out, b"a store that promises no strict level")
+    } else {
+        put(out, b"a store that promises no more than that")
+    }
+}
+
+/// Appends that a store may have done nothing wrong, where no level was named and a weaker one was
+/// kept.
+#[tactic(auto, unfolding(crate::specs::Report::blame_text))]
+fn put_blame(out: &mut Vec<u8>, told: &Told) -> Result<(), AllocError>
+    ensures put { OnOk result (out.new.items ≡ out.old.items ++ blame_text told.now) }
+{
+    if told.level.is_none() && is_some_kept(told) {
+        put_promise(out, told.without_moments)?;
+        put(out, b" did nothing wrong: name its level by --level\n")?;
+    }
+    Ok(())
+}
+
+/// Appends what holds without moments and at weaker levels.
 #[tactic(auto, unfolding(crate::specs::Report::weaker_text))]
 fn put_weaker(out: &mut Vec<u8>, told: &Told) -> Result<(), AllocError>
     ensures put { OnOk result (out.new.items ≡ out.old.items ++ weaker_text told.now) }
@@ -501,7 +550,8 @@ fn put_weaker(out: &mut Vec<u8>, told: &Told) -> Result<(), AllocError>
     put_without_row(out, word_of(&told.answer), told.without_moments)?;
     put_level_row(out, Isolation::StrictSnapshot, told.strict_snapshot)?;
     put_snapshot_row(out, told.snapshot, &told.shown)?;
-    put_lower(out, &told.lower)
+    put_lower(out, &told.lower)?;
+    put_blame(out, told)
 }
 
 /// How many transactions the first part has.

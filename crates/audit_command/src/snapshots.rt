@@ -31,7 +31,7 @@ use std::time::Clock;
 use tell_points::{refutation_name, refutation_text};
 
 /// What is said where a search alone shows that no order of points is left.
-const NO_POINTS_LEFT: &[u8] =
+pub const NO_POINTS_LEFT: &[u8] =
     b"no order of their snapshots and commits is left: a search shows it\n";
 
 /// What stands before the lines that say why a part has no serial order either.

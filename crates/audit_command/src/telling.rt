@@ -17,6 +17,7 @@ ghost use Rattle.audit_command.specs.Resolved.{IsResolved, IsPartOf, IsPartOfVer
 
 use crate::apart::is_serial_apart;
 use crate::distinct::without_doubles;
+use crate::drawing::draw_where;
 use crate::explaining::Explained;
 use crate::files::order_file;
 use crate::levels::asks_moments;
@@ -73,12 +74,22 @@ pub fn told_part<R: Threads + Wait + Clock + Sync>(
     let txns = told_txns(alloc, version, sessions, &refuted.flags)?;
     let explained = explain_part(rt, alloc, version, sessions, &refuted, &options.means)?;
     let Explained { text, known_as } = explained;
+    let graph = draw_where(
+        rt,
+        alloc,
+        version,
+        sessions,
+        &refuted,
+        options.explanation,
+        &options.means,
+    )?;
     if !options.explain {
         return Ok(ToldPart {
             refuted,
             txns,
             known_as,
             why: Vec::new(alloc),
+            graph,
             is_serial_apart: false,
         });
     }
@@ -88,6 +99,7 @@ pub fn told_part<R: Threads + Wait + Clock + Sync>(
         txns,
         known_as,
         why: text,
+        graph,
         is_serial_apart: is_serial,
     })
 }

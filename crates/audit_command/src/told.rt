@@ -24,6 +24,8 @@ pub struct ToldPart {
     pub known_as: Option<String>,
     /// Why it has no order, in lines, where that is asked for.
     pub why: Vec<u8>,
+    /// The same as a graph, where that is asked for.
+    pub graph: Vec<u8>,
     /// Whether it has a serial order without the order of sessions, where that is asked for and
     /// known.
     pub is_serial_apart: bool,

@@ -1,11 +1,13 @@
 -- What a call leaves, from what its parts do.
-use Rattle.std.proofs.Common.{◌≡◌, ℕ, List, Option, subst}
+use Rattle.std.proofs.Common.{◌≡◌, ℕ, List, Option, subst, ap, ◌∙◌, inl, inr}
 use Rattle.std.specs.Io.KnownBytes.{Keeps}
 use Rattle.cobra_answers.specs.declared.status.Status.{Status}
+use Rattle.output.specs.Sinks.{one_more}
 use Rattle.cobra_words.specs.declared.request.Request.{Request}
+use Rattle.cobra_words.specs.declared.request.Command.{Command}
 use Rattle.cobra_calls.specs.declared.ending.Ending.{Ending}
 use Rattle.cobra_calls.specs.Calls.{IsDone, IsEnded}
-use Rattle.cobra_calls.specs.Worlds.{Held, IsReading, IsLogRead, IsNamedRead, IsEnding, IsAnswer, by_command}
+use Rattle.cobra_calls.specs.Worlds.{Held, IsReading, IsLogRead, IsNamedRead, IsEnding, IsAnswer, AreReads, with_named, by_command}
 
 pub reading_of : (r : Request) (given : Option (List ℕ)) (held later : Held) (log named : List ℕ) → IsLogRead r given held log → later ≡ held → IsNamedRead r.command later named → IsReading r given held (record { log = log; named = named })
 reading_of r given held later log named l e n = record { log = l; named = subst (λ (h : Held). IsNamedRead r.command h named) e n }
@@ -21,3 +23,9 @@ answered_so r given held later log named old told new s l e n d k = record {
   done = d;
   handed = k;
 }
+
+pub read_log_alone : (c : Command) (before after : ℕ) → after ≡ one_more before → AreReads c before after
+read_log_alone c before after e = inl e
+
+pub read_both : (c : Command) (before between after : ℕ) → between ≡ one_more before → after ≡ with_named c between → AreReads c before after
+read_both c before between after e f = inr (f ∙ ap (λ n. with_named c n) e)

@@ -49,6 +49,7 @@ pub record AreOptions (r : Request) (w : AuditWords) (start : Option Instant) (o
   pub only : o.only ≡ w.only
   pub no_moments : o.no_moments ≡ w.no_moments
   pub explain : o.explain ≡ w.explain
+  pub explanation : o.explanation ≡ w.explanation
   pub part : o.part ≡ is_some w.part
   pub order : o.order ≡ is_some w.order
   pub form : o.form ≡ w.format

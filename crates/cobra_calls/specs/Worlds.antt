@@ -1,5 +1,5 @@
 -- What a call reads of the world, and what it leaves there.
-use Rattle.std.specs.Prelude.{◌≡◌, ℕ, ◌+◌, List, [], ◌∷◌, ◌++◌, take, ⊤}
+use Rattle.std.specs.Prelude.{◌≡◌, ◌⊎◌, ℕ, ◌+◌, List, [], ◌∷◌, ◌++◌, take, ⊤}
 use Rattle.std.specs.Prelude.{Option, Some, None, Bool, true, false, if◌then◌else◌}
 use Rattle.std.specs.Prelude.{Result, Ok, Err}
 use Rattle.std.specs.Borrow.{Bor}
@@ -72,6 +72,18 @@ names_file (command.Decode model) = true
 names_file (command.Refute proof) = true
 names_file (command.Verify order) = true
 names_file _ = false
+
+-- how many reads there were, behind that of the file that the command names, where it names one
+abbrev pub with_named : Command → ℕ → ℕ
+with_named (command.Decode model) before = one_more before
+with_named (command.Refute proof) before = one_more before
+with_named (command.Verify order) before = one_more before
+with_named _ before = before
+
+-- so many calls read before and after: the log was read once, and then the file that the command
+-- names, where the log could be read; and nothing else
+abbrev pub AreReads : Command → ℕ → ℕ → Type 0
+AreReads c before after = (after ≡ one_more before) ⊎ (after ≡ with_named c (one_more before))
 
 pub record IsReading (r : Request) (given : Option (List ℕ)) (held : Held) (read : Reads) : Type 0 where
   pub log : IsLogRead r given held read.log

@@ -3,7 +3,7 @@
 ghost use Rattle.std.specs.Prelude.{◌≡◌, true, IfOk, IfErr, OnOk};
 ghost use Rattle.cobra_calls.specs.Calls.{is_plain};
 ghost use Rattle.cobra_calls.specs.Endings.{line_of, status_of, output_failures};
-ghost use Rattle.cobra_calls.specs.Worlds.{Seen, IsAnswer, IsEnding, IsLineTold, IsAnswered};
+ghost use Rattle.cobra_calls.specs.Worlds.{Seen, IsAnswer, IsEnding, IsLineTold, IsAnswered, AreReads};
 
 use crate::calls::run_on;
 use crate::ending::Ending;
@@ -18,6 +18,7 @@ use std::thread::Threads;
 use std::time::Clock;
 
 /// Runs a command on what it reads: first the log, then the answer, the proof or the order.
+#[tactic(auto, using(crate::proofs::Left::read_log_alone, crate::proofs::Left::read_both))]
 fn run<R: Threads + Wait + Clock + Sync, I: Inputs, O: Outlet>(
     rt: &R,
     alloc: Global,
@@ -32,6 +33,7 @@ fn run<R: Threads + Wait + Clock + Sync, I: Inputs, O: Outlet>(
     ensures ending { IfErr result (IsEnding request.now (I.given inputs.old) (I.held inputs.old)
         (I.failures inputs.old) (I.failures inputs.new) (O.bytes output.old) (O.bytes output.new)) }
     ensures reads { OnOk result (I.failures inputs.new ≡ I.failures inputs.old) }
+    ensures once { AreReads request.now.command (I.reads inputs.old) (I.reads inputs.new) }
     ensures count { O.failures output.new ≡ output_failures (O.failures output.old) result }
 {
     let log = read_log(alloc, request, inputs)?;
@@ -75,6 +77,8 @@ pub fn answer<R: Threads + Wait + Clock + Sync, I: Inputs, O: Outlet, E: Errors>
       is_through = O.is_through world.new.output;
       is_broken = E.is_broken world.new.errors;
     }) result }
+    ensures once { AreReads request.now.command (I.reads world.old.inputs)
+        (I.reads world.new.inputs) }
 {
     match run(rt, alloc, request, &mut world.inputs, &mut world.output) {
         Ok(status) => status.code(),

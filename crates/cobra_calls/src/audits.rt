@@ -65,6 +65,7 @@ fn options_of<'a>(
         only: words.only,
         no_moments: words.no_moments,
         explain: words.explain,
+        explanation: words.explanation,
         part: words.part.is_some(),
         order: words.order.is_some(),
         form: words.format,
@@ -272,11 +273,11 @@ fn refuse<W: Outlet>(
 }
 
 /// Says of a long log whether it has a serial order, and writes the files that are asked for. The
-/// call began then.
+/// call began then. The log's bytes are given back as soon as it is read.
 pub fn audit_log<R: Threads + Wait + Clock + Eprint + Sync, W: Outlet, F: NewFiles, P: Progress>(
     rt: &R,
     alloc: Global,
-    log: &[u8],
+    log: &mut Vec<u8>,
     request: &Request<'_>,
     words: &AuditWords<'_>,
     start: Option<Instant>,
@@ -284,10 +285,10 @@ pub fn audit_log<R: Threads + Wait + Clock + Eprint + Sync, W: Outlet, F: NewFil
     sink: &mut W,
     files: &mut F,
 ) -> Result<Status, Ending>
-    ensures done { IfOk result (IsAuditDone request.now words.now start log.now
+    ensures done { IfOk result (IsAuditDone request.now words.now start log.old.items
         (W.bytes sink.old) (W.bytes sink.new) (F.files files.old) (F.files files.new)) }
     ensures through { OnOk result (W.is_through sink.new ≡ true) }
-    ensures ended { IfErr result (IsAuditEnding request.now words.now start log.now
+    ensures ended { IfErr result (IsAuditEnding request.now words.now start log.old.items
         (W.bytes sink.old) (W.bytes sink.new) (F.files files.old) (F.files files.new)) }
     ensures count { W.failures sink.new ≡ output_failures (W.failures sink.old) result }
 {

@@ -1,10 +1,11 @@
 //! What a call reads.
 
 ghost use Rattle.std.specs.Prelude.{◌≡◌, true, OnErr, ℕ, IfOk, IfErr, OnOk};
+ghost use Rattle.output.specs.Sinks.{one_more};
 ghost use Rattle.cobra_calls.specs.Calls.{log_name};
 ghost use Rattle.cobra_calls.specs.Endings.{IsUnusable, IsUnread};
 ghost use Rattle.cobra_calls.specs.Worlds.{is_long, limit_of, IsLogRead, IsNamedRead, IsLogUnread};
-ghost use Rattle.cobra_calls.specs.Worlds.{failures_with, names_file, read_failures};
+ghost use Rattle.cobra_calls.specs.Worlds.{failures_with, names_file, read_failures, with_named};
 
 use crate::ending::Ending;
 use crate::splits::log_name;
@@ -73,6 +74,7 @@ fn log_bytes<I: Inputs>(
         (I.held inputs.old) log.items) }
     ensures held { I.held inputs.new ≡ I.held inputs.old }
     ensures count { I.failures inputs.new ≡ read_failures (I.failures inputs.old) result }
+    ensures once { I.reads inputs.new ≡ one_more (I.reads inputs.old) }
 {
     let limit = limit_of(&request.command);
     match request.log {
@@ -93,6 +95,7 @@ pub fn read_log<I: Inputs>(
     ensures count { OnOk result (I.failures inputs.new ≡ I.failures inputs.old) }
     ensures unread { IfErr result (IsLogUnread request.now
         (I.failures inputs.old) (I.failures inputs.new)) }
+    ensures once { I.reads inputs.new ≡ one_more (I.reads inputs.old) }
 {
     match log_bytes(alloc, request, inputs) {
         Ok(log) => Ok(log),
@@ -109,6 +112,7 @@ fn named_bytes<I: Inputs>(
     ensures named { IfOk result (λ named. IsNamedRead command.now (I.held inputs.old) named.items) }
     ensures count { I.failures inputs.new ≡ read_failures (I.failures inputs.old) result }
     ensures names { OnErr result (names_file command.now ≡ true) }
+    ensures once { I.reads inputs.new ≡ with_named command.now (I.reads inputs.old) }
 {
     match command {
         Command::Decode { model } => inputs.read_held(alloc, model, MAX_ANSWER_BYTES),
@@ -128,6 +132,7 @@ pub fn read_named<I: Inputs>(
     ensures count { OnOk result (I.failures inputs.new ≡ I.failures inputs.old) }
     ensures unread { IfErr result (IsUnread (I.failures inputs.old) (I.failures inputs.new)) }
     ensures names { OnErr result (names_file command.now ≡ true) }
+    ensures once { I.reads inputs.new ≡ with_named command.now (I.reads inputs.old) }
 {
     match named_bytes(alloc, command, inputs) {
         Ok(named) => Ok(named),

@@ -32,12 +32,16 @@ pub trait Inputs {
     /// How many calls failed, up to 2^64 - 1.
     ghost failures: { Self → ℕ };
 
+    /// How many calls there were, up to 2^64 - 1.
+    ghost reads: { Self → ℕ };
+
     /// Reads standard input, up to one byte more than the limit.
     fn read_given(&mut self, alloc: Global, limit: usize) -> Result<Vec<u8>, Unread>
         requires { limit < 2 ^ 63 }
         ensures text { IfOk result (λ text. IsReadUpTo (given self.old) limit text.items) }
         ensures held { held self.new ≡ held self.old }
-        ensures count { failures self.new ≡ read_failures (failures self.old) result };
+        ensures count { failures self.new ≡ read_failures (failures self.old) result }
+        ensures once { reads self.new ≡ one_more (reads self.old) };
 
     /// Reads the file of this name, up to one byte more than the limit.
     fn read_held(&mut self, alloc: Global, name: &str, limit: usize) -> Result<Vec<u8>, Unread>
@@ -45,7 +49,8 @@ pub trait Inputs {
         ensures text { IfOk result (λ text. IsReadUpTo (held self.old name.now) limit text.items) }
         ensures given { given self.new ≡ given self.old }
         ensures held { held self.new ≡ held self.old }
-        ensures count { failures self.new ≡ read_failures (failures self.old) result };
+        ensures count { failures self.new ≡ read_failures (failures self.old) result }
+        ensures once { reads self.new ≡ one_more (reads self.old) };
 }
 
 /// The count of failures after one more, which stops at 2^64 - 1.

@@ -24,6 +24,7 @@ fn main(rt: HostRuntime) -> ExitCode {
             rt: &rt,
             input: Some(rt.stdin()),
             failures: 0,
+            reads: 0,
         },
         output: Counted::new(rt.stdout()),
         errors: SystemErrors {

@@ -17,6 +17,7 @@ pub struct SystemInputs<'a, R, I> {
     pub rt: &'a R,
     pub input: Option<I>,
     pub failures: u64,
+    pub reads: u64,
 }
 
 impl<R: Files, I: Read + Drop> Inputs for SystemInputs<'_, R, I> {
@@ -26,12 +27,15 @@ impl<R: Files, I: Read + Drop> Inputs for SystemInputs<'_, R, I> {
 
     ghost failures = { λ i. i.failures };
 
+    ghost reads = { λ i. i.reads };
+
     fn read_given(&mut self, alloc: Global, limit: usize) -> Result<Vec<u8>, Unread> {
         let read = match self.input.take() {
             Some(input) => read_up_to(alloc, input, limit),
             None => Err(Unread::Device(io::Error::from(ErrorKind::NotFound))),
         };
         self.failures = failures_after(self.failures, &read);
+        self.reads = one_more(self.reads);
         read
     }
 
@@ -41,6 +45,7 @@ impl<R: Files, I: Read + Drop> Inputs for SystemInputs<'_, R, I> {
             Err(error) => Err(Unread::Device(error)),
         };
         self.failures = failures_after(self.failures, &read);
+        self.reads = one_more(self.reads);
         read
     }
 }

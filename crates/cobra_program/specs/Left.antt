@@ -5,11 +5,13 @@ use Rattle.cobra_calls.specs.Endings.{status_of}
 use Rattle.cobra_calls.specs.Files.{Disk}
 use Rattle.cobra_calls.specs.Worlds.{Seen, IsLineTold}
 
--- the world, and the files that are written, before and after a call
+-- the world, the files that are written, and how many calls read, before and after a call
 pub record Left : Type 0 where
   pub seen : Seen
   pub files : Disk
   pub later_files : Disk
+  pub reads : ℕ
+  pub later_reads : ℕ
 
 -- no read failed
 abbrev pub NoReadFailed : Seen → Type 0
@@ -31,14 +33,19 @@ pub record EndsAtOnce (e : Ending) (w : Seen) (status : ℕ) : Type 0 where
   pub silent : IsSilent w
   pub ends : EndsFor e w status
 
--- and no file was written
-pub record EndsBefore (e : Ending) (c : Left) (status : ℕ) : Type 0 where
-  pub ends : EndsAtOnce e c.seen status
+-- nothing was read, and no file was written
+pub record IsNothingDone (c : Left) : Type 0 where
+  pub reads : c.later_reads ≡ c.reads
   pub files : c.later_files ≡ c.files
 
--- nothing is told, and no file was written
+-- and this too
+pub record EndsBefore (e : Ending) (c : Left) (status : ℕ) : Type 0 where
+  pub ends : EndsAtOnce e c.seen status
+  pub nothing : IsNothingDone c
+
+-- and nothing is told
 pub record IsUntouched (c : Left) : Type 0 where
   pub reads : NoReadFailed c.seen
   pub silent : IsSilent c.seen
   pub lines : c.seen.later ≡ c.seen.lines
-  pub files : c.later_files ≡ c.files
+  pub nothing : IsNothingDone c

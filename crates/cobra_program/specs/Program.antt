@@ -18,8 +18,8 @@ use Rattle.cobra_words.specs.declared.request.Words.TheVariants.{Request as Aske
 use Rattle.cobra_calls.specs.declared.ending.Ending.{Ending}
 use Rattle.cobra_calls.specs.declared.ending.Ending.TheVariants.{Stop}
 use Rattle.cobra_calls.specs.Endings.{out_of_memory}
-use Rattle.cobra_calls.specs.Worlds.{IsAnswered}
-use Rattle.cobra_program.specs.Left.{Left, EndsBefore, IsUntouched}
+use Rattle.cobra_calls.specs.Worlds.{IsAnswered, AreReads}
+use Rattle.cobra_program.specs.Left.{Left, EndsBefore, IsNothingDone, IsUntouched}
 use Rattle.cobra_program.specs.Texts.{IsShown}
 use Rattle.cobra_program.specs.Audits.{IsAuditAnswered}
 
@@ -33,8 +33,10 @@ abbrev pub IsServedBy : Command → Option Instant → Request → Left → ℕ 
 IsServedBy (command.Audit words) start r c status = IsAuditAnswered start r words c status
 IsServedBy _ start r c status = IsAnswered r c.seen status × (c.later_files ≡ c.files)
 
+-- and no more was read than the log and the file that the command names, each once
 abbrev pub IsServed : Option Instant → Request → Left → ℕ → Type 0
 IsServed start r c status = IsServedBy r.command start r c status
+    × AreReads r.command c.reads c.later_reads
 
 -- what words ask for that were read so: a request is served, or a text is shown; or there is neither,
 -- and nothing is told
@@ -42,7 +44,7 @@ abbrev pub IsFollowed : Option Instant → Option Words → Left → ℕ → Typ
 IsFollowed start None c status = IsUntouched c × (status ≡ 2)
 IsFollowed start (Some (Asked r)) c status = IsServed start r c status
 IsFollowed start (Some (Shown text)) c status =
-    IsShown (kind_of text) c.seen status × (c.later_files ≡ c.files)
+    IsShown (kind_of text) c.seen status × IsNothingDone c
 
 -- a call with these words, of which the first is the program's name
 pub data IsCall (start : Option Instant) (words : List (List ℕ)) (c : Left) (status : ℕ)

@@ -1,6 +1,7 @@
 //! A call of `audit`, from its request to what it leaves in the world.
 
 ghost use Rattle.std.specs.Prelude.{◌≡◌, option_map};
+ghost use Rattle.output.specs.Sinks.{one_more};
 ghost use Rattle.audit_command.specs.Objects as objects;
 ghost use Rattle.cobra_program.specs.Audits.{failure_line, IsSaid, IsFailureSaid};
 ghost use Rattle.cobra_program.specs.Audits.{IsAuditAnswered};
@@ -86,9 +87,12 @@ pub fn answer_audit<
       };
       files = F.files files.old;
       later_files = F.files files.new;
+      reads = I.reads world.old.inputs;
+      later_reads = I.reads world.new.inputs;
     }) result }
+    ensures once { I.reads world.new.inputs ≡ one_more (I.reads world.old.inputs) }
 {
-    let log = match read_log(alloc, request, &mut world.inputs) {
+    let mut log = match read_log(alloc, request, &mut world.inputs) {
         Ok(log) => log,
         Err(ending) => {
             tell_failure(alloc, words, &ending, &mut world.output);
@@ -100,7 +104,7 @@ pub fn answer_audit<
     match audit_log(
         rt,
         alloc,
-        &log,
+        &mut log,
         request,
         words,
         start,

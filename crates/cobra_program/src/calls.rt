@@ -50,6 +50,8 @@ fn serve<R: Threads + Wait + Clock + Eprint + Sync, I: Inputs, O: Outlet, E: Err
       };
       files = F.files files.old;
       later_files = F.files files.new;
+      reads = I.reads world.old.inputs;
+      later_reads = I.reads world.new.inputs;
     }) result }
 {
     match &request.command {
@@ -91,6 +93,8 @@ pub fn program<
       };
       files = F.files files.old;
       later_files = F.files files.new;
+      reads = I.reads world.old.inputs;
+      later_reads = I.reads world.new.inputs;
     }) result }
 {
     let words = match words {

@@ -41,6 +41,7 @@ pub fn show<I: Inputs, O: Outlet, E: Errors>(
       is_through = O.is_through world.new.output;
       is_broken = E.is_broken world.new.errors;
     }) result }
+    ensures unread { I.reads world.new.inputs ≡ I.reads world.old.inputs }
 {
     let Ok(shown) = format!(in alloc; "{text}") else {
         return tell_ending(&mut world.errors, Ending::memory());

@@ -8,13 +8,11 @@ use Rattle.clap.specs.Simple.{App, is_simple, subcommand_of, subcommand_rows_of,
 use Rattle.clap.specs.Takes.{takes}
 use Rattle.clap.specs.Values.{kind_of}
 use Rattle.clap.specs.declared.error.Error.{Error}
-use Rattle.clap.specs.declared.error.kind.ErrorKind.TheVariants.{OutOfMemory, ArgumentConflict}
+use Rattle.clap.specs.declared.error.kind.ErrorKind.TheVariants.{OutOfMemory}
 use Rattle.clap.specs.declared.parser.matches.ArgMatches.{ArgMatches}
 use Rattle.cobra_words.specs.declared.request.Request.{Request}
-use Rattle.cobra_words.specs.declared.request.Words.{Words}
-use Rattle.cobra_words.specs.declared.request.Words.TheVariants.{Request as Asked, Shown}
 use Rattle.cobra_words.specs.Commands.{Lists, program_app}
-use Rattle.cobra_words.specs.Asked.{IsAskedBy, IsInRange, AreWordsOf, IsAskedFor, IsAskedForNone, IsShownFor, IsReadAs, IsExclusion, excludes, by_fault, by_exclusion}
+use Rattle.cobra_words.specs.Asked.{IsAskedBy, IsInRange, AreWordsOf, IsAskedFor, IsAskedForNone, IsShownFor}
 
 pub none_entered : {B C : Type 0} (s : Option B) (f : B → Text) (g : B → C) (x : C) → (let o : Option Text = None in o) ≡ option_map f s → option_map g s ≡ Some x → ⊥
 none_entered None f g x e h = cc
@@ -27,17 +25,6 @@ same_entered (Some b) f g n rs name rows e k h =
     let first : n ≡ f b = cc in
     let second : rs ≡ g b = cc in
     (sym (first ∙ ap (λ (p : Text × List Row). p.0) pair), sym (second ∙ ap (λ (p : Text × List Row). p.1) pair))
-
-pub entered_as : {B : Type 0} (s : Option B) (f : B → Text) (g : B → List Row) (n : Text) (rs : List Row) → Some n ≡ option_map f s → Some rs ≡ option_map (λ (p : Text × List Row). p.1) (option_map (λ b. let p : Text × List Row = (f b, g b) in p) s) → option_map (λ b. let p : Text × List Row = (f b, g b) in p) s ≡ Some (n, rs)
-entered_as None f g n rs e k = cc
-entered_as (Some b) f g n rs e k =
-    let first : f b ≡ n = cc in
-    let second : g b ≡ rs = cc in
-    ap (λ x. let o : Option (Text × List Row) = Some (x, g b) in o) first ∙ ap (λ x. let o : Option (Text × List Row) = Some (n, x) in o) second
-
-pub not_entered : {B : Type 0} (s : Option B) (f : B → Text) (g : B → List Row) → (let o : Option Text = None in o) ≡ option_map f s → option_map (λ b. let p : Text × List Row = (f b, g b) in p) s ≡ None
-not_entered None f g e = refl
-not_entered (Some b) f g e = cc
 
 program_is_simple : (l : Lists) → is_simple (program_app l) ≡ true
 program_is_simple l = refl
@@ -54,23 +41,23 @@ among kinds e (inl h) other = absurd (other h)
 among kinds e (inr h) other = h
 
 pub shown_by : (l : Lists) (words : List Text) (app : App) (e : Error) → app ≡ program_app l → (is_simple_and_free app ≡ true → HasKind (fault_of app words) e) → (takes app words ≡ true → kind_of e ≡ OutOfMemory) → (kind_of e ≡ OutOfMemory → ⊥) → IsShownFor l words e
-shown_by l words app e is kinds passes other =
-    by_fault (λ taken. other (passes (subst (λ a. takes a words ≡ true) (sym is) taken)))
-    (subst (λ a. IsAmong (kind_of e) (fault_of a words)) is (among (fault_of app words) e (kinds (subst (λ a. is_simple_and_free a ≡ true) (sym is) (program_is_free l))) other))
+shown_by l words app e is kinds passes other = record {
+  fault = λ taken. other (passes (subst (λ a. takes a words ≡ true) (sym is) taken));
+  kind = subst (λ a. IsAmong (kind_of e) (fault_of a words)) is (among (fault_of app words) e (kinds (subst (λ a. is_simple_and_free a ≡ true) (sym is) (program_is_free l))) other);
+}
 
 -- the words enter what the matches hold
 entered_at : (l : Lists) (words : List Text) (app : App) (m : ArgMatches) → app ≡ program_app l → HasMatchesOf app words m → subcommand_rows_of m ≡ subcommand_of (program_app l) words
 entered_at l words app m is has = (subst (λ a. HasMatchesOf a words m) is has (program_is_simple l)).1
 
-pub asked_by : (l : Lists) (words : List Text) (app : App) (m : ArgMatches) (r : Request) → app ≡ program_app l → (is_simple_and_free app ≡ true → fault_of app words ≡ []) → HasMatchesOf app words m → excludes (subcommand_rows_of m) ≡ false → IsAskedBy m r → IsAskedFor l words r
-asked_by l words app m r is free has apart h = record {
+pub asked_by : (l : Lists) (words : List Text) (app : App) (m : ArgMatches) (r : Request) → app ≡ program_app l → (is_simple_and_free app ≡ true → fault_of app words ≡ []) → HasMatchesOf app words m → IsAskedBy m r → IsAskedFor l words r
+asked_by l words app m r is free has h = record {
   taken = taken_by l words app is free;
   asked = record {
     name = h.name;
     rows = h.rows;
     entered = sym (entered_at l words app m is has) ∙ h.entered;
     request = h.request;
-    apart = ap excludes (sym h.entered) ∙ apart;
   };
 }
 
@@ -79,17 +66,3 @@ none_asked l words app m is free has none = record {
   taken = taken_by l words app is free;
   none = λ r h range. none r (record { name = h.name; rows = h.rows; entered = entered_at l words app m is has ∙ h.entered; request = h.request }) range;
 }
-
-both_ways : (b : Bool) → b ≡ true → b ≡ false → ⊥
-both_ways b e f = let both : true ≡ false = sym e ∙ f in cc
-
-none_excluded : (l : Lists) (words : List Text) (app : App) (m : ArgMatches) → app ≡ program_app l → (is_simple_and_free app ≡ true → fault_of app words ≡ []) → HasMatchesOf app words m → excludes (subcommand_rows_of m) ≡ true → IsAskedForNone l words
-none_excluded l words app m is free has e = record {
-  taken = taken_by l words app is free;
-  none = λ r h range. both_ways (excludes (subcommand_rows_of m)) e (ap excludes (entered_at l words app m is has ∙ h.entered) ∙ h.apart);
-}
-
-pub read_apart : (l : Lists) (words : List Text) (app : App) (m : ArgMatches) (said : Option Words) → app ≡ program_app l → (is_simple_and_free app ≡ true → fault_of app words ≡ []) → HasMatchesOf app words m → excludes (subcommand_rows_of m) ≡ true → IfSome said IsExclusion → IsReadAs l words said
-read_apart l words app m None is free has together h = none_excluded l words app m is free has together
-read_apart l words app m (Some (Asked r)) is free has together h = absurd h
-read_apart l words app m (Some (Shown text)) is free has together h = by_exclusion (ap excludes (sym (entered_at l words app m is has)) ∙ together) h

@@ -9,11 +9,10 @@ use Rattle.clap.specs.declared.parser.matches.ArgMatches.{ArgMatches}
 use Rattle.clap.specs.Simple.{subcommand_of, subcommand_rows_of}
 use Rattle.clap.specs.Faults.{fault_of}
 use Rattle.clap.specs.Kinds.{IsAmong}
-use Rattle.clap.specs.Takes.{takes, is_given}
+use Rattle.clap.specs.Takes.{takes}
 use Rattle.clap.specs.Values.{kind_of}
 use Rattle.clap.specs.Walk.{Row, Text, first_of, one_of}
 use Rattle.clap.specs.declared.error.Error.{Error}
-use Rattle.clap.specs.declared.error.kind.ErrorKind.TheVariants.{ArgumentConflict}
 use Rattle.call_options.specs.declared.format.Format.{Format}
 use Rattle.call_options.specs.declared.format.Format.TheVariants as format
 use Rattle.call_options.specs.declared.report_form.ReportForm.{ReportForm}
@@ -96,6 +95,7 @@ pub record AreAuditWords (rows : List Row) (explains : Bool) (w : AuditWords) : 
   pub only : IsFlag (one_of (codes "only") rows) w.only
   pub no_moments : IsFlag (one_of (codes "no-moments") rows) w.no_moments
   pub explain : w.explain ≡ explains
+  pub explanation : w.explanation ≡ format_of (first_of (codes "format") rows)
   pub part : option_map (λ s. s.now) w.part ≡ first_of (codes "part") rows
   pub order : option_map (λ s. s.now) w.order ≡ first_of (codes "order") rows
   pub format : w.format ≡ report_of (first_of (codes "format") rows)
@@ -157,25 +157,12 @@ IsInRange r = (0 < r.workers) × (r.workers ≤ 16) × (0 < r.budget) × (r.budg
 
 -- ---- words
 
--- a call of `explain` gives both a level and a form, which exclude each other
-abbrev pub gives_both : List Row → Bool
-gives_both rows = if is_given (codes "level") rows then is_given (codes "format") rows else false
-
-abbrev pub excludes : Option (Text × List Row) → Bool
-excludes entered = option_map_or (λ p. if bytes_eq p.0 (codes "explain") then gives_both p.1 else false) entered false
-
--- a text says so
-abbrev pub IsExclusion : Words → Type 0
-IsExclusion (Asked r) = ⊥
-IsExclusion (Shown text) = kind_of text ≡ ArgumentConflict
-
 -- these words ask for it: they enter a command, and have its own matches
 pub record AreWordsOf (l : Lists) (words : List Text) (r : Request) : Type 0 where
   pub name : Text
   pub rows : List Row
   pub entered : subcommand_of (program_app l) words ≡ Some (name, rows)
   pub request : IsRequest name rows r
-  pub apart : excludes (Some (name, rows)) ≡ false
 
 -- and the program's options take them: each value is in its range or its list, nothing is given
 -- twice, nothing is missing
@@ -184,12 +171,10 @@ pub record IsAskedFor (l : Lists) (words : List Text) (r : Request) : Type 0 whe
   pub asked : AreWordsOf l words r
 
 -- why a text is shown: help or the version is asked for, or words are not taken, which the text is of
--- by its kind; or a level and a form exclude each other
-pub data IsShownFor (l : Lists) (words : List Text) (text : Error) : Type 0 where
-  by_fault : takes (program_app l) words ≢ true
-      → IsAmong (kind_of text) (fault_of (program_app l) words) → IsShownFor l words text
-  by_exclusion : excludes (subcommand_of (program_app l) words) ≡ true
-      → kind_of text ≡ ArgumentConflict → IsShownFor l words text
+-- by its kind
+pub record IsShownFor (l : Lists) (words : List Text) (text : Error) : Type 0 where
+  pub fault : takes (program_app l) words ≢ true
+  pub kind : IsAmong (kind_of text) (fault_of (program_app l) words)
 
 -- words are taken, but ask for no request within its ranges
 pub record IsAskedForNone (l : Lists) (words : List Text) : Type 0 where

@@ -74,7 +74,8 @@ Answers, by exit status:
   4  out of memory
   5  device failed: input or output
 
-With --level, the answers are those of audit --explain.";
+With --level, the answers are those of audit --explain, for a log of any length; with --format dot
+the graph of the part that shows why, behind comments.";
 
 /// What `audit` answers, by exit status.
 pub const AUDIT: &str = "\

@@ -6,12 +6,12 @@ ghost use Rattle.cobra_words.specs.Commands.{verify_app, encode_app, decode_app,
 ghost use Rattle.cobra_words.specs.Commands.{solve_app, stats_app, split_app, census_app, with_workers};
 ghost use Rattle.cobra_words.specs.Commands.{with_formula, with_search, with_report, with_audit};
 ghost use Rattle.cobra_words.specs.Commands.{check_app, program_head, HasApp, HasListApp, IsExplain};
-ghost use Rattle.cobra_words.specs.Commands.{IsAudit, IsProgram, HasListRule, strategies, reports};
-ghost use Rattle.cobra_words.specs.Commands.{levels, level};
+ghost use Rattle.cobra_words.specs.Commands.{IsAudit, IsProgram, strategies, reports};
+ghost use Rattle.cobra_words.specs.Commands.{levels};
 
 use crate::{answers, options};
 use call_options::{AUDIT_DEFAULTS, CHECK_DEFAULTS, SearchDefaults};
-use clap::{Arg, Command};
+use clap::Command;
 use std::alloc::{AllocError, Global};
 
 /// The version that `--version` prints. Where a built program is kept, its commit and whether it
@@ -124,22 +124,15 @@ fn stats<'a>(alloc: Global) -> Result<Command<'a>, AllocError>
     with_formula(alloc, command)
 }
 
-/// `explain`, with this option for a level.
-fn explain_by<'a>(alloc: Global, named: Arg<'a>) -> Result<Command<'a>, AllocError>
-    ensures app { HasListRule levels level named.entry → IfOk result IsExplain }
+fn explain<'a>(alloc: Global) -> Result<Command<'a>, AllocError>
+    ensures app { IfOk result IsExplain }
 {
     let command = Command::new(alloc, "explain")
         .about("Say why no serial order explains a log")
         .after_help(answers::EXPLAIN)
         .arg(options::format(alloc))?
-        .arg(named)?;
+        .arg(options::level_of_explain(alloc))?;
     with_search(alloc, command, CUBES, CHECK_DEFAULTS)
-}
-
-fn explain<'a>(alloc: Global) -> Result<Command<'a>, AllocError>
-    ensures app { IfOk result IsExplain }
-{
-    explain_by(alloc, options::level_of_explain(alloc))
 }
 
 /// Such a command that reports.
@@ -226,11 +219,4 @@ pub fn program<'a>(alloc: Global) -> Result<Command<'a>, AllocError>
         .subcommand(audit(alloc)?)?
         .subcommand(split(alloc)?)?
         .subcommand(census(alloc)?)
-}
-
-/// `explain` alone, whose level and form exclude each other: `clap` refuses words that give both, and
-/// says so. No contract of it speaks of that, so the words of calls are read without.
-pub fn excluding_program<'a>(alloc: Global) -> Result<Command<'a>, AllocError> {
-    let named = options::level_of_explain(alloc).conflicts_with("format")?;
-    program_head(alloc).subcommand(explain_by(alloc, named)?)
 }

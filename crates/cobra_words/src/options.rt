@@ -189,7 +189,7 @@ pub fn level<'a>(alloc: Global) -> Arg<'a>
 pub fn level_of_explain<'a>(alloc: Global) -> Arg<'a>
     ensures rule { HasListRule levels level result }
 {
-    level(alloc).help("Say what audit --explain says of this promise")
+    level(alloc).help("Say what audit --explain says of this promise, or draw it")
 }
 
 pub fn only<'a>(alloc: Global) -> Arg<'a>

@@ -1,18 +1,17 @@
 //! From words to what they ask for.
 
-ghost use Rattle.std.specs.Prelude.{◌≡◌, Some, codes, map, string_bytes, IfOk, IfSome, IfNone, IsSome};
+ghost use Rattle.std.specs.Prelude.{◌≡◌, codes, map, string_bytes, IfOk, IfSome, IfNone, IsSome};
 ghost use Rattle.clap.specs.Matches.{found_of};
-ghost use Rattle.clap.specs.Simple.{subcommand_rows_of};
 ghost use Rattle.clap.specs.Walk.{rows_of};
 ghost use Rattle.cobra_words.specs.declared.request.Command.{Command};
 ghost use Rattle.cobra_words.specs.declared.request.Request.{Request};
 ghost use Rattle.cobra_words.specs.Asked.{AreAuditWords, IsCommand, IsRequest, IsAskedBy};
-ghost use Rattle.cobra_words.specs.Asked.{IsInRange, IsRead, IsExclusion, excludes, gives_both};
+ghost use Rattle.cobra_words.specs.Asked.{IsInRange, IsRead};
 
-use crate::commands::{excluding_program, program};
+use crate::commands::program;
 use crate::request::{AuditWords, Command, Request, Words};
 use crate::values::{
-    byte_of, flag_of, format_of, is_given, level_of, log_of, number_of, report_of, short_number_of,
+    byte_of, flag_of, format_of, level_of, log_of, number_of, report_of, short_number_of,
     strategy_of, text_of,
 };
 use clap::ArgMatches;
@@ -33,6 +32,7 @@ fn audit_of<'a>(matches: &ArgMatches<'a>, explain: bool) -> AuditWords<'a>
         only: flag_of(matches, "only"),
         no_moments: flag_of(matches, "no-moments"),
         explain,
+        explanation: format_of(text_of(matches, "format")),
         part: text_of(matches, "part"),
         order: text_of(matches, "order"),
         format: report_of(text_of(matches, "format")),
@@ -109,44 +109,6 @@ fn request_of<'a>(program: &ArgMatches<'a>) -> Option<Request<'a>>
     request_at(name, matches)
 }
 
-/// Whether words give both a level and a form.
-fn gives_both(matches: &ArgMatches<'_>) -> bool
-    ensures both { result ≡ gives_both (rows_of (found_of matches.now)) }
-{
-    is_given(matches, "level") && is_given(matches, "format")
-}
-
-/// Whether the words of a command of this name are those of `explain`, and give both.
-fn excludes_at(name: &str, matches: &ArgMatches<'_>) -> bool
-    ensures excludes { result ≡ excludes (Some (name.now, rows_of (found_of matches.now))) }
-{
-    name == "explain" && gives_both(matches)
-}
-
-/// Whether the words enter `explain`, and give both.
-fn excludes(program: &ArgMatches<'_>) -> bool
-    ensures excludes { result ≡ excludes (subcommand_rows_of program.now) }
-{
-    match program.subcommand() {
-        Some((name, matches)) => excludes_at(name, matches),
-        None => false,
-    }
-}
-
-/// What `clap` says of such words.
-fn exclusion<'a>(alloc: Global, words: &'a [String]) -> Result<Option<Words<'a>>, AllocError>
-    ensures said { IfOk result (λ said. IfSome said IsExclusion) }
-{
-    match excluding_program(alloc)?.try_get_matches_from(words) {
-        Err(error) => match error.kind() {
-            ErrorKind::OutOfMemory => Err(AllocError),
-            ErrorKind::ArgumentConflict => Ok(Some(Words::Shown(error))),
-            _ => Ok(None),
-        },
-        Ok(_matches) => Ok(None),
-    }
-}
-
 /// What these words ask for, the first of which is the program's name. `None` is never given for
 /// words that the command line lets through.
 pub fn words_of<'a>(alloc: Global, words: &'a [String]) -> Result<Option<Words<'a>>, AllocError>
@@ -159,9 +121,6 @@ pub fn words_of<'a>(alloc: Global, words: &'a [String]) -> Result<Option<Words<'
             _ => Ok(Some(Words::Shown(error))),
         },
         Ok(matches) => {
-            if excludes(&matches) {
-                return exclusion(alloc, words);
-            }
             match request_of(&matches) {
                 Some(request) => Ok(Some(Words::Request(request))),
                 None => Ok(None),

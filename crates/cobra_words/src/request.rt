@@ -51,6 +51,8 @@ pub struct AuditWords<'a> {
     pub no_moments: bool,
     /// Why no serial order explains the log is to be said.
     pub explain: bool,
+    /// In what form that is to be said: as a graph, nothing else is.
+    pub explanation: Format,
     /// The file into which the told part goes as a log.
     pub part: Option<&'a str>,
     /// The file into which the serial order goes.

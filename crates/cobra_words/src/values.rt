@@ -2,14 +2,12 @@
 
 ghost use Rattle.std.specs.Prelude.{◌≡◌, codes, option_map};
 ghost use Rattle.clap.specs.Matches.{found_of};
-ghost use Rattle.clap.specs.Takes.{is_given};
 ghost use Rattle.clap.specs.Walk.{rows_of, first_of, one_of};
 ghost use Rattle.cobra_words.specs.Asked.{IsFlag, IsNumber, IsNumberOr, but_standard_input};
 ghost use Rattle.cobra_words.specs.Asked.{strategy_of, format_of, report_of, level_of};
 
 use call_options::{Format, ReportForm};
 use clap::ArgMatches;
-use clap::parser::ValueSource;
 use cube_machine::StrategyName;
 use isolation::Isolation;
 
@@ -22,17 +20,6 @@ pub fn text_of<'a>(matches: &ArgMatches<'a>, id: &str) -> Option<&'a str>
     ensures text { option_map (λ s. s.now) result ≡ first_of id.now (rows_of (found_of matches.now)) }
 {
     matches.get_str(id)
-}
-
-/// Whether the words give this option.
-pub fn is_given(matches: &ArgMatches<'_>, id: &str) -> bool
-    ensures given { result ≡ is_given id.now (rows_of (found_of matches.now)) }
-{
-    match matches.value_source(id) {
-        Some(ValueSource::CommandLine) => true,
-        Some(ValueSource::DefaultValue) => false,
-        None => matches.contains_id(id),
-    }
 }
 
 /// Whether this flag is set.

@@ -148,8 +148,9 @@ fn circles_with_a_forced_edge(rt: HostRuntime) {
         session 2\nbegin\nr y 9\nr x 4\ncommit\n";
     let text =
         "in short: 2.1 sees 1.2, which wrote x too and comes after 1.1, but reads the x of 1.1\n\
+        1.2 wrote x (line 6)\n\
+        2.1 reads y 9 (line 11), which 1.2 wrote (line 7)\n\
         2.1 reads x 4 (line 12), which 1.1 wrote (line 3)\n\
-        2.1 also reads y 9 (line 11), which 1.2 wrote (line 7); 1.2 wrote x too (line 6)\n\
         so the x of 1.2 is older than the x of 1.1\n\
         1.2 comes after 1.1 in session 1\n\
         so 1.2 comes before 1.1, and 1.1 comes before 1.2\n";
@@ -159,7 +160,7 @@ fn circles_with_a_forced_edge(rt: HostRuntime) {
         found: op(0, 0, 0),
     };
     let evidence = circle(rt, alloc, first, Edge::Known(earlier(txn(0, 0), txn(0, 1))));
-    let name = Some("observed transaction vanishes (OTV)");
+    let name = Some("read skew (G-single)");
     tells(
         rt,
         log,
@@ -191,8 +192,8 @@ fn initial_values(rt: HostRuntime) {
         Level::MonotonicAtomicView,
         &Evidence::Initial(overlooked(rt, alloc, op(1, 0, 1), op(0, 0, 0), &hops)),
         "in short: 2.1 sees 1.1, which wrote x, but reads the initial value of x\n\
+        2.1 reads x 1 (line 7), which 1.1 wrote (line 3)\n\
         2.1 reads x 0 (line 8), the initial value\n\
-        2.1 also reads x 1 (line 7), which 1.1 wrote (line 3)\n\
         so 2.1 should read the x of 1.1 or a later one\n",
         Some("non-repeatable read (internal)"),
     );
@@ -204,8 +205,9 @@ fn initial_values(rt: HostRuntime) {
         Level::ReadAtomic,
         &Evidence::Initial(overlooked(rt, alloc, op(1, 0, 0), op(0, 0, 0), &hops)),
         "in short: 2.1 sees 1.1, which wrote x, but reads the initial value of x\n\
+        1.1 wrote x (line 3)\n\
+        2.1 reads y 2 (line 9), which 1.1 wrote (line 4)\n\
         2.1 reads x 0 (line 8), the initial value\n\
-        2.1 also reads y 2 (line 9), which 1.1 wrote (line 4); 1.1 wrote x too (line 3)\n\
         so 2.1 should read the x of 1.1 or a later one\n",
         Some("read skew (G-single)"),
     );
@@ -221,11 +223,12 @@ fn paths_by_sessions(rt: HostRuntime) {
         alloc,
         Level::ReadAtomic,
         &Evidence::Initial(overlooked(rt, alloc, op(0, 1, 0), op(0, 0, 0), &hops)),
-        "in short: 1.2 sees 1.1, which wrote x, but reads the initial value of x\n\
+        "in short: 1.2 comes after 1.1, which wrote x, but reads the initial value of x\n\
+        1.1 wrote x (line 3)\n\
+        1.2 comes after 1.1 in session 1\n\
         1.2 reads x 0 (line 6), the initial value\n\
-        1.2 comes after 1.1 in session 1, and 1.1 wrote x too (line 3)\n\
         so 1.2 should read the x of 1.1 or a later one\n",
-        Some("stale read of its own session"),
+        Some("a session misses its own write (G-single-process)"),
     );
     let hops = [
         earlier(txn(0, 0), txn(0, 1)),
@@ -238,11 +241,12 @@ fn paths_by_sessions(rt: HostRuntime) {
         alloc,
         Level::Causal,
         &Evidence::Initial(overlooked(rt, alloc, op(1, 0, 1), op(0, 0, 0), &hops)),
-        "in short: 7.1 sees 1.1, which wrote x, but reads the initial value of x\n\
+        "in short: 7.1 comes after 1.1, which wrote x, but reads the initial value of x\n\
+        1.1 wrote x (line 3)\n\
+        1.2 comes after 1.1 in session 1\n\
+        7.1 reads y 2 (line 10), which 1.2 wrote (line 6)\n\
         7.1 reads x 0 (line 11), the initial value\n\
-        1.2 comes after 1.1 in session 1; \
-        7.1 also reads y 2 (line 10), which 1.2 wrote (line 6); 1.1 wrote x too (line 3)\n\
         so 7.1 should read the x of 1.1 or a later one\n",
-        Some("causal violation"),
+        Some("cycle with one missed write and sessions (G-single-process)"),
     );
 }

@@ -1,11 +1,11 @@
 -- What is judged at a level, and what it says of a log whose outcomes are known, and of the sessions that this comes from.
-use Rattle.std.proofs.Common.{◌≡◌, ℕ, ◌+◌, List, length, sym, ap, ◌∙◌, subst, true}
+use Rattle.std.proofs.Common.{◌≡◌, ℕ, ◌+◌, List, [], length, map, sym, ap, ◌∙◌, subst, true}
 use Rattle.std.specs.List.{AllByRecursion}
-use Rattle.session_log.specs.Text.{ClientSession, IsLegal}
+use Rattle.session_log.specs.Text.{ClientSession, IsLegal, key_of}
 use Rattle.session_log.specs.declared.session.Op.{Op}
 use Rattle.serializability.specs.Replay.{place_of}
 use Rattle.log_definitions.specs.Unknown.{resolved}
-use Rattle.log_definitions.specs.WellFormed.{written}
+use Rattle.log_definitions.specs.WellFormed.{written, keys_in, first_seen}
 use Rattle.log_definitions.specs.Serial.{IsSerialOrder}
 use Rattle.log_definitions.proofs.Settled.{ops_resolved}
 use Rattle.log_definitions.proofs.OnlyTaken.{some_where_serial}
@@ -212,3 +212,8 @@ refuted_below below ss evidence log is none = record {
 
 pub order_below : (below : BelowLevel) (ss : List ClientSession) (order : List ℕ) → IsLevelOrder below ss order → IsOrderAt (Below below) ss order
 order_below below ss order h = record { has = (order, h); room = tt; judged = h }
+
+-- ---- keys
+pub keys_resolved : (ss : List ClientSession) → keys_in (resolved ss) ≡ keys_in ss
+unfolding keys_in
+keys_resolved ss = ap (λ (ops : List Op). first_seen [] (map key_of ops)) (ops_resolved ss)

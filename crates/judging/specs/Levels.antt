@@ -3,8 +3,10 @@
 use Rattle.std.specs.Prelude.{◌≡◌, ℕ, Bool, true, false, List, map, Some}
 use Rattle.session_log.specs.Text.{ClientSession, view}
 use Rattle.log_definitions.specs.Unknown.{resolved}
-use Rattle.log_definitions.specs.Serial.{IsSerialOrder}
-use Rattle.log_laws.specs.Logs.{HasOrder}
+use Rattle.log_definitions.specs.Serial.{committed_in, IsSerialOrder}
+use Rattle.log_laws.specs.Logs.{HasOrder, IsLearntLog}
+use Rattle.numbered_log.specs.Numbering.{IsNumbering}
+use Rattle.numbered_log.specs.declared.log.NumberedLog.{NumberedLog}
 use Rattle.level_laws.specs.Snapshot.{HasSnapshotOrder, HasSomeSnapshotOrder}
 use Rattle.level_laws.specs.Snapshot.{HasPrefixOrder, HasSomePrefixOrder}
 use Rattle.level_laws.specs.Split.{split_writers}
@@ -76,3 +78,13 @@ IsLogAt level ss Itself = is_split level ≡ false
 IsLogAt level ss (Split split) = (is_split level ≡ true)
     × IsJudgedAt level ss (map view split.items)
 IsLogAt level ss (NoRoom why) = (level ≡ Snapshot) × (no_room ss ≡ Some why)
+
+-- the log whose orders are proposed: what is judged, and the log itself where that is nothing
+abbrev pub judged_in : List ClientSession → LevelLog → List ClientSession
+judged_in ss Itself = ss
+judged_in ss (Split split) = map view split.items
+judged_in ss (NoRoom why) = ss
+
+-- this is the log by numbers, where its outcomes are known
+abbrev pub IsNumbered : List ClientSession → NumberedLog → Type 0
+IsNumbered ss log = IsLearntLog ss → IsNumbering ss (committed_in ss) log

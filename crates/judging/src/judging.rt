@@ -7,7 +7,7 @@ ghost use Rattle.log_definitions.specs.Serial.{IsSerialOrder};
 ghost use Rattle.log_definitions.specs.Unknown.{resolved};
 ghost use Rattle.log_laws.specs.Logs.{IsSoundLog, IsLog};
 ghost use Rattle.log_parts.specs.Picked.{flags_view};
-ghost use Rattle.judging.specs.Levels.{IsJudgedAt, IsLogAt};
+ghost use Rattle.judging.specs.Levels.{IsJudgedAt, IsLogAt, IsNumbered, judged_in};
 ghost use Rattle.judging.specs.Judges.{IsRefutedLog, IsUndecidedBy, IsTried, IsVerdict};
 ghost use Rattle.judging.specs.Finds.{IsAttempt, IsSaid, IsWhole};
 ghost use Rattle.judging.specs.Made.{IsMade, IsToldPart};
@@ -22,9 +22,10 @@ use crate::means::JudgeMeans;
 use crate::shrinking::smaller;
 use crate::trial::{Attempt, Trial, try_part};
 use log_parts::copy_log;
-use order_checks::is_serial;
+use numbered_log::NumberedLog;
 use progress::{Progress, Stage};
 use proposals::{Flags, Proposal, Stuck};
+use serial_checks::is_serial;
 use session_history::{NodeIx, NodeLine};
 use session_log::Session;
 use std::alloc::{AllocError, Global};
@@ -45,16 +46,15 @@ pub enum Whole {
 /// The proposed order, where it is a serial order of this log.
 fn judge_order(
     alloc: Global,
-    judged: &[Session],
+    log: &NumberedLog<'_>,
     order: &[usize],
 ) -> Result<Option<Vec<usize>>, AllocError>
-    requires log { IsLog (map view judged.now) }
-    ensures { IfOk result (λ found. IfSome found (λ order.
-        IsSerialOrder (map view judged.now) order.items)) }
+    ensures { IfOk result (λ found. IfSome found (λ order. (judged : List ClientSession)
+        → IsLog judged → IsNumbered judged log.now → IsSerialOrder judged order.items)) }
 {
     let mut copy = Vec::new(alloc);
     copy.extend_from_slice(order)?;
-    if is_serial(alloc, judged, &copy)? {
+    if is_serial(alloc, log, &copy)? {
         return Ok(Some(copy));
     }
     Ok(None)
@@ -211,15 +211,17 @@ fn judge_by_order<R: Threads + Wait + Clock + Sync>(
     alloc: Global,
     sessions: &[Session],
     judged: &[Session],
+    log: &NumberedLog<'_>,
     order: &[usize],
     proposal: &Proposal,
     means: &JudgeMeans,
 ) -> Result<Verdict, AllocError>
     requires log { IsLog (map view sessions.now) }
     requires judged { IsJudgedAt means.now.level (map view sessions.now) (map view judged.now) }
+    requires numbered { IsNumbered (map view judged.now) log.now }
     ensures { IfOk result (IsSaid means.now (map view sessions.now)) }
 {
-    match judge_order(alloc, judged, order)? {
+    match judge_order(alloc, log, order)? {
         Some(order) => Ok(Verdict::Serializable(order)),
         None => judge_rest(rt, alloc, sessions, proposal, Tried::NotSerial, means),
     }
@@ -269,16 +271,18 @@ fn judge_itself<R: Threads + Wait + Clock + Sync>(
     rt: &R,
     alloc: Global,
     sessions: &[Session],
+    log: &NumberedLog<'_>,
     order: &[usize],
     proposal: &Proposal,
     means: &JudgeMeans,
 ) -> Result<Verdict, AllocError>
     requires log { IsLog (map view sessions.now) }
+    requires numbered { IsNumbered (map view sessions.now) log.now }
     ensures { IfOk result (IsSaid means.now (map view sessions.now)) }
 {
     match means.level {
         Level::Serializable => {
-            judge_by_order(rt, alloc, sessions, sessions, order, proposal, means)
+            judge_by_order(rt, alloc, sessions, sessions, log, order, proposal, means)
         }
         Level::Below(below) => {
             judge_by_level_order(rt, alloc, sessions, below, order, proposal, means)
@@ -295,18 +299,20 @@ fn judge_ordered<R: Threads + Wait + Clock + Sync>(
     alloc: Global,
     sessions: &[Session],
     at: &LevelLog,
+    log: &NumberedLog<'_>,
     order: &[usize],
     proposal: &Proposal,
     means: &JudgeMeans,
 ) -> Result<Verdict, AllocError>
     requires log { IsLog (map view sessions.now) }
     requires at { IsLogAt means.now.level (map view sessions.now) at.now }
+    requires numbered { IsNumbered (judged_in (map view sessions.now) at.now) log.now }
     ensures { IfOk result (IsSaid means.now (map view sessions.now)) }
 {
     match at {
-        LevelLog::Itself => judge_itself(rt, alloc, sessions, order, proposal, means),
+        LevelLog::Itself => judge_itself(rt, alloc, sessions, log, order, proposal, means),
         LevelLog::Split(split) => {
-            judge_by_order(rt, alloc, sessions, split, order, proposal, means)
+            judge_by_order(rt, alloc, sessions, split, log, order, proposal, means)
         }
         LevelLog::NoRoom(_) => judge_rest(rt, alloc, sessions, proposal, Tried::Nothing, means),
     }
@@ -331,21 +337,26 @@ fn judge_where_stuck<R: Threads + Wait + Clock + Sync>(
     }
 }
 
-/// What is said of a log whose outcomes are known, by what is proposed of it.
+/// What is said of a log whose outcomes are known, by what is proposed of it, and by what is judged
+/// for it in numbers.
 pub fn judge_known<R: Threads + Wait + Clock + Sync>(
     rt: &R,
     alloc: Global,
     sessions: &[Session],
     at: &LevelLog,
+    log: &NumberedLog<'_>,
     proposal: &Proposal,
     means: &JudgeMeans,
 ) -> Result<Verdict, AllocError>
     requires log { IsLog (map view sessions.now) }
     requires at { IsLogAt means.now.level (map view sessions.now) at.now }
+    requires numbered { IsNumbered (judged_in (map view sessions.now) at.now) log.now }
     ensures { IfOk result (IsSaid means.now (map view sessions.now)) }
 {
     match proposal {
-        Proposal::Order(order) => judge_ordered(rt, alloc, sessions, at, order, proposal, means),
+        Proposal::Order(order) => judge_ordered(
+            rt, alloc, sessions, at, log, order, proposal, means,
+        ),
         Proposal::Part(flags) => judge_by_part(rt, alloc, sessions, flags, proposal, means),
         Proposal::Stuck(stuck) => judge_where_stuck(rt, alloc, sessions, stuck, proposal, means),
         Proposal::NotTried(_) => judge_rest(rt, alloc, sessions, proposal, Tried::Nothing, means),
@@ -364,23 +375,25 @@ pub fn tell_search<R: Clock + Eprint, P: Progress>(rt: &R, proposal: &Proposal, 
 }
 
 /// What is said of a log by what is proposed of its sessions with their outcomes known, which are
-/// these, and of what is judged for them. Whatever is proposed, what is said is so.
+/// these, and of what is judged for them, with its numbers. Whatever is proposed, what is said is so.
 pub fn judge<R: Threads + Wait + Clock + Eprint + Sync, P: Progress>(
     rt: &R,
     alloc: Global,
     sessions: &[Session],
     at: &LevelLog,
+    log: &NumberedLog<'_>,
     proposal: &Proposal,
     means: &JudgeMeans,
     progress: &mut P,
 ) -> Result<Verdict, AllocError>
     requires log { IsLog (map view sessions.now) }
     requires at { IsLogAt means.now.level (map view sessions.now) at.now }
+    requires numbered { IsNumbered (judged_in (map view sessions.now) at.now) log.now }
     ensures verdict { IfOk result (λ verdict. (ss : List ClientSession) → AllByRecursion IsLegal ss
         → IsSoundLog ss → map view sessions.now ≡ resolved ss
         → IsVerdict means.now ss verdict) }
     ensures made { IfOk result (IsMade (map view sessions.now)) }
 {
     tell_search(rt, proposal, progress);
-    judge_known(rt, alloc, sessions, at, proposal, means)
+    judge_known(rt, alloc, sessions, at, log, proposal, means)
 }

@@ -3,11 +3,12 @@
 ghost use Rattle.std.specs.Prelude.{map, IfOk};
 ghost use Rattle.session_log.specs.Text.{view};
 ghost use Rattle.log_laws.specs.Logs.{IsLog};
-ghost use Rattle.judging.specs.Levels.{IsLogAt};
+ghost use Rattle.judging.specs.Levels.{IsLogAt, IsNumbered, judged_in};
 
 use crate::below::propose_below;
 use crate::halves::{joined_proposal, split_flags};
 use crate::means::JudgeMeans;
+use numbered_log::NumberedLog;
 use progress::Progress;
 use proposals::{Proposal, propose};
 use session_log::Session;
@@ -57,14 +58,40 @@ pub fn log_at(alloc: Global, level: Level, sessions: &[Session]) -> Result<Level
     }
 }
 
-/// What is proposed of these sessions, whose outcomes are known, by what is judged for them. A part
-/// is one of these sessions; an order is one of what is judged. Where that is nothing, a part is
-/// looked for that has no serial order.
+/// These sessions by numbers. A number of more than 32 bits is told as want of memory, since a log
+/// has at most a gigabyte.
+pub fn number_log<'a>(alloc: Global, sessions: &'a [Session]) -> Result<NumberedLog<'a>, AllocError>
+    ensures numbered { IfOk result (IsNumbered (map view sessions.now)) }
+{
+    match NumberedLog::of(alloc, sessions) {
+        Ok(log) => Ok(log),
+        Err(_) => Err(AllocError),
+    }
+}
+
+/// By numbers what is judged for these sessions; themselves where that is nothing.
+pub fn number_judged<'a>(
+    alloc: Global,
+    sessions: &'a [Session],
+    at: &'a LevelLog,
+) -> Result<NumberedLog<'a>, AllocError>
+    ensures numbered { IfOk result (IsNumbered (judged_in (map view sessions.now) at.now)) }
+{
+    match at {
+        LevelLog::Itself | LevelLog::NoRoom(_) => number_log(alloc, sessions),
+        LevelLog::Split(split) => number_log(alloc, split),
+    }
+}
+
+/// What is proposed of these sessions, whose outcomes are known, by what is judged for them, and by
+/// that in numbers. A part is one of these sessions; an order is one of what is judged. Where that
+/// is nothing, a part is looked for that has no serial order.
 pub fn propose_at<R: Threads + Clock + Eprint + Sync, P: Progress>(
     rt: &R,
     alloc: Global,
     sessions: &[Session],
     at: &LevelLog,
+    log: &NumberedLog<'_>,
     left_out: &[Vec<bool>],
     means: &JudgeMeans,
     progress: &mut P,
@@ -74,11 +101,27 @@ pub fn propose_at<R: Threads + Clock + Eprint + Sync, P: Progress>(
     }
     match at {
         LevelLog::Itself | LevelLog::NoRoom(_) => {
-            propose(rt, alloc, sessions, left_out, &means.proposing(), progress)
+            propose(
+                rt,
+                alloc,
+                sessions,
+                log,
+                left_out,
+                &means.proposing(),
+                progress,
+            )
         }
         LevelLog::Split(split) => {
             let left_out = split_flags(alloc, sessions, left_out)?;
-            let proposal = propose(rt, alloc, split, &left_out, &means.proposing(), progress)?;
+            let proposal = propose(
+                rt,
+                alloc,
+                split,
+                log,
+                &left_out,
+                &means.proposing(),
+                progress,
+            )?;
             joined_proposal(alloc, sessions, proposal)
         }
     }

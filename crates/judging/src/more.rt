@@ -10,9 +10,10 @@ ghost use Rattle.judging.specs.Made.{IsToldPart};
 use crate::flags::{all_flags, count_flags, flags_in_whole, join_flags, set_flag};
 use crate::judged::RefutedPart;
 use crate::judging::judge_part;
-use crate::level::{LevelLog, propose_at};
+use crate::level::{LevelLog, number_judged, propose_at};
 use crate::means::JudgeMeans;
 use crate::trial::Attempt;
+use numbered_log::NumberedLog;
 use progress::Progress;
 use proposals::{Flags, Proposal};
 use session_log::{Op, Session, Txn};
@@ -64,6 +65,7 @@ fn next_part<R: Threads + Wait + Clock + Eprint + Sync, P: Progress>(
     alloc: Global,
     sessions: &[Session],
     at: &LevelLog,
+    log: &NumberedLog<'_>,
     left_out: &[Vec<bool>],
     means: &JudgeMeans,
     progress: &mut P,
@@ -71,7 +73,7 @@ fn next_part<R: Threads + Wait + Clock + Eprint + Sync, P: Progress>(
     requires log { IsLog (map view sessions.now) }
     ensures { IfOk result (λ found. IfSome found (IsToldPart means.now.level (map view sessions.now))) }
 {
-    let proposal = propose_at(rt, alloc, sessions, at, left_out, means, progress)?;
+    let proposal = propose_at(rt, alloc, sessions, at, log, left_out, means, progress)?;
     let Proposal::Part(flags) = &proposal else {
         return Ok(None);
     };
@@ -99,9 +101,11 @@ fn more_of_known<R: Threads + Wait + Clock + Eprint + Sync, P: Progress>(
 {
     let mut left_out = all_flags(alloc, sessions, false)?;
     leave_out_shown(alloc, sessions, &mut left_out, first)?;
+    let log = number_judged(alloc, sessions, at)?;
     let mut parts = Vec::new(alloc);
     for _ in 0..count {
-        let Some(told) = next_part(rt, alloc, sessions, at, &left_out, means, progress)? else {
+        let next = next_part(rt, alloc, sessions, at, &log, &left_out, means, progress)?;
+        let Some(told) = next else {
             break;
         };
         if !leave_out_shown(alloc, sessions, &mut left_out, &told)? {

@@ -1,20 +1,22 @@
 //! A log of any length, judged by what is proposed of it.
 
-ghost use Rattle.std.specs.Prelude.{◌≡◌, List, map, IfOk, IfSome};
+ghost use Rattle.std.specs.Prelude.{◌≡◌, List, length, map, IfOk, IfSome};
 ghost use Rattle.std.specs.List.{AllByRecursion};
 ghost use Rattle.session_log.specs.Text.{ClientSession, IsLegal, view};
 ghost use Rattle.log_definitions.specs.Unknown.{resolved};
+ghost use Rattle.log_definitions.specs.WellFormed.{keys_in};
 ghost use Rattle.log_laws.specs.Logs.{IsSoundLog, IsLog};
-ghost use Rattle.judging.specs.Levels.{IsLogAt};
+ghost use Rattle.judging.specs.Levels.{IsLogAt, IsNumbered, judged_in};
 ghost use Rattle.judging.specs.Judges.{IsVerdict};
 ghost use Rattle.judging.specs.Finds.{IsSaid};
 ghost use Rattle.judging.specs.Made.{IsMade, IsToldPart};
 
-use crate::judged::Verdict;
+use crate::judged::{Tried, Verdict, Why};
 use crate::judging::{judge, judge_known, shown_by, tell_search};
-use crate::level::{LevelLog, log_at, propose_at};
+use crate::level::{LevelLog, log_at, number_judged, number_log, propose_at};
 use crate::means::JudgeMeans;
 use known_outcomes::resolve;
+use numbered_log::NumberedLog;
 use progress::Progress;
 use proposals::{Flags, Proposal};
 use session_log::Session;
@@ -34,6 +36,25 @@ pub struct Judged {
     /// What was proposed of them.
     pub proposal: Proposal,
     pub verdict: Verdict,
+    /// How many keys it has.
+    pub keys: usize,
+}
+
+/// How many keys these sessions have, where this is by numbers what is judged for them.
+fn count_keys(
+    alloc: Global,
+    sessions: &[Session],
+    at: &LevelLog,
+    log: &NumberedLog<'_>,
+) -> Result<usize, AllocError>
+    requires log { IsLog (map view sessions.now) }
+    requires numbered { IsNumbered (judged_in (map view sessions.now) at.now) log.now }
+    ensures { IfOk result (λ count. count ≡ length (keys_in (map view sessions.now))) }
+{
+    match at {
+        LevelLog::Itself | LevelLog::NoRoom(_) => Ok(log.keys.len()),
+        LevelLog::Split(_) => Ok(number_log(alloc, sessions)?.keys.len()),
+    }
 }
 
 /// Judges a log of any length.
@@ -54,20 +75,27 @@ pub fn judge_whole<R: Threads + Wait + Clock + Eprint + Sync, P: Progress>(
         IsVerdict means.now (map view sessions.items) judged.verdict) }
     ensures made { IfOk result (λ judged.
         IsMade (resolved (map view sessions.items)) judged.verdict) }
+    ensures keys { IfOk result (λ judged. judged.keys
+        ≡ length (keys_in (map view sessions.items))) }
 {
     let sessions = resolve(alloc, sessions)?;
     let at = log_at(alloc, means.level, &sessions)?;
-    let proposal = propose_at(rt, alloc, &sessions, &at, &[], means, progress)?;
-    let verdict = judge(rt, alloc, &sessions, &at, &proposal, means, progress)?;
+    let log = number_judged(alloc, &sessions, &at)?;
+    let keys = count_keys(alloc, &sessions, &at, &log)?;
+    let proposal = propose_at(rt, alloc, &sessions, &at, &log, &[], means, progress)?;
+    let verdict = judge(rt, alloc, &sessions, &at, &log, &proposal, means, progress)?;
+    drop(log);
     Ok(Judged {
         sessions,
         at,
         proposal,
         verdict,
+        keys,
     })
 }
 
-/// What is said of a log whose outcomes are known: first of the part of these flags.
+/// What is said of a log whose outcomes are known: first of the part of these flags. Where the time
+/// is up, nothing else is begun.
 fn judge_anew<R: Threads + Wait + Clock + Eprint + Sync, P: Progress>(
     rt: &R,
     alloc: Global,
@@ -82,10 +110,15 @@ fn judge_anew<R: Threads + Wait + Clock + Eprint + Sync, P: Progress>(
     if let Some(told) = shown_by(rt, alloc, sessions, first, means)? {
         return Ok(Verdict::NotSerializable(told));
     }
+    if means.is_over(rt) {
+        let (why, tried) = (Why::NotBegun, Tried::Nothing);
+        return Ok(Verdict::Undecided { why, tried });
+    }
     let at = log_at(alloc, means.level, sessions)?;
-    let proposal = propose_at(rt, alloc, sessions, &at, &[], means, progress)?;
+    let log = number_judged(alloc, sessions, &at)?;
+    let proposal = propose_at(rt, alloc, sessions, &at, &log, &[], means, progress)?;
     tell_search(rt, &proposal, progress);
-    judge_known(rt, alloc, sessions, &at, &proposal, means)
+    judge_known(rt, alloc, sessions, &at, &log, &proposal, means)
 }
 
 /// Judges a log by its sessions with their outcomes known, which are these: a part that may show

@@ -12,6 +12,7 @@ use judging::{
 };
 use known_outcomes::resolve;
 use long_reading::read_long_log;
+use numbered_log::NumberedLog;
 use progress::{Deadline, Progress, Stage};
 use proposals::{NotTried, Proposal, Stuck};
 use session_log::{Limit, Session, Txn};
@@ -131,11 +132,13 @@ fn said<R: Threads + Wait + Clock + Eprint + Abort + Sync>(
 ) -> Verdict
     requires log { IsLog (map view log.now) }
 {
+    let numbered = NumberedLog::of(alloc, log).expect(rt, "a small log");
     judge(
         rt,
         alloc,
         log,
         &LevelLog::Itself,
+        &numbered,
         proposal,
         &means(rt, None),
         &mut Quiet,
@@ -267,11 +270,13 @@ fn no_time(rt: HostRuntime) {
     let start = Instant::now(&rt).expect(&rt, "a clock");
     let means = means(&rt, Some(Deadline { start, seconds: 0 }));
     let good = chain(&rt, alloc, 5, false);
+    let numbered = NumberedLog::of(alloc, &good).expect(&rt, "a small log");
     let verdict = judge(
         &rt,
         alloc,
         &good,
         &LevelLog::Itself,
+        &numbered,
         &nothing(),
         &means,
         &mut Quiet,
@@ -287,6 +292,7 @@ fn no_time(rt: HostRuntime) {
         alloc,
         &good,
         &LevelLog::Itself,
+        &numbered,
         &order(&rt, alloc, 5),
         &means,
         &mut Quiet,

@@ -2,7 +2,7 @@
 //! numbers; keys with one mark are told apart by their bytes, so that no choice of keys makes a
 //! search long. Many tables share the keys of a long log.
 //!
-//! Called by `order_checks`, `level_checks`, `numbers` and `audit_command`. It knows no log.
+//! Called by `level_checks`, `numbers` and `numbered_log`. It knows no log.
 #![tactic(auto)]
 
 mod mark;

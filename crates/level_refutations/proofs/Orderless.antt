@@ -11,7 +11,7 @@ use Rattle.session_log.specs.declared.session.Op.{Op}
 use Rattle.session_log.specs.declared.session.Op.TheVariants.{Read, Write}
 use Rattle.log_definitions.specs.Serial.{Committed, committed_in, node_of, ops_of}
 use Rattle.log_laws.specs.Logs.{IsSoundLog, IsLearntLog}
-use Rattle.order_checks.specs.Left.{node_at}
+use Rattle.node_names.specs.Names.{node_at}
 use Rattle.seen_laws.specs.declared.level.Level.{Level}
 use Rattle.seen_laws.specs.Seen.{last_write, ReadsBehind}
 use Rattle.level_refutations.specs.declared.evidence.TxnAt.{TxnAt}

@@ -18,7 +18,7 @@ use Rattle.log_laws.proofs.Moments.{place_in}
 use Rattle.log_laws.proofs.Orders.{InOrder, pair_at, one_place}
 use Rattle.log_laws.proofs.Sessions.{nodes_from, nodes_of, in_order}
 use Rattle.log_laws.proofs.Shifted.{nodes_are}
-use Rattle.order_checks.specs.Left.{node_at}
+use Rattle.node_names.specs.Names.{node_at}
 use Rattle.level_refutations.specs.declared.evidence.TxnAt.{TxnAt}
 use Rattle.level_refutations.specs.Places.{kept, kept_at, txn_at}
 use Rattle.level_refutations.specs.Laws.{Stands}

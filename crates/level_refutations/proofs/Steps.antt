@@ -13,7 +13,7 @@ use Rattle.session_log.specs.declared.session.Op.TheVariants.{Read, Write}
 use Rattle.serializability.proofs.Places.{Apart, Apart-from_IsDistinct, Has-from_Contains}
 use Rattle.log_definitions.specs.Serial.{Committed, ops_of}
 use Rattle.log_laws.specs.Logs.{IsSoundLog, IsLearntLog}
-use Rattle.order_checks.specs.Left.{node_at}
+use Rattle.node_names.specs.Names.{node_at}
 use Rattle.seen_laws.specs.Seen.{IsEarlier, ReadsFrom, Direct, Past, step, path}
 use Rattle.level_refutations.specs.declared.evidence.TxnAt.{TxnAt}
 use Rattle.level_refutations.specs.declared.evidence.OpAt.{OpAt}

@@ -2,7 +2,6 @@
 
 use crate::clocks::{Swept, grow, start_of, waits_of};
 use crate::known::{Graph, NOWHERE, Point};
-use crate::rearranged::{rearrange_graph, rearrange_versions};
 use crate::versions::Versions;
 use numbers::{Entry, Lists, NONE, add, at, lists_of, number, put};
 use std::alloc::{AllocError, Global};
@@ -221,6 +220,24 @@ fn share(alloc: Global, graph: &Graph, spans: Vec<Span>) -> Result<Shared, Alloc
 }
 
 impl Graph {
+    /// Gives the nodes of edges the numbers that they have in this order.
+    fn rearrange(&mut self, alloc: Global, order: &[u32]) -> Result<(), AllocError> {
+        let mut numbers = vec![in alloc; NONE; order.len()]?;
+        for (i, node) in order.iter().enumerate() {
+            put(numbers.as_mut_slice(), *node, number(i));
+        }
+        for pair in self.known.iter_mut() {
+            let (from, to) = (at(&numbers, pair.list), at(&numbers, pair.item));
+            if from != NONE {
+                pair.list = from;
+            }
+            if to != NONE {
+                pair.item = to;
+            }
+        }
+        Ok(())
+    }
+
     /// Puts nodes where they stand, where they are by lane.
     fn place_points(&mut self, alloc: Global, spans: &[Span]) -> Result<(), AllocError> {
         let mut points = Vec::with_capacity(alloc, self.points.len())?;
@@ -262,8 +279,8 @@ fn put_by_lane(
 ) -> Result<Given, AllocError> {
     spans.sort_by_key(|span| (span.lane, span.before))?;
     let order = nodes_of(alloc, graph.nodes, &spans)?;
-    let versions = rearrange_versions(alloc, versions, &order)?;
-    rearrange_graph(alloc, &mut graph, &order)?;
+    let versions = versions.rearranged(alloc, &order)?;
+    graph.rearrange(alloc, &order)?;
     graph.place_points(alloc, &spans)?;
     Ok(fitting(versions, graph))
 }

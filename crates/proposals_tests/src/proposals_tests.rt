@@ -1,7 +1,8 @@
 use desk::seat_no::Workers;
-use order_checks::is_serial;
+use numbered_log::NumberedLog;
 use progress::{Progress, Stage};
 use proposals::{Flags, Proposal, ProposeMeans, propose};
+use serial_checks::is_serial;
 use session_log::{Key, Op, Outcome, Session, Txn};
 use std::alloc::Global;
 use std::io::Eprint;
@@ -73,7 +74,8 @@ fn proposed<R: Abort + Threads + Clock + Eprint + Sync>(
         workers: Workers::new(2).expect(rt, "a number of workers"),
         deadline: None,
     };
-    propose(rt, alloc, sessions, left_out, &means, &mut Silence).expect(rt, "memory")
+    let log = NumberedLog::of(alloc, sessions).expect(rt, "a small log");
+    propose(rt, alloc, sessions, &log, left_out, &means, &mut Silence).expect(rt, "memory")
 }
 
 /// No transaction.
@@ -98,7 +100,10 @@ fn is_right_order(
     proposal: &Proposal,
 ) -> bool {
     match proposal {
-        Proposal::Order(order) => is_serial(alloc, sessions, order).expect(rt, "memory"),
+        Proposal::Order(order) => {
+            let log = NumberedLog::of(alloc, sessions).expect(rt, "a small log");
+            is_serial(alloc, &log, order).expect(rt, "memory")
+        }
         _ => false,
     }
 }

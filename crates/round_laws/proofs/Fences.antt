@@ -20,91 +20,63 @@ use Rattle.round_laws.proofs.Joined.{placed, bare_learnt, opens_at, one_at, not_
 use Rattle.round_laws.proofs.Given.{apart_of, learnt_of, rest_nodes, opens_where, leads_wider, bare_set}
 
 -- ---- each session has a first and a last node
-record Least (nodes : List Committed) (m : Committed) (s : ℕ) : Type 0 where
+-- by an order of places: at or before, at or behind
+record Extreme (R : ℕ → ℕ → Type 0) (nodes : List Committed) (m : Committed) (s : ℕ) : Type 0 where
   pub node : Committed
   pub is : (node ≡ m) ⊎ Contains nodes node
   pub session : node.session ≡ s
-  pub below : node.place ≤ m.place
-  pub all : (k : Committed) → Contains nodes k → k.session ≡ s → node.place ≤ k.place
+  pub bound : R node.place m.place
+  pub all : (k : Committed) → Contains nodes k → k.session ≡ s → R node.place k.place
 
-least : (nodes : List Committed) (m : Committed) (s : ℕ) → m.session ≡ s → Least nodes m s
-least [] m s e = record { node = m; is = inl refl; session = e; below = omega arith; all = λ k c _. absurd (omega (arith, c.1)) }
-least (x ∷ xs) m s e = elim (cases_eq x.session s) [
-  | inr other ↦ with_rest (λ r le. λ same. absurd (other same)) (least xs m s e)
-  | inl same ↦ elim (cases_order x.place m.place) [
-    | inl at ↦ with_rest (λ r le _. omega (arith, le, at)) (least xs m s e)
-    | inr apart ↦ elim apart [
-      | inr more ↦ with_rest (λ r le _. omega (arith, le, more)) (least xs m s e)
-      | inl less ↦
-          let r = least xs x s same in
-          record {
-            node = r.node;
-            is = elim r.is [ inl i ↦ inr (0, omega arith, sym i) | inr c ↦ inr (behind x xs r.node c) ];
-            session = r.session;
-            below = let le = r.below in omega (arith, le, less);
-            all = λ k c t. elim (first_or_behind x xs k c) [
-              | inl i ↦ (let p : x.place ≡ k.place = ap (λ (n : Committed). n.place) i in let le = r.below in omega (arith, p, le))
-              | inr d ↦ r.all k d t
-            ];
-          }
-    ]
+record IsTotal (R : ℕ → ℕ → Type 0) : Type 0 where
+  pub same : (a : ℕ) → R a a
+  pub joins : (a b c : ℕ) → R a b → R b c → R a c
+  pub either : (a b : ℕ) → R a b ⊎ R b a
+
+extreme : (R : ℕ → ℕ → Type 0) → IsTotal R → (nodes : List Committed) (m : Committed) (s : ℕ) → m.session ≡ s → Extreme R nodes m s
+extreme R t [] m s e = record { node = m; is = inl refl; session = e; bound = t.same m.place; all = λ k c _. absurd (omega (arith, c.1)) }
+extreme R t (x ∷ xs) m s e = elim (cases_eq x.session s) [
+  | inr other ↦ with_rest (λ same. absurd (other same)) (extreme R t xs m s e)
+  | inl same ↦ elim (t.either m.place x.place) [
+    | inl le ↦ with_rest (λ _. le) (extreme R t xs m s e)
+    | inr ge ↦
+        let r = extreme R t xs x s same in
+        record {
+          node = r.node;
+          is = elim r.is [ inl i ↦ inr (0, omega arith, sym i) | inr c ↦ inr (behind x xs r.node c) ];
+          session = r.session;
+          bound = t.joins r.node.place x.place m.place r.bound ge;
+          all = λ k c u. elim (first_or_behind x xs k c) [
+            | inl i ↦ subst (λ (n : Committed). R r.node.place n.place) i r.bound
+            | inr d ↦ r.all k d u
+          ];
+        }
   ]
 ]
   where
-    with_rest : ((r : Committed) → r.place ≤ m.place → x.session ≡ s → r.place ≤ x.place) → Least xs m s → Least (x ∷ xs) m s
+    with_rest : (x.session ≡ s → R m.place x.place) → Extreme R xs m s → Extreme R (x ∷ xs) m s
     with_rest f r = record {
       node = r.node;
       is = elim r.is [ inl i ↦ inl i | inr c ↦ inr (behind x xs r.node c) ];
       session = r.session;
-      below = r.below;
-      all = λ k c t. elim (first_or_behind x xs k c) [
-        | inl i ↦ (let p : x.place ≡ k.place = ap (λ (n : Committed). n.place) i in let le = f r.node r.below (ap (λ (n : Committed). n.session) i ∙ t) in omega (arith, p, le))
-        | inr d ↦ r.all k d t
+      bound = r.bound;
+      all = λ k c u. elim (first_or_behind x xs k c) [
+        | inl i ↦ subst (λ (n : Committed). R r.node.place n.place) i (t.joins r.node.place m.place x.place r.bound (f (ap (λ (n : Committed). n.session) i ∙ u)))
+        | inr d ↦ r.all k d u
       ];
     }
 
-record Greatest (nodes : List Committed) (m : Committed) (s : ℕ) : Type 0 where
-  pub node : Committed
-  pub is : (node ≡ m) ⊎ Contains nodes node
-  pub session : node.session ≡ s
-  pub above : m.place ≤ node.place
-  pub all : (k : Committed) → Contains nodes k → k.session ≡ s → k.place ≤ node.place
-
-greatest : (nodes : List Committed) (m : Committed) (s : ℕ) → m.session ≡ s → Greatest nodes m s
-greatest [] m s e = record { node = m; is = inl refl; session = e; above = omega arith; all = λ k c _. absurd (omega (arith, c.1)) }
-greatest (x ∷ xs) m s e = elim (cases_eq x.session s) [
-  | inr other ↦ with_rest (λ r le. λ same. absurd (other same)) (greatest xs m s e)
-  | inl same ↦ elim (cases_order x.place m.place) [
-    | inl at ↦ with_rest (λ r le _. omega (arith, le, at)) (greatest xs m s e)
-    | inr apart ↦ elim apart [
-      | inl less ↦ with_rest (λ r le _. omega (arith, le, less)) (greatest xs m s e)
-      | inr more ↦
-          let r = greatest xs x s same in
-          record {
-            node = r.node;
-            is = elim r.is [ inl i ↦ inr (0, omega arith, sym i) | inr c ↦ inr (behind x xs r.node c) ];
-            session = r.session;
-            above = let le = r.above in omega (arith, le, more);
-            all = λ k c t. elim (first_or_behind x xs k c) [
-              | inl i ↦ (let p : x.place ≡ k.place = ap (λ (n : Committed). n.place) i in let le = r.above in omega (arith, p, le))
-              | inr d ↦ r.all k d t
-            ];
-          }
-    ]
-  ]
+either_order : (a b : ℕ) → (a ≤ b) ⊎ (b ≤ a)
+either_order a b = elim (cases_order a b) [
+  | inl same ↦ inl (omega (arith, same))
+  | inr apart ↦ elim apart [ inl less ↦ inl (omega (arith, less)) | inr more ↦ inr (omega (arith, more)) ]
 ]
-  where
-    with_rest : ((r : Committed) → m.place ≤ r.place → x.session ≡ s → x.place ≤ r.place) → Greatest xs m s → Greatest (x ∷ xs) m s
-    with_rest f r = record {
-      node = r.node;
-      is = elim r.is [ inl i ↦ inl i | inr c ↦ inr (behind x xs r.node c) ];
-      session = r.session;
-      above = r.above;
-      all = λ k c t. elim (first_or_behind x xs k c) [
-        | inl i ↦ (let p : x.place ≡ k.place = ap (λ (n : Committed). n.place) i in let le = f r.node r.above (ap (λ (n : Committed). n.session) i ∙ t) in omega (arith, p, le))
-        | inr d ↦ r.all k d t
-      ];
-    }
+
+least : (nodes : List Committed) (m : Committed) (s : ℕ) → m.session ≡ s → Extreme (λ a b. a ≤ b) nodes m s
+least = extreme (λ a b. a ≤ b) (record { same = λ a. omega arith; joins = λ a b c h k. omega (arith, h, k); either = either_order })
+
+greatest : (nodes : List Committed) (m : Committed) (s : ℕ) → m.session ≡ s → Extreme (λ a b. b ≤ a) nodes m s
+greatest = extreme (λ a b. b ≤ a) (record { same = λ a. omega arith; joins = λ a b c h k. omega (arith, h, k); either = λ a b. either_order b a })
 
 -- ---- nodes of one session lead to each other by their places
 up : (all nodes : List Committed) (ss : List ClientSession) → IsSoundLog ss → ((n : Committed) → Contains all n → Contains (nodes_of ss) n) → (a c : Committed) → Contains all a → Contains all c → a.session ≡ c.session → a.place ≤ c.place → Contains nodes c → Leads nodes a c
@@ -124,7 +96,7 @@ to_closing keeper ss sound nodes sub closing is s last ends a c = elim (cases_eq
       let g = greatest nodes a a.session refl in
       let d : Contains nodes g.node = elim g.is [ inl e ↦ subst (Contains nodes) (sym e) c | inr d ↦ d ] in
       let read = ends g.node d (λ e. other (sym g.session ∙ e)) (λ m k t. g.all m k (t ∙ g.session)) in
-      leads_trans nodes a g.node closing (up nodes nodes ss sound sub a g.node c d (sym g.session) g.above d)
+      leads_trans nodes a g.node closing (up nodes nodes ss sound sub a g.node c d (sym g.session) g.bound d)
       (by_read g.node closing closing read.key read.wid is read.writes read.reads (itself closing))
 ]
 
@@ -177,7 +149,7 @@ from_opening keeper ss sound o has s p wid fence begins a c = elim (first_or_beh
           let ne : l.node.session ≢ keeper.session = λ e. other (sym l.session ∙ e) in
           let read = begins l.node d ne (λ m k t. l.all m k (t ∙ l.session)) in
           by_read (bare_node keeper o) l.node a keeper.fence wid (in_all l.node (other_session l.node d ne)) is_fence_write read
-          (up (nodes_of ss) all ss sound (λ n k. k) l.node a d (in_log a r) l.session l.below (in_all a r))
+          (up (nodes_of ss) all ss sound (λ n k. k) l.node a d (in_log a r) l.session l.bound (in_all a r))
     ]
 
 unfoldable pub fences_make_rounds : FencesMakeRounds

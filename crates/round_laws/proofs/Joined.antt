@@ -218,8 +218,6 @@ placed ss n c =
     omega (arith, le)
 
 -- ---- outcomes stay known
-EachLearnt : List Transaction → Type 0
-EachLearnt ts = AllByRecursion IsLearnt ts
 
 learnt_at : (ss : List ClientSession) (n : ℕ) → AreLearnt ss → AllByRecursion IsLearnt (txns_at ss n)
 learnt_at [] n h = tt

@@ -22,12 +22,14 @@ use Rattle.log_laws.proofs.Lists.{of_kept, of_mapped, of_flat, op_of_node, NodeW
 use Rattle.log_laws.proofs.Replay.{after, had_or_written}
 use Rattle.log_laws.proofs.Moments.{Alone}
 use Rattle.log_laws.proofs.Identities.{ops_of_nodes, committed_within, ordered_node}
-use Rattle.log_laws.proofs.Txns.{numbers_of, split as split_each, joined as join_each}
+use Rattle.log_laws.proofs.Txns.{split as split_each, joined as join_each}
 use Rattle.log_laws.proofs.Shifted.{HasLine, line_where_same, line_where_order}
 use Rattle.level_laws.specs.Snapshot.{snapshot_reads, HasPointOrder}
 use Rattle.level_laws.specs.Split.{Locks, AreFresh, start_ops, end_ops, split}
-use Rattle.level_laws.proofs.Nodes.{start_node, end_node, both_nodes, split_nodes, split_learnt}
-use Rattle.level_laws.proofs.Orders.{snapshot_by_split, never_later}
+use Rattle.level_laws.proofs.Nodes.{start_node, end_node, both_nodes, split_nodes}
+use Rattle.level_laws.proofs.Parted.{by_test_learnt}
+use Rattle.level_laws.proofs.Orders.{every, snapshot_by_split, never_later}
+use Rattle.level_laws.proofs.Legal.{split_numbers}
 use Rattle.round_laws.specs.Rounds.{Keeper, Leads, is_fence, is_value, bare_node, run_of_two, values, IsInTime, BothOfRun, RunOfBoth}
 use Rattle.round_laws.proofs.Comes.{Comes, by_session, itself, Carries, carried, wider, comes_trans, LeftAs}
 use Rattle.round_laws.proofs.Two.{IsAlike, Rounds, rounds_of_whole, whole_of_rounds}
@@ -38,14 +40,10 @@ use Rattle.round_laws.proofs.Names.{Names, fresh_where, some_names, start_writes
 use Rattle.round_laws.proofs.Operations.{run_ops}
 
 -- ---- a log has an order of points exactly where the halves of its nodes have a line
-split_numbers : (locks : Locks) (ss : List ClientSession) → numbers_of (split locks ss) ≡ numbers_of ss
-split_numbers locks [] = refl
-split_numbers locks (s ∷ ss) = ap (λ l. s.number ∷ l) (split_numbers locks ss)
-
 snapshot_line : (locks : Locks) (ss : List ClientSession) → IsSoundLog ss → IsLearntLog ss → AreFresh locks ss → (HasPointOrder locks.taken ss ↔ HasLine initial (halves locks (nodes_of ss)))
 snapshot_line locks ss sound learnt fresh =
     let by_split = snapshot_by_split ss locks sound learnt fresh in
-    let lines = line_where_order (split locks ss) (split_each IsLearnt (split locks ss) (split_learnt locks ss learnt)) (subst Apart (sym (split_numbers locks ss)) (apart_of ss sound)) in
+    let lines = line_where_order (split locks ss) (split_each IsLearnt (split locks ss) (by_test_learnt every locks ss learnt)) (subst Apart (sym (split_numbers every locks ss)) (apart_of ss sound)) in
     ((λ h. subst (HasLine initial) (split_nodes locks ss) (lines.0 (by_split.0 h))), λ l. by_split.1 (lines.1 (subst (HasLine initial) (sym (split_nodes locks ss)) l)))
 
 -- ---- halves of nodes at their places in the whole

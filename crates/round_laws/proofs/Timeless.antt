@@ -1,6 +1,6 @@
 -- Rounds without their moments are rounds.
-use Rattle.std.proofs.Common.{◌≡◌, ℕ, ◌+◌, false, eqb, ◌||◌, nat_eq, not, List, [], ◌∷◌, ◌++◌, map, None, refl, sym, ap, ◌∙◌, subst, inl, inr, arith}
-use Rattle.std.specs.List.{filter, flat_map, AllByRecursion, Contains, IsDistinct}
+use Rattle.std.proofs.Common.{◌≡◌, ℕ, eqb, ◌||◌, not, List, [], ◌∷◌, ◌++◌, map, refl, sym, ap, ◌∙◌, subst, inl, inr, arith}
+use Rattle.std.specs.List.{filter, AllByRecursion, Contains}
 use Rattle.std.proofs.lemmas.Bool.{cases_Bool}
 use Rattle.std.proofs.lemmas.List.{map-append}
 use Rattle.list_lemmas.proofs.Elements.{mapped}
@@ -8,69 +8,22 @@ use Rattle.session_log.specs.Moments.{is_earlier}
 use Rattle.session_log.specs.Text.{ClientSession, Transaction}
 use Rattle.session_log.specs.declared.session.Op.TheVariants.{Read, Write}
 use Rattle.serializability.proofs.Places.{each_from_map}
-use Rattle.log_definitions.specs.Unknown.{is_committed, txns_in, ops_in, committed_ops, resolved}
-use Rattle.log_definitions.specs.WellFormed.{written}
-use Rattle.log_definitions.specs.Serial.{Committed, committed_of, committed_in}
-use Rattle.log_definitions.proofs.Members.{each_weaker, each_member}
+use Rattle.log_definitions.specs.Unknown.{txns_in, committed_ops}
+use Rattle.log_definitions.specs.Serial.{Committed, committed_in}
+use Rattle.log_definitions.proofs.Members.{each_member}
 use Rattle.log_definitions.proofs.Settled.{IsLearnt}
 use Rattle.log_laws.specs.Logs.{IsSoundLog, IsLearntLog}
 use Rattle.log_laws.proofs.Lists.{of_mapped}
-use Rattle.log_laws.proofs.Sessions.{nodes_from, nodes_of}
+use Rattle.log_laws.proofs.Sessions.{nodes_of}
 use Rattle.level_laws.specs.Without.{without, session_without, without_moments}
-use Rattle.level_laws.proofs.Without.{resolved_without}
+use Rattle.level_laws.proofs.Without.{txns_without, committed_ops_stay, stays_sound}
+use Rattle.level_laws.proofs.Timeless.{node_without, committed_without}
 use Rattle.round_laws.specs.Rounds.{Keeper, Leads, bare_txns, bare, bare_node, txns_at, has_number, joined, run_of_two, IsClosed, IsOpened, IsReadLast, IsLeft, values, IsInTime}
 use Rattle.round_laws.specs.Runs.{Round, run_of, IsRound, IsHeld, first_leaves, newest_leaves, others_leave, Fits, AreRounds, AreInTime, RunAsEach}
 use Rattle.round_laws.proofs.Given.{Leading, leads_carried, learnt_of, bare_set}
 use Rattle.round_laws.proofs.Joined.{bare_learnt}
 use Rattle.log_laws.proofs.Shifted.{nodes_are}
 use Rattle.round_laws.proofs.Many.{IsKind, each_of_run, run_of_each}
-
--- ---- transactions and nodes
-txns_without : (ss : List ClientSession) → txns_in (without_moments ss) ≡ map without (txns_in ss)
-txns_without [] = refl
-txns_without (s ∷ ss) = ap (λ l. map without s.txns ++ l) (txns_without ss) ∙ sym (map-append without s.txns (txns_in ss))
-
-same_ops : (ts : List Transaction) → flat_map (λ (t : Transaction). t.ops) (map without ts) ≡ flat_map (λ (t : Transaction). t.ops) ts
-same_ops [] = refl
-same_ops (t ∷ ts) = ap (λ l. t.ops ++ l) (same_ops ts)
-
-ops_without : (ss : List ClientSession) → ops_in (without_moments ss) ≡ ops_in ss
-ops_without ss = ap (flat_map (λ (t : Transaction). t.ops)) (txns_without ss) ∙ same_ops (txns_in ss)
-
-numbers_without : (ss : List ClientSession) → map (λ s. s.number) (without_moments ss) ≡ map (λ s. s.number) ss
-numbers_without [] = refl
-numbers_without (s ∷ ss) = ap (λ l. s.number ∷ l) (numbers_without ss)
-
-committed_same : (ts : List Transaction) → flat_map (λ (t : Transaction). t.ops) (filter is_committed (map without ts)) ≡ flat_map (λ (t : Transaction). t.ops) (filter is_committed ts)
-committed_same [] = refl
-committed_same (t ∷ ts) = elim (cases_Bool (is_committed t)) [
-  | inl e ↦ rw e (ap (λ l. t.ops ++ l) (committed_same ts))
-  | inr e ↦ rw e (committed_same ts)
-]
-
-committed_ops_without : (ss : List ClientSession) → committed_ops (without_moments ss) ≡ committed_ops ss
-committed_ops_without ss = ap (λ ts. flat_map (λ (t : Transaction). t.ops) (filter is_committed ts)) (txns_without ss) ∙ committed_same (txns_in ss)
-
-abbrev pub node_without : Committed → Committed
-node_without c = record { session = c.session; place = c.place; ops = c.ops; begun = None; ended = None }
-
-from_without : (number n : ℕ) (ts : List Transaction) → nodes_from number n (map without ts) ≡ map node_without (nodes_from number n ts)
-from_without number n [] = refl
-from_without number n (t ∷ ts) = elim (cases_Bool (is_committed t)) [
-  | inl e ↦ rw e (ap (λ l. record { session = number; place = n; ops = t.ops; begun = None; ended = None } ∷ l) (from_without number (n + 1) ts))
-  | inr e ↦ rw e (from_without number (n + 1) ts)
-]
-
-nodes_without : (ss : List ClientSession) → nodes_of (without_moments ss) ≡ map node_without (nodes_of ss)
-nodes_without [] = refl
-nodes_without (s ∷ ss) =
-    ap (λ l. l ++ nodes_of (without_moments ss)) (from_without s.number 1 s.txns)
-    ∙ ap (λ l. map node_without (committed_of s) ++ l) (nodes_without ss)
-    ∙ sym (map-append node_without (committed_of s) (nodes_of ss))
-
-committed_without : (ss : List ClientSession) → committed_in (without_moments ss) ≡ map node_without (committed_in ss)
-unfolding committed_in
-committed_without ss = ap (flat_map committed_of) (resolved_without ss) ∙ nodes_without (resolved ss)
 
 -- ---- logs joined
 bare_txns_without : (keeper : Keeper) (ts : List Transaction) → bare_txns keeper (map without ts) ≡ map without (bare_txns keeper ts)
@@ -127,13 +80,6 @@ run_without keeper (r ∷ []) = refl
 run_without keeper (r ∷ e ∷ earlier) = ap (λ run. run_of_two keeper run (without_moments r)) (run_without keeper (e ∷ earlier)) ∙ two_without keeper (run_of keeper (e ∷ earlier)) r
 
 -- ---- what holds of a log
-sound_without : (ss : List ClientSession) → IsSoundLog ss → IsSoundLog (without_moments ss)
-sound_without ss sound = record {
-  sessions = subst (IsDistinct nat_eq) (sym (numbers_without ss)) sound.sessions;
-  writes = subst (λ ops. IsDistinct nat_eq (0 ∷ written ops)) (sym (ops_without ss)) sound.writes;
-  ordered = subst (AllByRecursion (λ t. is_earlier t.ended t.begun ≡ false)) (sym (txns_without ss)) (each_from_map (λ (t : Transaction). is_earlier t.ended t.begun ≡ false) without (txns_in ss) (each_weaker (λ (t : Transaction). is_earlier t.ended t.begun ≡ false) (λ t. is_earlier (without t).ended (without t).begun ≡ false) (λ t h. refl) (txns_in ss) sound.ordered));
-}
-
 learnt_without : (ss : List ClientSession) → IsLearntLog ss → IsLearntLog (without_moments ss)
 learnt_without ss learnt = subst (AllByRecursion IsLearnt) (sym (txns_without ss)) (each_from_map IsLearnt without (txns_in ss) learnt)
 
@@ -185,7 +131,7 @@ opened_without keeper ss sound learnt h = record {
 }
 
 round_without : (keeper : Keeper) (r : Round) → IsRound keeper r → IsRound keeper (without_moments r)
-round_without keeper r h = record { sound = sound_without r h.sound; learnt = learnt_without r h.learnt; opened = opened_without keeper r h.sound h.learnt h.opened; closed = closed_without keeper r h.closed }
+round_without keeper r h = record { sound = stays_sound r h.sound; learnt = learnt_without r h.learnt; opened = opened_without keeper r h.sound h.learnt h.opened; closed = closed_without keeper r h.closed }
 
 read_last_without : (ss : List ClientSession) (key : List ℕ) (wid : ℕ) → IsReadLast (committed_in ss) key wid → IsReadLast (committed_in (without_moments ss)) key wid
 read_last_without ss key wid r = record {
@@ -203,7 +149,7 @@ left_without ss key wid (inl u) = inl (record { zero = u.zero; none = λ a v c w
 left_without ss key wid (inr r) = inr (read_last_without ss key wid r)
 
 bare_ops_without : (keeper : Keeper) (r : Round) → committed_ops (bare keeper (without_moments r)) ≡ committed_ops (bare keeper r)
-bare_ops_without keeper r = ap committed_ops (bare_without keeper r) ∙ committed_ops_without (bare keeper r)
+bare_ops_without keeper r = ap committed_ops (bare_without keeper r) ∙ committed_ops_stay (bare keeper r)
 
 held_without : (keeper : Keeper) (rounds : List Round) (key : List ℕ) (wid : ℕ) → IsHeld keeper rounds key wid → IsHeld keeper (map without_moments rounds) key wid
 held_without keeper rounds key wid (first_leaves r _ _ l) = first_leaves (without_moments r) key wid (left_without r key wid l)
@@ -225,7 +171,7 @@ rounds_without keeper (r ∷ []) h = round_without keeper r h
 rounds_without keeper (r ∷ e ∷ earlier) h = (
   rounds_without keeper (e ∷ earlier) h.0,
   (round_without keeper r h.1.0, fits_without keeper (e ∷ earlier) r h.1.0 h.1.1),
-  subst IsSoundLog (sym (run_without keeper (r ∷ e ∷ earlier))) (sound_without (run_of keeper (r ∷ e ∷ earlier)) h.2),
+  subst IsSoundLog (sym (run_without keeper (r ∷ e ∷ earlier))) (stays_sound (run_of keeper (r ∷ e ∷ earlier)) h.2),
 )
 
 -- they are in time

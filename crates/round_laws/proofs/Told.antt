@@ -5,8 +5,7 @@ use Rattle.std.proofs.lemmas.Bool.{cases_Bool, false≢true, or_cases, or_left}
 use Rattle.std.proofs.lemmas.List.{map-append}
 use Rattle.std.proofs.lemmas.List.Elements.{Contains-append_left, Contains-append_right, Contains-append_cases}
 use Rattle.list_lemmas.proofs.Elements.{behind, mapped}
-use Rattle.session_log.specs.Text.{ClientSession, Transaction, is_write, is_commit}
-use Rattle.session_log.specs.Text.{is_unknown as is_unknown_outcome}
+use Rattle.session_log.specs.Text.{ClientSession, Transaction, is_write, is_commit, is_unknown as is_unknown_outcome}
 use Rattle.session_log.specs.declared.session.Op.{Op}
 use Rattle.session_log.specs.declared.session.Op.TheVariants.{Read}
 use Rattle.session_log.specs.declared.session.Outcome.{Outcome}

@@ -12,7 +12,7 @@ use Rattle.log_definitions.specs.Serial.{Committed, committed_in, node_in, node_
 use Rattle.log_laws.specs.Logs.{IsLearntLog}
 use Rattle.log_laws.proofs.Lists.{first_or_behind}
 use Rattle.log_laws.proofs.Sessions.{nodes_of}
-use Rattle.level_laws.specs.Examples.{x, y, lost_update}
+use Rattle.level_laws.specs.Examples.{one_txn, x, y, lost_update}
 use Rattle.level_laws.proofs.Nodes.{nodes_are, is_node}
 use Rattle.level_laws.proofs.Resolved.{ops_at}
 use Rattle.seen_laws.specs.declared.level.Level.{Level}
@@ -181,67 +181,71 @@ allows_lost_update = by_number Causal lost_update (nodes_of lost_update) update_
     each (suc (suc zero)) = ((refl, inl (refl, (λ u p w. update_past p))), tt)
     each (suc (suc (suc v))) = tt
 
--- ---- a fractured read
-fractured_facts : Facts fractured_read (nodes_of fractured_read)
-fractured_facts = facts fractured_read (never, (never, tt))
+-- ---- logs of one that writes both keys, and of one that reads twice
+abbrev reads_of : List ℕ → ℕ → List ℕ → ℕ → List ClientSession
+reads_of k i l j = one_txn 1 (Write x 1 ∷ Write y 2 ∷ []) ∷ one_txn 2 (Read k i ∷ Read l j ∷ []) ∷ []
 
-fractured_alone : Alone (nodes_of fractured_read)
-fractured_alone zero lo hi = absurd (omega (arith, lo))
-fractured_alone (suc zero) lo hi = refl
-fractured_alone (suc (suc zero)) lo hi = refl
-fractured_alone (suc (suc (suc v))) lo hi = absurd (omega (arith, hi))
+two_facts : (k : List ℕ) (i : ℕ) (l : List ℕ) (j : ℕ) → Facts (reads_of k i l j) (nodes_of (reads_of k i l j))
+two_facts k i l j = facts (reads_of k i l j) (never, (never, tt))
 
-fractured_reads : (v : ℕ) (key : List ℕ) (wid : ℕ) → Contains (ops_of fractured_read v) (Read key wid) → v ≡ 2
-fractured_reads v key wid c = go v (among (Read key wid) (ops_at (nodes_of fractured_read) v) (subst (λ l. Contains l (Read key wid)) (fractured_facts.ops v) c))
+two_alone : (k : List ℕ) (i : ℕ) (l : List ℕ) (j : ℕ) → Alone (nodes_of (reads_of k i l j))
+two_alone k i l j zero lo hi = absurd (omega (arith, lo))
+two_alone k i l j (suc zero) lo hi = refl
+two_alone k i l j (suc (suc zero)) lo hi = refl
+two_alone k i l j (suc (suc (suc v))) lo hi = absurd (omega (arith, hi))
+
+two_reads : (k : List ℕ) (i : ℕ) (l : List ℕ) (j v : ℕ) (key : List ℕ) (wid : ℕ) → Contains (ops_of (reads_of k i l j) v) (Read key wid) → v ≡ 2
+two_reads k i l j v key wid c = go v (among (Read key wid) (ops_at (nodes_of (reads_of k i l j)) v) (subst (λ ops. Contains ops (Read key wid)) ((two_facts k i l j).ops v) c))
   where
-    go : (v : ℕ) → Among (Read key wid) (ops_at (nodes_of fractured_read) v) → v ≡ 2
+    go : (v : ℕ) → Among (Read key wid) (ops_at (nodes_of (reads_of k i l j)) v) → v ≡ 2
     go zero a = absurd a
     go (suc zero) a = elim a [ inl e ↦ cc | inr b ↦ elim b [ inl e ↦ cc | inr n ↦ absurd n ] ]
     go (suc (suc zero)) a = refl
     go (suc (suc (suc v))) a = absurd a
 
-fractured_writes : Wrote (λ v key wid. (v ≡ 1) × (0 < wid)) fractured_read
-fractured_writes v key wid c = go v (among (Write key wid) (ops_at (nodes_of fractured_read) v) (subst (λ l. Contains l (Write key wid)) (fractured_facts.ops v) c))
+two_writes : (k : List ℕ) (i : ℕ) (l : List ℕ) (j : ℕ) → Wrote (λ v key wid. (v ≡ 1) × (0 < wid)) (reads_of k i l j)
+two_writes k i l j v key wid c = go v (among (Write key wid) (ops_at (nodes_of (reads_of k i l j)) v) (subst (λ ops. Contains ops (Write key wid)) ((two_facts k i l j).ops v) c))
   where
-    go : (v : ℕ) → Among (Write key wid) (ops_at (nodes_of fractured_read) v) → (v ≡ 1) × (0 < wid)
+    go : (v : ℕ) → Among (Write key wid) (ops_at (nodes_of (reads_of k i l j)) v) → (v ≡ 1) × (0 < wid)
     go zero a = absurd a
     go (suc zero) a = elim a [ inl e ↦ (refl, (let is = same_wid x key 1 wid e in omega (arith, is))) | inr b ↦ elim b [ inl e ↦ (refl, (let is = same_wid y key 2 wid e in omega (arith, is))) | inr n ↦ absurd n ] ]
     go (suc (suc zero)) a = elim a [ inl e ↦ cc | inr b ↦ elim b [ inl e ↦ cc | inr n ↦ absurd n ] ]
     go (suc (suc (suc v))) a = absurd a
 
-fractured_view : HasLevelOrder MonotonicAtomicView fractured_read
-fractured_view = by_number MonotonicAtomicView fractured_read (nodes_of fractured_read) fractured_facts fractured_alone from each
-  where
-    from : (u v : ℕ) → ReadsFrom fractured_read u v → u < v
-    from u v e =
-        let a = (fractured_writes u e.key e.wid e.writes).0 in
-        let b = fractured_reads v e.key e.wid e.reads in
-        omega (arith, a, b)
+two_from : (k : List ℕ) (i : ℕ) (l : List ℕ) (j u v : ℕ) → ReadsFrom (reads_of k i l j) u v → u < v
+two_from k i l j u v e =
+    let a = (two_writes k i l j u e.key e.wid e.writes).0 in
+    let b = two_reads k i l j v e.key e.wid e.reads in
+    omega (arith, a, b)
 
+-- ---- a fractured read
+fractured_view : HasLevelOrder MonotonicAtomicView fractured_read
+fractured_view = by_number MonotonicAtomicView fractured_read (nodes_of fractured_read) (two_facts y 0 x 1) (two_alone y 0 x 1) (two_from y 0 x 1) each
+  where
     none : (u : ℕ) → u ≢ 1 → WritesKey fractured_read u x → ⊥
-    none u ne w = ne (fractured_writes u x w.0 w.1).0
+    none u ne w = ne (two_writes y 0 x 1 u x w.0 w.1).0
 
     each : (v : ℕ) → EachRead (IsExternal MonotonicAtomicView fractured_read v) (ops_at (nodes_of fractured_read) v)
     each zero = tt
     each (suc zero) = tt
     each (suc (suc zero)) = (
       (refl, inl (refl, (λ u s w. (let c = s.reads in omega (arith, c.1))))),
-      ((refl, inr (1, (λ e. omega (arith, e)), ap (last_write x) (fractured_facts.ops 1), (λ u ne s w. none u ne w))), tt),
+      ((refl, inr (1, (λ e. omega (arith, e)), ap (last_write x) ((two_facts y 0 x 1).ops 1), (λ u ne s w. none u ne w))), tt),
     )
     each (suc (suc (suc v))) = tt
 
 fractured_not_atomic : HasLevelOrder ReadAtomic fractured_read → ⊥
 fractured_not_atomic (order, h) =
-    zero_unseen ReadAtomic fractured_read order (λ v key wid c. (fractured_writes v key wid c).1) 2 [] y
-    (h.found 2 [] y 0 (Read x 1 ∷ [], fractured_facts.ops 2) refl) 1
+    zero_unseen ReadAtomic fractured_read order (λ v key wid c. (two_writes y 0 x 1 v key wid c).1) 2 [] y
+    (h.found 2 [] y 0 (Read x 1 ∷ [], (two_facts y 0 x 1).ops 2) refl) 1
     (inr (record {
       key = x;
       wid = 1;
       other = λ e. omega (arith, e);
-      writes = subst (λ l. Contains l (Write x 1)) (sym (fractured_facts.ops 1)) (0, omega arith, refl);
-      reads = subst (λ l. Contains l (Read x 1)) (sym (fractured_facts.ops 2)) (1, omega arith, refl);
+      writes = subst (λ l. Contains l (Write x 1)) (sym ((two_facts y 0 x 1).ops 1)) (0, omega arith, refl);
+      reads = subst (λ l. Contains l (Read x 1)) (sym ((two_facts y 0 x 1).ops 2)) (1, omega arith, refl);
     }))
-    (2, subst (λ l. Contains l (Write y 2)) (sym (fractured_facts.ops 1)) (1, omega arith, refl))
+    (2, subst (λ l. Contains l (Write y 2)) (sym ((two_facts y 0 x 1).ops 1)) (1, omega arith, refl))
 
 pub splits_atomic : SplitsAtomic
 splits_atomic = (fractured_view, fractured_not_atomic)
@@ -370,63 +374,30 @@ pub splits_causal : SplitsCausal
 splits_causal = (cause_atomic, cause_not_causal)
 
 -- ---- a stale read
-stale_facts : Facts stale_read (nodes_of stale_read)
-stale_facts = facts stale_read (never, (never, tt))
-
-stale_alone : Alone (nodes_of stale_read)
-stale_alone zero lo hi = absurd (omega (arith, lo))
-stale_alone (suc zero) lo hi = refl
-stale_alone (suc (suc zero)) lo hi = refl
-stale_alone (suc (suc (suc v))) lo hi = absurd (omega (arith, hi))
-
-stale_reads : (v : ℕ) (key : List ℕ) (wid : ℕ) → Contains (ops_of stale_read v) (Read key wid) → v ≡ 2
-stale_reads v key wid c = go v (among (Read key wid) (ops_at (nodes_of stale_read) v) (subst (λ l. Contains l (Read key wid)) (stale_facts.ops v) c))
-  where
-    go : (v : ℕ) → Among (Read key wid) (ops_at (nodes_of stale_read) v) → v ≡ 2
-    go zero a = absurd a
-    go (suc zero) a = elim a [ inl e ↦ cc | inr b ↦ elim b [ inl e ↦ cc | inr n ↦ absurd n ] ]
-    go (suc (suc zero)) a = refl
-    go (suc (suc (suc v))) a = absurd a
-
-stale_writes : Wrote (λ v key wid. (v ≡ 1) × (0 < wid)) stale_read
-stale_writes v key wid c = go v (among (Write key wid) (ops_at (nodes_of stale_read) v) (subst (λ l. Contains l (Write key wid)) (stale_facts.ops v) c))
-  where
-    go : (v : ℕ) → Among (Write key wid) (ops_at (nodes_of stale_read) v) → (v ≡ 1) × (0 < wid)
-    go zero a = absurd a
-    go (suc zero) a = elim a [ inl e ↦ (refl, (let is = same_wid x key 1 wid e in omega (arith, is))) | inr b ↦ elim b [ inl e ↦ (refl, (let is = same_wid y key 2 wid e in omega (arith, is))) | inr n ↦ absurd n ] ]
-    go (suc (suc zero)) a = elim a [ inl e ↦ cc | inr b ↦ elim b [ inl e ↦ cc | inr n ↦ absurd n ] ]
-    go (suc (suc (suc v))) a = absurd a
-
 stale_committed : HasLevelOrder ReadCommitted stale_read
-stale_committed = by_number ReadCommitted stale_read (nodes_of stale_read) stale_facts stale_alone from each
+stale_committed = by_number ReadCommitted stale_read (nodes_of stale_read) (two_facts x 1 y 0) (two_alone x 1 y 0) (two_from x 1 y 0) each
   where
-    from : (u v : ℕ) → ReadsFrom stale_read u v → u < v
-    from u v e =
-        let a = (stale_writes u e.key e.wid e.writes).0 in
-        let b = stale_reads v e.key e.wid e.reads in
-        omega (arith, a, b)
-
     each : (v : ℕ) → EachRead (IsExternal ReadCommitted stale_read v) (ops_at (nodes_of stale_read) v)
     each zero = tt
     each (suc zero) = tt
     each (suc (suc zero)) = (
-      (refl, inr (1, (λ e. omega (arith, e)), ap (last_write x) (stale_facts.ops 1), (λ u ne s w. s))),
+      (refl, inr (1, (λ e. omega (arith, e)), ap (last_write x) ((two_facts x 1 y 0).ops 1), (λ u ne s w. s))),
       ((refl, inl (refl, (λ u s w. s))), tt),
     )
     each (suc (suc (suc v))) = tt
 
 stale_not_view : HasLevelOrder MonotonicAtomicView stale_read → ⊥
 stale_not_view (order, h) =
-    zero_unseen MonotonicAtomicView stale_read order (λ v key wid c. (stale_writes v key wid c).1) 2 (Read x 1 ∷ []) y
-    (h.found 2 (Read x 1 ∷ []) y 0 ([], stale_facts.ops 2) refl) 1
+    zero_unseen MonotonicAtomicView stale_read order (λ v key wid c. (two_writes x 1 y 0 v key wid c).1) 2 (Read x 1 ∷ []) y
+    (h.found 2 (Read x 1 ∷ []) y 0 ([], (two_facts x 1 y 0).ops 2) refl) 1
     (record {
       key = x;
       wid = 1;
       other = λ e. omega (arith, e);
-      writes = subst (λ l. Contains l (Write x 1)) (sym (stale_facts.ops 1)) (0, omega arith, refl);
+      writes = subst (λ l. Contains l (Write x 1)) (sym ((two_facts x 1 y 0).ops 1)) (0, omega arith, refl);
       reads = (0, omega arith, refl);
     })
-    (2, subst (λ l. Contains l (Write y 2)) (sym (stale_facts.ops 1)) (1, omega arith, refl))
+    (2, subst (λ l. Contains l (Write y 2)) (sym ((two_facts x 1 y 0).ops 1)) (1, omega arith, refl))
 
 pub splits_view : SplitsView
 splits_view = (stale_committed, stale_not_view)

@@ -18,25 +18,25 @@ use Rattle.level_refutations.specs.declared.evidence.Evidence.TheVariants as evi
 use Rattle.level_refutations.specs.Edges.{op_of, edge_from, edge_to}
 use Rattle.tell_evidence.specs.Rows.{end_of, outcome_at, line_of, key_at, wid_at}
 use Rattle.tell_evidence.specs.Sentences.{name_text, in_line, version_text, does_text, wrote_text}
-use Rattle.tell_evidence.specs.Sentences.{hop_text, path_text}
+use Rattle.tell_evidence.specs.Sentences.{hop_line, path_lines, stands_behind}
 
 -- ---- reads that overlook a write
 
-abbrev pub sight_text : Table → List ClientSession → Overlooked → List ℕ
-sight_text table ss o = path_text table ss o.read o.write o.path.items
+abbrev pub sight_lines : Table → List ClientSession → Overlooked → List ℕ
+sight_lines table ss o = path_lines table ss o.write o.path.items
 
--- what the read names, by which path it sees the other write, and which of the two is the earlier:
+-- by which path a read sees the other write, what it names, and which of the two is the earlier:
 -- `so the x of 1.3 is older than the x of 1.2`
 unfoldable pub forced_text : Table → List ClientSession → Overlooked → OpAt → List ℕ
 forced_text table ss o found =
-    does_text table ss (codes " reads ") o.read ++ (wrote_text table ss found ++ (codes "\n"
-    ++ (sight_text table ss o ++ (codes "so " ++ (version_text table ss o.write
-    ++ (codes " is older than " ++ (version_text table ss found ++ codes "\n")))))))
+    sight_lines table ss o ++ (does_text table ss (codes " reads ") o.read
+    ++ (wrote_text table ss found ++ (codes "\nso " ++ (version_text table ss o.write
+    ++ (codes " is older than " ++ (version_text table ss found ++ codes "\n"))))))
 
 -- `in short: 2.7 sees 1.3, which wrote x too and comes after 1.2, but reads the x of 1.2`
 unfoldable pub short_forced : Table → List ClientSession → Overlooked → OpAt → List ℕ
 short_forced table ss o found =
-    codes "in short: " ++ (name_text table ss o.read.txn ++ (codes " sees "
+    codes "in short: " ++ (name_text table ss o.read.txn ++ (stands_behind o.path.items
     ++ (name_text table ss o.write.txn ++ (codes ", which wrote " ++ (key_at ss o.write
     ++ (codes " too and comes after " ++ (name_text table ss found.txn ++ (codes ", but reads "
     ++ (version_text table ss found ++ codes "\n")))))))))
@@ -46,18 +46,18 @@ short_forced table ss o found =
 -- `in short: 2.7 sees 1.3, which wrote x, but reads the initial value of x`
 unfoldable pub short_initial : Table → List ClientSession → Overlooked → List ℕ
 short_initial table ss o =
-    codes "in short: " ++ (name_text table ss o.read.txn ++ (codes " sees "
+    codes "in short: " ++ (name_text table ss o.read.txn ++ (stands_behind o.path.items
     ++ (name_text table ss o.write.txn ++ (codes ", which wrote " ++ (key_at ss o.write
     ++ (codes ", but reads the initial value of " ++ (key_at ss o.read ++ codes "\n")))))))
 
--- what it names, by which path it sees the write, and what it should name:
+-- by which path it sees the write, what it names, and what it should name:
 -- `so 2.7 should read the x of 1.3 or a later one`
 unfoldable pub lines_initial : Table → List ClientSession → Overlooked → List ℕ
 lines_initial table ss o =
-    does_text table ss (codes " reads ") o.read ++ (codes ", the initial value\n"
-    ++ (sight_text table ss o ++ (codes "so " ++ (name_text table ss o.read.txn
+    sight_lines table ss o ++ (does_text table ss (codes " reads ") o.read
+    ++ (codes ", the initial value\nso " ++ (name_text table ss o.read.txn
     ++ (codes " should read " ++ (version_text table ss o.write
-    ++ codes " or a later one\n"))))))
+    ++ codes " or a later one\n")))))
 
 abbrev pub initial_text : Table → List ClientSession → Overlooked → List ℕ
 initial_text table ss o = short_initial table ss o ++ lines_initial table ss o
@@ -65,7 +65,7 @@ initial_text table ss o = short_initial table ss o ++ lines_initial table ss o
 -- ---- circles
 
 abbrev pub edge_text : Table → List ClientSession → Edge → List ℕ
-edge_text table ss (edge.Known hop) = hop_text table ss (codes " reads ") hop ++ codes "\n"
+edge_text table ss (edge.Known hop) = hop_line table ss hop
 edge_text table ss (edge.Forced o found) = forced_text table ss o found
 
 abbrev pub edges_text : Table → List ClientSession → List Edge → List ℕ

@@ -34,6 +34,13 @@ abbrev pub begins_by_session : List Hop → Bool
 begins_by_session [] = false
 begins_by_session (hop ∷ hops) = is_session hop.step
 
+-- by a session somewhere on the way
+abbrev pub is_session_hop : Hop → Bool
+is_session_hop hop = is_session hop.step
+
+abbrev pub has_session : Overlooked → Bool
+has_session o = list_any is_session_hop o.path.items
+
 -- by several hops
 abbrev pub sees_far : Overlooked → Bool
 sees_far o = not (length o.path.items == 1)
@@ -55,6 +62,10 @@ abbrev pub is_session_edge : Edge → Bool
 is_session_edge (edge.Known hop) = false
 is_session_edge (edge.Forced o found) = sees_by_session o
 
+abbrev pub has_session_edge : Edge → Bool
+has_session_edge (edge.Known hop) = is_session hop.step
+has_session_edge (edge.Forced o found) = has_session o
+
 abbrev pub is_other_edge : Edge → Bool
 is_other_edge (edge.Known hop) = false
 is_other_edge (edge.Forced o found) = sees_by_other o
@@ -66,24 +77,29 @@ is_known_session (edge.Forced o found) = false
 
 -- ---- names
 
--- A read overlooks a write that it sees: far away, or else by its session, or else by a read of
--- something else. What is left is that its transaction reads the very write: two versions of a key.
+-- A read overlooks a write that it sees: far away, by some session or by none, or else by its own
+-- session, or else by a read of something else. What is left is that its transaction reads the very
+-- write: two versions of a key. A fault has the name that it has at serializability.
 abbrev pub view_name : Bool → List ℕ
-view_name other = if other then codes "observed transaction vanishes (OTV)"
+view_name other = if other then codes "read skew (G-single)"
     else codes "non-repeatable read (internal)"
 
 abbrev pub atomic_name : Bool → Bool → List ℕ
-atomic_name session other = if session then codes "stale read of its own session"
-    else if other then codes "read skew (G-single)" else codes "non-repeatable read (internal)"
+atomic_name session other = if session
+    then codes "a session misses its own write (G-single-process)" else view_name other
 
-abbrev pub causal_name : Bool → Bool → Bool → List ℕ
-causal_name far session other = if far then codes "causal violation" else atomic_name session other
+abbrev pub far_name : Bool → List ℕ
+far_name some = if some then codes "cycle with one missed write and sessions (G-single-process)"
+    else codes "cycle with one missed write (G-single)"
 
-abbrev pub seen_name : Level → Bool → Bool → Bool → Option (List ℕ)
-seen_name ReadCommitted far session other = None
-seen_name MonotonicAtomicView far session other = Some (view_name other)
-seen_name ReadAtomic far session other = Some (atomic_name session other)
-seen_name Causal far session other = Some (causal_name far session other)
+abbrev pub causal_name : Bool → Bool → Bool → Bool → List ℕ
+causal_name far some session other = if far then far_name some else atomic_name session other
+
+abbrev pub seen_name : Level → Bool → Bool → Bool → Bool → Option (List ℕ)
+seen_name ReadCommitted far some session other = None
+seen_name MonotonicAtomicView far some session other = Some (view_name other)
+seen_name ReadAtomic far some session other = Some (atomic_name session other)
+seen_name Causal far some session other = Some (causal_name far some session other)
 
 -- of edges of which none is forced
 abbrev pub known_name : List Edge → List ℕ
@@ -94,14 +110,16 @@ known_name edges = if list_any is_known_session edges
 -- of edges of which some are forced: that of the read that sees farthest
 abbrev pub forced_name : Level → List Edge → Option (List ℕ)
 forced_name level edges = seen_name level (list_any is_far_edge edges)
-    (list_any is_session_edge edges) (list_any is_other_edge edges)
+    (list_any has_session_edge edges) (list_any is_session_edge edges)
+    (list_any is_other_edge edges)
 
 abbrev pub circle_name : Level → List Edge → Option (List ℕ)
 circle_name level edges = if list_any is_forced_edge edges then forced_name level edges
     else Some (known_name edges)
 
 abbrev pub initial_name : Level → Overlooked → Option (List ℕ)
-initial_name level o = seen_name level (sees_far o) (sees_by_session o) (sees_by_other o)
+initial_name level o = seen_name level (sees_far o) (has_session o) (sees_by_session o)
+    (sees_by_other o)
 
 abbrev pub evidence_name : Level → Evidence → Option (List ℕ)
 evidence_name level (evidence.Fault fault) = why_name fault.why

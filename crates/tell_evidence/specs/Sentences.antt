@@ -9,7 +9,6 @@ use Rattle.level_refutations.specs.declared.evidence.OpAt.{OpAt}
 use Rattle.level_refutations.specs.declared.evidence.Hop.{Hop}
 use Rattle.level_refutations.specs.declared.evidence.Step.{Step}
 use Rattle.level_refutations.specs.declared.evidence.Step.TheVariants as step
-use Rattle.level_refutations.specs.Places.{is_same}
 use Rattle.level_refutations.specs.Edges.{op_of}
 use Rattle.tell_evidence.specs.Rows.{number_at, row_of, line_of, key_at, wid_at}
 
@@ -42,13 +41,14 @@ wrote_text table ss write = codes ", which " ++ name_text table ss write.txn ++ 
     ++ in_line (line_of table write)
 
 -- `2.7 reads x 4 (line 90), which 1.2 wrote (line 12)`
-unfoldable pub reads_text : Table → List ClientSession → List ℕ → OpAt → OpAt → List ℕ
-reads_text table ss words read write = does_text table ss words read ++ wrote_text table ss write
+unfoldable pub reads_text : Table → List ClientSession → OpAt → OpAt → List ℕ
+reads_text table ss read write = does_text table ss (codes " reads ") read
+    ++ wrote_text table ss write
 
--- `1.3 wrote x too (line 19)`
-unfoldable pub too_text : Table → List ClientSession → OpAt → List ℕ
-too_text table ss write = name_text table ss write.txn ++ codes " wrote " ++ key_at ss write
-    ++ codes " too" ++ in_line (line_of table write)
+-- `1.3 wrote x (line 19)`
+unfoldable pub writes_text : Table → List ClientSession → OpAt → List ℕ
+writes_text table ss write = name_text table ss write.txn ++ codes " wrote " ++ key_at ss write
+    ++ in_line (line_of table write)
 
 -- ---- hops
 
@@ -57,34 +57,21 @@ unfoldable pub after_text : Table → List ClientSession → TxnAt → TxnAt →
 after_text table ss from to = name_text table ss to ++ codes " comes after "
     ++ name_text table ss from ++ codes " in session " ++ decimal (number_at ss from.session)
 
--- by a session, or with these words by a read
-abbrev pub step_text : Table → List ClientSession → List ℕ → TxnAt → TxnAt → Step → List ℕ
-step_text table ss words from to step.Session = after_text table ss from to
-step_text table ss words from to (step.Read write read) = reads_text table ss words (op_of to read)
+-- by a session, or by a read
+abbrev pub step_text : Table → List ClientSession → TxnAt → TxnAt → Step → List ℕ
+step_text table ss from to step.Session = after_text table ss from to
+step_text table ss from to (step.Read write read) = reads_text table ss (op_of to read)
     (op_of from write)
 
-abbrev pub hop_text : Table → List ClientSession → List ℕ → Hop → List ℕ
-hop_text table ss words hop = step_text table ss words hop.from hop.to hop.step
+-- a hop on a line
+abbrev pub hop_line : Table → List ClientSession → Hop → List ℕ
+hop_line table ss hop = step_text table ss hop.from hop.to hop.step ++ codes "\n"
 
 -- ---- paths
 
--- the transaction that overlooks a write has been told to read
-abbrev pub reading_words : TxnAt → Hop → List ℕ
-reading_words reader hop = if is_same hop.to reader then codes " also reads " else codes " reads "
-
-abbrev pub part_text : Table → List ClientSession → TxnAt → Hop → List ℕ
-part_text table ss reader hop = hop_text table ss (reading_words reader hop) hop
-
-abbrev pub behind_text : Table → List ClientSession → TxnAt → List Hop → List ℕ
-behind_text table ss reader [] = []
-behind_text table ss reader (hop ∷ hops) = codes "; " ++ part_text table ss reader hop
-    ++ behind_text table ss reader hops
-
--- the hops of a path, from the write to the transaction that overlooks it
-abbrev pub hops_text : Table → List ClientSession → TxnAt → List Hop → List ℕ
-hops_text table ss reader [] = []
-hops_text table ss reader (hop ∷ hops) = part_text table ss reader hop
-    ++ behind_text table ss reader hops
+abbrev pub hop_lines : Table → List ClientSession → List Hop → List ℕ
+hop_lines table ss [] = []
+hop_lines table ss (hop ∷ hops) = hop_line table ss hop ++ hop_lines table ss hops
 
 -- the hop is a read of operation i of its first transaction
 abbrev pub is_of_write : ℕ → Step → Bool
@@ -96,21 +83,20 @@ abbrev pub reads_it : OpAt → List Hop → Bool
 reads_it write [] = false
 reads_it write (hop ∷ hops) = is_of_write write.op hop.step
 
-abbrev pub link_behind : Step → List ℕ
-link_behind step.Session = codes ", and "
-link_behind (step.Read write read) = codes "; "
+-- that a write is there, where its path does not tell it
+abbrev pub write_line : Table → List ClientSession → OpAt → List Hop → List ℕ
+write_line table ss write path = if reads_it write path then [] else writes_text table ss write
+    ++ codes "\n"
 
--- what stands between a path and what is told of the write
-abbrev pub link_of : List Hop → List ℕ
-link_of (hop ∷ []) = link_behind hop.step
-link_of _ = codes "; "
+-- a write, and each hop of the path from it to the transaction that overlooks it
+abbrev pub path_lines : Table → List ClientSession → OpAt → List Hop → List ℕ
+path_lines table ss write path = write_line table ss write path ++ hop_lines table ss path
 
--- that it is of the key, where the path does not tell it
-unfoldable pub write_text : Table → List ClientSession → OpAt → List Hop → List ℕ
-write_text table ss write path = if reads_it write path then [] else link_of path
-    ++ too_text table ss write
+-- how a transaction stands to the first one of a path to it: it sees it by a read, or comes after it
+abbrev pub stands_by : Step → List ℕ
+stands_by step.Session = codes " comes after "
+stands_by (step.Read write read) = codes " sees "
 
--- `2.7 also reads y 9 (line 91), which 1.3 wrote (line 20); 1.3 wrote x too (line 19)`
-unfoldable pub path_text : Table → List ClientSession → OpAt → OpAt → List Hop → List ℕ
-path_text table ss read write path = hops_text table ss read.txn path
-    ++ write_text table ss write path ++ codes "\n"
+abbrev pub stands_behind : List Hop → List ℕ
+stands_behind (hop ∷ []) = stands_by hop.step
+stands_behind _ = codes " comes after "

@@ -7,7 +7,7 @@ use Rattle.tell_evidence.specs.declared.words.Word.TheVariants.{Text, Name, Key,
 use Rattle.tell_evidence.specs.declared.words.Word.TheVariants.{Version, Does, Wrote, Path}
 use Rattle.tell_evidence.specs.Rows.{line_of, end_of, key_at, wid_at}
 use Rattle.tell_evidence.specs.Sentences.{name_text, in_line, version_text, does_text, wrote_text}
-use Rattle.tell_evidence.specs.Sentences.{path_text}
+use Rattle.tell_evidence.specs.Sentences.{path_lines}
 
 abbrev pub word_text : Table → List ClientSession → Word → List ℕ
 word_text table ss (Text text) = text.now
@@ -20,7 +20,7 @@ word_text table ss (AtEnd at) = in_line (end_of table at)
 word_text table ss (Version at) = version_text table ss at
 word_text table ss (Does words at) = does_text table ss words.now at
 word_text table ss (Wrote at) = wrote_text table ss at
-word_text table ss (Path o) = path_text table ss o.now.read o.now.write o.now.path.items
+word_text table ss (Path o) = path_lines table ss o.now.write o.now.path.items
 
 -- one behind the other
 abbrev pub words_text : Table → List ClientSession → List Word → List ℕ

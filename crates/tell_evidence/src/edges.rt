@@ -10,7 +10,7 @@ ghost use Rattle.tell_evidence.specs.Evidence.{before_text, behind_and, clash_te
 ghost use Rattle.tell_evidence.specs.Evidence.{short_known, is_forced_edge, first_forced};
 ghost use Rattle.tell_evidence.specs.Evidence.{short_edge, short_circle, circle_text};
 
-use crate::paths::put_hop;
+use crate::paths::{put_hop, stands_behind};
 use crate::phrases::{Log, put};
 use crate::tell;
 use level_refutations::{Edge, OpAt, Overlooked, TxnAt};
@@ -28,7 +28,7 @@ fn put_forced(
         (rows_of log.now.places.now) (map view log.now.sessions.now) it.now found) }
 {
     tell!(out, log;
-        Does(b" reads ", it.read), Wrote(found), Text(b"\n"), Path(it), Text(b"so "),
+        Path(it), Does(b" reads ", it.read), Wrote(found), Text(b"\nso "),
         Version(it.write), Text(b" is older than "), Version(found), Text(b"\n"))
 }
 
@@ -44,7 +44,7 @@ fn put_short_forced(
         (rows_of log.now.places.now) (map view log.now.sessions.now) it.now found) }
 {
     tell!(out, log;
-        Text(b"in short: "), Name(it.read.txn), Text(b" sees "), Name(it.write.txn),
+        Text(b"in short: "), Name(it.read.txn), Text(stands_behind(&it.path)), Name(it.write.txn),
         Text(b", which wrote "), Key(it.write), Text(b" too and comes after "), Name(found.txn),
         Text(b", but reads "), Version(found), Text(b"\n"))
 }
@@ -56,19 +56,19 @@ fn put_short_initial(out: &mut Vec<u8>, log: &Log<'_>, it: &Overlooked) -> Resul
         ++ short_initial (rows_of log.now.places.now) (map view log.now.sessions.now) it.now) }
 {
     tell!(out, log;
-        Text(b"in short: "), Name(it.read.txn), Text(b" sees "), Name(it.write.txn),
+        Text(b"in short: "), Name(it.read.txn), Text(stands_behind(&it.path)), Name(it.write.txn),
         Text(b", which wrote "), Key(it.write), Text(b", but reads the initial value of "),
         Key(it.read), Text(b"\n"))
 }
 
-/// Appends what the read names, which write it sees, and what it should name.
+/// Appends by which path a read sees a write, what it names, and what it should name.
 #[tactic(auto, unfolding(crate::specs::Evidence::lines_initial))]
 fn put_lines_initial(out: &mut Vec<u8>, log: &Log<'_>, it: &Overlooked) -> Result<(), AllocError>
     ensures put { OnOk result (out.new.items ≡ out.old.items
         ++ lines_initial (rows_of log.now.places.now) (map view log.now.sessions.now) it.now) }
 {
     tell!(out, log;
-        Does(b" reads ", it.read), Text(b", the initial value\n"), Path(it), Text(b"so "),
+        Path(it), Does(b" reads ", it.read), Text(b", the initial value\nso "),
         Name(it.read.txn), Text(b" should read "), Version(it.write),
         Text(b" or a later one\n"))
 }
@@ -88,10 +88,7 @@ fn put_edge(out: &mut Vec<u8>, log: &Log<'_>, edge: &Edge) -> Result<(), AllocEr
         ++ edge_text (rows_of log.now.places.now) (map view log.now.sessions.now) edge.now) }
 {
     match edge {
-        Edge::Known(hop) => {
-            put_hop(out, log, b" reads ", hop)?;
-            put(out, b"\n")
-        }
+        Edge::Known(hop) => put_hop(out, log, hop),
         Edge::Forced { overlooked, found } => put_forced(out, log, overlooked, *found),
     }
 }

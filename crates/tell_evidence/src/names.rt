@@ -41,6 +41,19 @@ fn begins_by_session(path: &[Hop]) -> bool
     }
 }
 
+fn is_session_hop(hop: &Hop) -> bool
+    ensures { result ≡ spec.is_session_hop hop.now }
+{
+    is_session(hop.step)
+}
+
+/// Whether a read sees the write that it overlooks by a session somewhere on the way.
+fn has_session(it: &Overlooked) -> bool
+    ensures { result ≡ spec.has_session it.now }
+{
+    it.path.iter().any(|hop| is_session_hop(hop))
+}
+
 /// Whether a read sees the write that it overlooks by several hops.
 fn sees_far(it: &Overlooked) -> bool
     ensures { result ≡ spec.sees_far it.now }
@@ -81,6 +94,15 @@ fn is_session_edge(edge: &Edge) -> bool
     }
 }
 
+fn has_session_edge(edge: &Edge) -> bool
+    ensures { result ≡ spec.has_session_edge edge.now }
+{
+    match edge {
+        Edge::Known(hop) => is_session(hop.step),
+        Edge::Forced { overlooked, .. } => has_session(overlooked),
+    }
+}
+
 fn is_other_edge(edge: &Edge) -> bool
     ensures { result ≡ spec.is_other_edge edge.now }
 {
@@ -105,7 +127,7 @@ fn view_name(other: bool) -> &'static str
     ensures { result.now ≡ spec.view_name other }
 {
     if other {
-        "observed transaction vanishes (OTV)"
+        "read skew (G-single)"
     } else {
         "non-repeatable read (internal)"
     }
@@ -116,35 +138,50 @@ fn atomic_name(session: bool, other: bool) -> &'static str
     ensures { result.now ≡ spec.atomic_name session other }
 {
     if session {
-        "stale read of its own session"
-    } else if other {
-        "read skew (G-single)"
+        "a session misses its own write (G-single-process)"
     } else {
-        "non-repeatable read (internal)"
+        view_name(other)
+    }
+}
+
+/// The name of a read that overlooks a write far away, by some session or by none.
+fn far_name(some: bool) -> &'static str
+    ensures { result.now ≡ spec.far_name some }
+{
+    if some {
+        "cycle with one missed write and sessions (G-single-process)"
+    } else {
+        "cycle with one missed write (G-single)"
     }
 }
 
 /// The name at causal consistency.
-fn causal_name(far: bool, session: bool, other: bool) -> &'static str
-    ensures { result.now ≡ spec.causal_name far session other }
+fn causal_name(far: bool, some: bool, session: bool, other: bool) -> &'static str
+    ensures { result.now ≡ spec.causal_name far some session other }
 {
     if far {
-        "causal violation"
+        far_name(some)
     } else {
         atomic_name(session, other)
     }
 }
 
-/// The name of a read that overlooks a write: far away, by its session, or by a read of something
-/// else.
-fn seen_name(level: Level, far: bool, session: bool, other: bool) -> Option<&'static str>
-    ensures { option_copied result ≡ spec.seen_name level far session other }
+/// The name of a read that overlooks a write: far away, by some session, by its own one, or by a
+/// read of something else.
+fn seen_name(
+    level: Level,
+    far: bool,
+    some: bool,
+    session: bool,
+    other: bool,
+) -> Option<&'static str>
+    ensures { option_copied result ≡ spec.seen_name level far some session other }
 {
     match level {
         Level::ReadCommitted => None,
         Level::MonotonicAtomicView => Some(view_name(other)),
         Level::ReadAtomic => Some(atomic_name(session, other)),
-        Level::Causal => Some(causal_name(far, session, other)),
+        Level::Causal => Some(causal_name(far, some, session, other)),
     }
 }
 
@@ -160,6 +197,13 @@ fn some_far(edges: &[Edge]) -> bool
     ensures { result ≡ list_any spec.is_far_edge edges.now }
 {
     edges.iter().any(|edge| is_far_edge(edge))
+}
+
+/// Whether a session is on the way of one of these edges.
+fn some_with_session(edges: &[Edge]) -> bool
+    ensures { result ≡ list_any spec.has_session_edge edges.now }
+{
+    edges.iter().any(|edge| has_session_edge(edge))
 }
 
 /// Whether one of these edges is forced by a session.
@@ -198,8 +242,9 @@ fn known_name(edges: &[Edge]) -> &'static str
 fn forced_name(level: Level, edges: &[Edge]) -> Option<&'static str>
     ensures { option_copied result ≡ spec.forced_name level edges.now }
 {
-    let (far, session) = (some_far(edges), some_by_session(edges));
-    seen_name(level, far, session, some_by_other(edges))
+    let (far, some) = (some_far(edges), some_with_session(edges));
+    let session = some_by_session(edges);
+    seen_name(level, far, some, session, some_by_other(edges))
 }
 
 fn circle_name(level: Level, edges: &[Edge]) -> Option<&'static str>
@@ -215,8 +260,8 @@ fn circle_name(level: Level, edges: &[Edge]) -> Option<&'static str>
 fn initial_name(level: Level, it: &Overlooked) -> Option<&'static str>
     ensures { option_copied result ≡ spec.initial_name level it.now }
 {
-    let (far, session, other) = (sees_far(it), sees_by_session(it), sees_by_other(it));
-    seen_name(level, far, session, other)
+    let (far, some) = (sees_far(it), has_session(it));
+    seen_name(level, far, some, sees_by_session(it), sees_by_other(it))
 }
 
 /// What the field calls what the evidence shows, where it has a name at this level, which the

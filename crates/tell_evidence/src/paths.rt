@@ -3,22 +3,14 @@
 ghost use Rattle.std.specs.Prelude.{◌≡◌, ◌++◌, map, OnOk};
 ghost use Rattle.session_log.specs.Text.{view};
 ghost use Rattle.log_lines.specs.Rows.{rows_of};
-ghost use Rattle.level_refutations.specs.Places.{is_same};
 ghost use Rattle.level_refutations.specs.Edges.{op_of};
-ghost use Rattle.tell_evidence.specs.Sentences.{step_text, hop_text, reading_words, part_text};
-ghost use Rattle.tell_evidence.specs.Sentences.{behind_text, hops_text, is_of_write, reads_it};
-ghost use Rattle.tell_evidence.specs.Sentences.{link_behind, link_of, write_text, path_text};
+ghost use Rattle.tell_evidence.specs.Sentences.{step_text, hop_line, hop_lines, is_of_write};
+ghost use Rattle.tell_evidence.specs.Sentences.{reads_it, write_line, path_lines, stands_by};
+ghost use Rattle.tell_evidence.specs.Sentences.{stands_behind};
 
-use crate::phrases::{Log, put, put_after, put_reads, put_too};
+use crate::phrases::{Log, put, put_after, put_reads, put_writes};
 use level_refutations::{Hop, OpAt, Step, TxnAt};
 use std::alloc::AllocError;
-
-/// Whether these are one transaction.
-fn is_same(one: TxnAt, other: TxnAt) -> bool
-    ensures { result ≡ is_same one other }
-{
-    one.session == other.session && one.txn == other.txn
-}
 
 /// An operation of a transaction.
 pub fn op_of(txn: TxnAt, op: usize) -> OpAt
@@ -27,82 +19,41 @@ pub fn op_of(txn: TxnAt, op: usize) -> OpAt
     OpAt { txn, op }
 }
 
-/// Appends a step between two transactions, with these words for a read.
+/// Appends a step between two transactions.
 fn put_step(
     out: &mut Vec<u8>,
     log: &Log<'_>,
-    words: &[u8],
     from: TxnAt,
     to: TxnAt,
     step: Step,
 ) -> Result<(), AllocError>
     ensures put { OnOk result (out.new.items ≡ out.old.items ++ step_text
-        (rows_of log.now.places.now) (map view log.now.sessions.now) words.now from to step) }
+        (rows_of log.now.places.now) (map view log.now.sessions.now) from to step) }
 {
     match step {
         Step::Session => put_after(out, log, from, to),
-        Step::Read { write, read } => {
-            put_reads(out, log, words, op_of(to, read), op_of(from, write))
-        }
+        Step::Read { write, read } => put_reads(out, log, op_of(to, read), op_of(from, write)),
     }
 }
 
-/// Appends a hop, with these words for a read.
-pub fn put_hop(out: &mut Vec<u8>, log: &Log<'_>, words: &[u8], hop: &Hop) -> Result<(), AllocError>
-    ensures put { OnOk result (out.new.items ≡ out.old.items ++ hop_text
-        (rows_of log.now.places.now) (map view log.now.sessions.now) words.now hop.now) }
+/// Appends a hop on a line.
+pub fn put_hop(out: &mut Vec<u8>, log: &Log<'_>, hop: &Hop) -> Result<(), AllocError>
+    ensures put { OnOk result (out.new.items ≡ out.old.items ++ hop_line
+        (rows_of log.now.places.now) (map view log.now.sessions.now) hop.now) }
 {
-    put_step(out, log, words, hop.from, hop.to, hop.step)
+    put_step(out, log, hop.from, hop.to, hop.step)?;
+    put(out, b"\n")
 }
 
-/// The words for the read of a hop on a path to this transaction.
-fn reading_words(reader: TxnAt, hop: &Hop) -> &'static [u8]
-    ensures { result.now ≡ reading_words reader hop.now }
-{
-    if is_same(hop.to, reader) {
-        b" also reads "
-    } else {
-        b" reads "
-    }
-}
-
-/// Appends a hop of a path to this transaction.
-fn put_part(out: &mut Vec<u8>, log: &Log<'_>, reader: TxnAt, hop: &Hop) -> Result<(), AllocError>
-    ensures put { OnOk result (out.new.items ≡ out.old.items ++ part_text
-        (rows_of log.now.places.now) (map view log.now.sessions.now) reader hop.now) }
-{
-    put_hop(out, log, reading_words(reader, hop), hop)
-}
-
-/// Appends the further hops of a path.
-fn put_behind(
-    out: &mut Vec<u8>,
-    log: &Log<'_>,
-    reader: TxnAt,
-    hops: &[Hop],
-) -> Result<(), AllocError>
-    ensures put { OnOk result (out.new.items ≡ out.old.items ++ behind_text
-        (rows_of log.now.places.now) (map view log.now.sessions.now) reader hops.now) }
+/// Appends hops, each on a line.
+fn put_hops(out: &mut Vec<u8>, log: &Log<'_>, hops: &[Hop]) -> Result<(), AllocError>
+    ensures put { OnOk result (out.new.items ≡ out.old.items ++ hop_lines
+        (rows_of log.now.places.now) (map view log.now.sessions.now) hops.now) }
 {
     for hop in hops {
-        put(out, b"; ")?;
-        put_part(out, log, reader, hop)?;
+        put_hop(out, log, hop)?;
     }
     Ok(())
-}
-
-/// Appends the hops of a path.
-fn put_hops(out: &mut Vec<u8>, log: &Log<'_>, reader: TxnAt, hops: &[Hop]) -> Result<(), AllocError>
-    ensures put { OnOk result (out.new.items ≡ out.old.items ++ hops_text
-        (rows_of log.now.places.now) (map view log.now.sessions.now) reader hops.now) }
-{
-    match hops {
-        [] => Ok(()),
-        [first, behind @ ..] => {
-            put_part(out, log, reader, first)?;
-            put_behind(out, log, reader, behind)
-        }
-    }
 }
 
 /// Whether a step is a read of operation `write`.
@@ -125,51 +76,48 @@ pub fn reads_it(write: OpAt, path: &[Hop]) -> bool
     }
 }
 
-fn link_behind(step: Step) -> &'static [u8]
-    ensures { result.now ≡ link_behind step }
-{
-    match step {
-        Step::Session => b", and ",
-        Step::Read { .. } => b"; ",
-    }
-}
-
-/// What stands between a path and what is told of the write.
-fn link_of(path: &[Hop]) -> &'static [u8]
-    ensures { result.now ≡ link_of path.now }
-{
-    match path {
-        [only] => link_behind(only.step),
-        _ => b"; ",
-    }
-}
-
-/// Appends that the write is of the key too, where its path does not tell it.
-#[tactic(auto, unfolding(crate::specs::Sentences::write_text))]
+/// Appends that a write is there, where its path does not tell it.
 fn put_write(out: &mut Vec<u8>, log: &Log<'_>, write: OpAt, path: &[Hop]) -> Result<(), AllocError>
-    ensures put { OnOk result (out.new.items ≡ out.old.items ++ write_text
+    ensures put { OnOk result (out.new.items ≡ out.old.items ++ write_line
         (rows_of log.now.places.now) (map view log.now.sessions.now) write path.now) }
 {
     if reads_it(write, path) {
         return Ok(());
     }
-    put(out, link_of(path))?;
-    put_too(out, log, write)
+    put_writes(out, log, write)?;
+    put(out, b"\n")
 }
 
-/// Appends the line of a path from a write to a read.
-#[tactic(auto, unfolding(crate::specs::Sentences::path_text))]
+/// Appends the lines of a path from a write to the transaction that overlooks it.
 pub fn put_path(
     out: &mut Vec<u8>,
     log: &Log<'_>,
-    read: OpAt,
     write: OpAt,
     path: &[Hop],
 ) -> Result<(), AllocError>
-    ensures put { OnOk result (out.new.items ≡ out.old.items ++ path_text
-        (rows_of log.now.places.now) (map view log.now.sessions.now) read write path.now) }
+    ensures put { OnOk result (out.new.items ≡ out.old.items ++ path_lines
+        (rows_of log.now.places.now) (map view log.now.sessions.now) write path.now) }
 {
-    put_hops(out, log, read.txn, path)?;
     put_write(out, log, write, path)?;
-    put(out, b"\n")
+    put_hops(out, log, path)
+}
+
+/// How a transaction stands to the one before it.
+fn stands_by(step: Step) -> &'static [u8]
+    ensures { result.now ≡ stands_by step }
+{
+    match step {
+        Step::Session => b" comes after ",
+        Step::Read { .. } => b" sees ",
+    }
+}
+
+/// How a transaction stands to the first one of a path to it.
+pub fn stands_behind(path: &[Hop]) -> &'static [u8]
+    ensures { result.now ≡ stands_behind path.now }
+{
+    match path {
+        [only] => stands_by(only.step),
+        _ => b" comes after ",
+    }
 }

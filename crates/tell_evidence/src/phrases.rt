@@ -4,7 +4,7 @@ ghost use Rattle.std.specs.Prelude.{◌≡◌, ◌++◌, map, codes, decimal, On
 ghost use Rattle.session_log.specs.Text.{view};
 ghost use Rattle.log_lines.specs.Rows.{rows_of};
 ghost use Rattle.tell_evidence.specs.Sentences.{name_text, in_line, version_text, does_text};
-ghost use Rattle.tell_evidence.specs.Sentences.{wrote_text, reads_text, too_text, after_text};
+ghost use Rattle.tell_evidence.specs.Sentences.{wrote_text, reads_text, writes_text, after_text};
 
 use crate::places::{key_at, line_of, number_at, place_at, wid_at};
 use itoa::Buffer;
@@ -99,27 +99,25 @@ pub fn put_wrote(out: &mut Vec<u8>, log: &Log<'_>, write: OpAt) -> Result<(), Al
 pub fn put_reads(
     out: &mut Vec<u8>,
     log: &Log<'_>,
-    words: &[u8],
     read: OpAt,
     write: OpAt,
 ) -> Result<(), AllocError>
     ensures put { OnOk result (out.new.items ≡ out.old.items ++ reads_text
-        (rows_of log.now.places.now) (map view log.now.sessions.now) words.now read write) }
+        (rows_of log.now.places.now) (map view log.now.sessions.now) read write) }
 {
-    put_does(out, log, words, read)?;
+    put_does(out, log, b" reads ", read)?;
     put_wrote(out, log, write)
 }
 
-/// Appends that a transaction wrote a key too.
-#[tactic(auto, unfolding(crate::specs::Sentences::too_text))]
-pub fn put_too(out: &mut Vec<u8>, log: &Log<'_>, write: OpAt) -> Result<(), AllocError>
+/// Appends that a transaction wrote a key.
+#[tactic(auto, unfolding(crate::specs::Sentences::writes_text))]
+pub fn put_writes(out: &mut Vec<u8>, log: &Log<'_>, write: OpAt) -> Result<(), AllocError>
     ensures put { OnOk result (out.new.items ≡ out.old.items
-        ++ too_text (rows_of log.now.places.now) (map view log.now.sessions.now) write) }
+        ++ writes_text (rows_of log.now.places.now) (map view log.now.sessions.now) write) }
 {
     put_name(out, log, write.txn)?;
     put(out, b" wrote ")?;
     put(out, key_at(log.sessions, write))?;
-    put(out, b" too")?;
     put_in_line(out, line_of(log.places, write))
 }
 

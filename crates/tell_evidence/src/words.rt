@@ -34,7 +34,7 @@ pub enum Word<'a> {
     Does(&'a [u8], OpAt),
     /// That a transaction wrote what was told, as `, which 1.2 wrote (line 12)`.
     Wrote(OpAt),
-    /// The line of a path, from a write to the transaction that overlooks it.
+    /// The lines of a path, from a write to the transaction that overlooks it.
     Path(&'a Overlooked),
 }
 
@@ -62,7 +62,7 @@ fn put_word(out: &mut Vec<u8>, log: &Log<'_>, word: &Word<'_>) -> Result<(), All
         Word::Version(at) => put_version(out, log, *at),
         Word::Does(does, at) => put_does(out, log, does, *at),
         Word::Wrote(at) => put_wrote(out, log, *at),
-        Word::Path(it) => put_path(out, log, it.read, it.write, &it.path),
+        Word::Path(it) => put_path(out, log, it.write, &it.path),
     }
 }
 

@@ -59,9 +59,14 @@ name_with orders None = None
 name_with orders (Some s) =
     Some (cycle_name (record (with_orders s orders) { first = false; beside = false }))
 
--- of the edges of a circle of points no two neighbours miss a write
+-- of one edge alone: a transaction reads what it writes later; of the edges of a longer circle of
+-- points no two neighbours miss a write
+abbrev pub circle_name : Shape → List Edge → Option (List ℕ)
+circle_name orders (edge ∷ []) = Some (codes "future read (internal)")
+circle_name orders edges = name_with orders (Some (shape_of_way edges))
+
 abbrev pub ending_name : List ClientSession → Shape → Ending → Option (List ℕ)
-ending_name ss orders (Circle edges) = name_with orders (Some (shape_of_way edges.items))
+ending_name ss orders (Circle edges) = circle_name orders edges.items
 ending_name ss orders (Neither both not_one not_other) = if are_lost ss not_one not_other
     then Some (codes "lost update (G-single)")
     else name_with orders (either (supposed not_one) (supposed not_other))

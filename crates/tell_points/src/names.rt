@@ -101,12 +101,23 @@ fn name_with(orders: Shape, circle: Option<Shape>) -> Option<&'static str>
     }
 }
 
+/// The name of a circle of these edges. One edge alone leads back to its own transaction, which reads
+/// what it writes later.
+fn circle_name(orders: Shape, edges: &[Edge]) -> Option<&'static str>
+    ensures { option_copied result ≡ spec.circle_name orders edges.now }
+{
+    match edges {
+        [_] => Some("future read (internal)"),
+        _ => name_with(orders, Some(shape_of_way(edges))),
+    }
+}
+
 /// The name of what steps of these orders lead to.
 fn ending_name(sessions: &[Session], orders: Shape, ending: &Ending) -> Option<&'static str>
     ensures { option_copied result ≡ spec.ending_name (map view sessions.now) orders ending.now }
 {
     match ending {
-        Ending::Circle(edges) => name_with(orders, Some(shape_of_way(edges))),
+        Ending::Circle(edges) => circle_name(orders, edges),
         Ending::Neither {
             not_one,
             not_other,

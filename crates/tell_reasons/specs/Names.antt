@@ -1,6 +1,6 @@
 -- What cycles are called, by what their edges are: in plain words, and behind these in brackets the
 -- name that the literature has (Adya 1999; Elle).
-use Rattle.std.specs.Prelude.{ℕ, ◌+◌, ◌-◌, ◌^◌, ◌==◌, ◌&&◌, ◌||◌, not, Bool, min, List}
+use Rattle.std.specs.Prelude.{ℕ, ◌+◌, ◌-◌, ◌^◌, ◌==◌, ◌&&◌, ◌||◌, not, nat_lt, Bool, min, List}
 use Rattle.std.specs.Prelude.{if◌then◌else◌, codes}
 use Rattle.tell_reasons.specs.declared.names.Shape.{Shape}
 
@@ -48,22 +48,25 @@ name_unmissed s =
 -- where one edge misses a write
 abbrev pub name_once_missed : Shape → List ℕ
 name_once_missed s =
-    if s.has_written then by_order s (codes "cycle with one missed write (G-single)")
+    if s.has_written || nat_lt 2 s.edges then by_order s (codes "cycle with one missed write (G-single)")
     (codes "cycle with one missed write and sessions (G-single-process)")
     (codes "cycle with one missed write and real time (G-single-realtime)")
-    else if (s.edges == 2) && not s.has_read then by_order s (codes "stale read (G-single)")
-    (codes "a session misses its own write (G-single-process)")
-    (codes "stale read (G-single-realtime)")
-    else by_order s (codes "read skew (G-single)")
+    else if s.has_read then by_order s (codes "read skew (G-single)")
     (codes "read skew by way of sessions (G-single-process)")
     (codes "read skew by way of real time (G-single-realtime)")
+    else by_order s (codes "stale read (G-single)")
+    (codes "a session misses its own write (G-single-process)")
+    (codes "stale read (G-single-realtime)")
 
--- where several do
+-- where several do: all, or none next to another, or others
 abbrev pub name_often_missed : Shape → List ℕ
 name_often_missed s =
     if s.edges == 2 then by_order s (codes "write skew (G2-item)")
     (codes "write skew by way of sessions (G2-item-process)")
     (codes "write skew by way of real time (G2-item-realtime)")
+    else if s.missed == s.edges then by_order s (codes "write skew in a ring (G2-item)")
+    (codes "write skew in a ring by way of sessions (G2-item-process)")
+    (codes "write skew in a ring by way of real time (G2-item-realtime)")
     else if are_apart s then by_order s (codes "long fork (G-nonadjacent-item)")
     (codes "long fork by way of sessions (G-nonadjacent-item-process)")
     (codes "long fork by way of real time (G-nonadjacent-item-realtime)")

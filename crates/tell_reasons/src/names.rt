@@ -149,32 +149,32 @@ fn name_unmissed(line: Shape) -> &'static str
 fn name_once_missed(line: Shape) -> &'static str
     ensures { result.now ≡ spec.name_once_missed line }
 {
-    if line.has_written {
+    if line.has_written || line.edges > 2 {
         by_order(
             line,
             "cycle with one missed write (G-single)",
             "cycle with one missed write and sessions (G-single-process)",
             "cycle with one missed write and real time (G-single-realtime)",
         )
-    } else if line.edges == 2 && !line.has_read {
-        by_order(
-            line,
-            "stale read (G-single)",
-            "a session misses its own write (G-single-process)",
-            "stale read (G-single-realtime)",
-        )
-    } else {
+    } else if line.has_read {
         by_order(
             line,
             "read skew (G-single)",
             "read skew by way of sessions (G-single-process)",
             "read skew by way of real time (G-single-realtime)",
         )
+    } else {
+        by_order(
+            line,
+            "stale read (G-single)",
+            "a session misses its own write (G-single-process)",
+            "stale read (G-single-realtime)",
+        )
     }
 }
 
-/// The name of a cycle, several edges of which miss a write; where no two neighbours among them do,
-/// of which the first stands behind the last, it is a long fork.
+/// The name of a cycle, several edges of which miss a write: all; or none next to another, where the
+/// first stands behind the last; or others.
 fn name_often_missed(line: Shape) -> &'static str
     ensures { result.now ≡ spec.name_often_missed line }
 {
@@ -184,6 +184,13 @@ fn name_often_missed(line: Shape) -> &'static str
             "write skew (G2-item)",
             "write skew by way of sessions (G2-item-process)",
             "write skew by way of real time (G2-item-realtime)",
+        )
+    } else if line.missed == line.edges {
+        by_order(
+            line,
+            "write skew in a ring (G2-item)",
+            "write skew in a ring by way of sessions (G2-item-process)",
+            "write skew in a ring by way of real time (G2-item-realtime)",
         )
     } else if line.beside || (line.first && line.last) {
         by_order(

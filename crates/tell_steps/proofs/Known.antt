@@ -2,12 +2,12 @@
 use Rattle.std.proofs.Common.{◌≡◌, ℕ, List, cond, Option, None, Some, sym, ap, ◌∙◌, subst, inl, inr, eqb-true}
 use Rattle.std.specs.HashMap.{HashMap, get, Updates}
 use Rattle.std.proofs.lemmas.Bool.{cases_Bool, and_parts}
-use Rattle.std.specs.Prelude.{nat_eq, is_some, IfSome, IfNone}
+use Rattle.std.specs.Prelude.{nat_eq, IfSome, IfNone}
 use Rattle.session_log.specs.Text.{ClientSession}
 use Rattle.reasons.specs.Given.{IsReason, IsOfFirstKind, IsLeast, HaveNone}
 use Rattle.reasons.specs.declared.reason.Reason.{Reason}
 use Rattle.reasons.specs.declared.reason.Reason.TheVariants as reason
-use Rattle.tell_steps.specs.Lines.{IsBetween, IsAnswer, IsShownAs}
+use Rattle.tell_steps.specs.Lines.{IsAnswer}
 use Rattle.tell_steps.specs.Held.{same_edge}
 
 -- what is said of a reason that was asked for
@@ -22,11 +22,6 @@ reason_not_none ss a b (reason.Read i j) h none = none.read i j h
 reason_not_none ss a b (reason.Overwritten i j) h none = none.overwritten i j h
 reason_not_none ss a b (reason.Initial i j) h none = none.initial i j h
 reason_not_none ss a b reason.Moments h none = none.moments h
-
--- what is asked of it
-pub shown_as : (ss : List ClientSession) (a b : ℕ) (r : Option Reason) → IsBetween ss a → IsBetween ss b → IsAnswer ss a b r → IsShownAs ss a b (Some (is_some r))
-shown_as ss a b None first second none = record { first = first; second = second; none = none }
-shown_as ss a b (Some r) first second given = (first, second, reason_not_none ss a b r given.holds)
 
 -- ---- one more answer
 pub answers_more : {S : Type 0} (ss : List ClientSession) (m n : HashMap (ℕ × ℕ) (Option Reason) S) (a b : ℕ) (answer : Option Reason) → Updates same_edge m n (a, b) (Some answer) → IsAnswer ss a b answer

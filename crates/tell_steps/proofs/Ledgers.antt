@@ -33,9 +33,8 @@ use Rattle.tell_reasons.specs.declared.why.ChainOrder.{ChainOrder}
 use Rattle.tell_steps.specs.Steps.{turned, edges_in, IsOrder, Follows}
 use Rattle.tell_steps.specs.Orders.{choice_of, orders_in, kept_of, kept_order, step_view, shown_by}
 use Rattle.tell_steps.specs.Lines.{HasEnds, IsBetween, OneHas, Stands, LineStands, IsRound}
-use Rattle.tell_steps.specs.Ledgers.{AreEntries, kept_by, edge_against, IsStep, IsClosed}
-use Rattle.tell_steps.specs.Needed.{AreBuilt}
-use Rattle.tell_steps.specs.Needed as needed
+use Rattle.tell_steps.specs.Ledgers.{AreEntries, kept_by, edge_against, IsStep, IsClosed, AreBuilt}
+use Rattle.tell_steps.specs.Ledgers as needed
 use Rattle.tell_steps.proofs.Chosen.{choices_are, all_orders, turned_order}
 
 -- ---- lists by place

@@ -3,5 +3,5 @@ pub mod ChainSides
 pub mod Chosen
 pub mod Ledgers
 pub mod Known
-pub mod Needing
 pub mod Telling
+pub mod Dropping

@@ -1,17 +1,12 @@
--- What forced steps hold, and what the log was asked for.
+-- What the log was asked for.
 use Rattle.std.specs.Prelude.{◌≡◌, ◌&&◌, ℕ, Bool, nat_eq, List, Option, Some}
 use Rattle.std.specs.HashMap.{get}
-use Rattle.std.specs.List.{All}
 use Rattle.session_log.specs.Text.{ClientSession}
 use Rattle.serializability.specs.Reads.{IsClean}
 use Rattle.log_definitions.specs.Numbers.{log_of}
 use Rattle.reasons.specs.declared.reason.Reason.{Reason}
-use Rattle.tell_steps.specs.Steps.{IsOrder}
 use Rattle.tell_steps.specs.Lines.{IsAnswer}
-use Rattle.tell_steps.specs.Needed.{orders_of}
-use Rattle.tell_steps.specs.View.{StepsView}
 use Rattle.tell_steps.specs.declared.shown.Shown.TheInside as shown
-use Rattle.tell_steps.specs.declared.forced.Steps.TheInside as forced
 
 abbrev pub same_edge : ℕ × ℕ → ℕ × ℕ → Bool
 same_edge d e = nat_eq d.0 e.0 && nat_eq d.1 e.1
@@ -24,15 +19,3 @@ pub record AreShown (s : shown.Inside) : Type 0 where
   pub clean : IsClean (log_of s.chains.now)
   pub answers : (a b : ℕ) (answer : Option Reason) → get same_edge s.answers (a, b) ≡ Some answer
       → IsAnswer s.chains.now a b answer
-
--- the sessions, the entries of the ledger, and the orders that the steps establish
-abbrev pub steps_view : forced.Inside → StepsView
-steps_view s = record {
-  sessions = s.shown;
-  entries = s.entries.now;
-  orders = orders_of s.steps.items;
-}
-
--- the orders are of two chains
-pub record AreForced (s : forced.Inside) : Type 0 where
-  pub orders : All (IsOrder (log_of s.shown)) (orders_of s.steps.items)

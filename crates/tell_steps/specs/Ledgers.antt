@@ -1,5 +1,5 @@
 -- Ledgers of the polygraph of a log's chains that end in a cycle.
-use Rattle.std.specs.Prelude.{◌≡◌, ◌-◌, ℕ, List, [], length, map, slice_index, IsSome, IfSome}
+use Rattle.std.specs.Prelude.{◌≡◌, ◌-◌, ℕ, List, [], ◌∷◌, ◌++◌, length, map, slice_index, IsSome, IfSome}
 use Rattle.std.specs.List.{Contains}
 use Rattle.session_log.specs.Text.{ClientSession}
 use Rattle.reach_laws.specs.Reach.{IsCycle}
@@ -15,8 +15,7 @@ use Rattle.tell_proposals.specs.declared.proposal.Step.{Step}
 use Rattle.tell_reasons.specs.declared.why.ChainOrder.{ChainOrder}
 use Rattle.tell_steps.specs.Steps.{IsOrder, turned, Follows}
 use Rattle.tell_steps.specs.Orders.{orders_in, kept_order}
-use Rattle.tell_steps.specs.Lines.{HasEnds, IsRound, LineStands, HasSteps}
-use Rattle.tell_steps.specs.View.{StepsView}
+use Rattle.tell_steps.specs.Lines.{HasEnds, IsRound, LineStands}
 
 -- the entries are shown, of a polygraph with the choices between the chains, whose known edges are
 -- no others than theirs
@@ -49,12 +48,17 @@ pub record IsStep (ss : List ClientSession) (earlier : List ChainOrder) (s : Ste
   pub ends : HasEnds (edge_against s.walk.items).1 (edge_against s.walk.items).0 s.walk.items
   pub rests : LineStands ss earlier [] s.walk.items
 
+-- the orders that steps establish
+abbrev pub orders_of : List Step → List ChainOrder
+orders_of steps = map (λ s. s.order) steps
+
+-- each of the steps rests on what is before it, behind steps that establish these orders
+abbrev pub AreBuilt : List ClientSession → List ChainOrder → List Step → Type 0
+AreBuilt ss earlier [] = Unit {0}
+AreBuilt ss earlier (s ∷ rest) = IsStep ss earlier s × AreBuilt ss (earlier ++ s.order ∷ []) rest
+
 -- the line closes, and rests on what the entries keep
 pub record IsClosed (ss : List ClientSession) (kept : List ChainOrder)
     (line : List ℕ) : Type 0 where
   pub round : IsRound line
   pub rests : LineStands ss kept [] line
-
--- the steps have each edge of the line that the entries keep and the log does not show
-abbrev pub IsCovered : StepsView → List ℕ → Type 0
-IsCovered s line = HasSteps s.sessions (kept_by s.sessions s.entries) s.orders line

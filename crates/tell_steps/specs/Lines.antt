@@ -60,18 +60,6 @@ pub record IsUnshown (ss : List ClientSession) (e : Edge) : Type 0 where
   pub second : IsBetween ss e.1
   pub none : HaveNone ss e.0 e.1
 
--- it is such an edge of the line
-pub record IsUnshownIn (ss : List ClientSession) (line : List ℕ) (e : Edge) : Type 0 where
-  pub place : ℕ
-  pub within : place + 1 < length line
-  pub at : e ≡ (slice_index line place, slice_index line (place + 1))
-  pub unshown : IsUnshown ss e
-
--- the steps have each such edge of the line that the kept orders have
-pub record HasSteps (ss : List ClientSession) (kept steps : List ChainOrder)
-    (line : List ℕ) : Type 0 where
-  pub each : (e : Edge) → IsUnshownIn ss line e → OneHas ss kept e → OneHas ss steps e
-
 -- ---- what is known of edges
 -- whether the log shows a reason of the edge; or one of the two is no such node
 abbrev pub IsShownAs : List ClientSession → ℕ → ℕ → Option Bool → Type 0

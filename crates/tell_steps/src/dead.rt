@@ -5,16 +5,17 @@ ghost use Rattle.serializability.specs.Reads.{IsClean};
 ghost use Rattle.log_definitions.specs.Numbers.{log_of};
 ghost use Rattle.tell_steps.specs.Steps.{IsDeadTold};
 ghost use Rattle.tell_steps.specs.Ledgers as spec;
-ghost use Rattle.tell_steps.specs.Needed.{orders_of, AreBuilt};
+ghost use Rattle.tell_steps.specs.Ledgers.{orders_of, AreBuilt};
 
 use crate::checks::{are_steps, is_closed};
 use crate::item::Item;
-use crate::lines::put_cycle;
 use crate::orders::{choice_orders, steps_from};
+use crate::rounds::Round;
 use crate::shorter::{Walks, shorter_cycle};
 use crate::shown::Shown;
-use crate::steps::told_steps;
+use crate::whole::tell;
 use prune_ledger::{Ledger, LedgerEntry};
+use reasons::without_runs;
 use serializability::NodeIx;
 use session_history::History;
 use std::alloc::{AllocError, Global};
@@ -36,9 +37,9 @@ pub fn steps_in(
     steps_from(alloc, &orders, entries)
 }
 
-/// Those of these steps that this cycle needs, and the cycle.
-#[tactic(auto, using(crate::proofs::Telling::told_stands))]
-fn tell_steps(
+/// Those of these steps that this cycle needs, and the cycle, with each run of edges of one session
+/// as one edge.
+fn tell_cycle(
     shown: &mut Shown<'_>,
     steps: Vec<Step>,
     cycle: &[NodeIx],
@@ -49,10 +50,14 @@ fn tell_steps(
     ensures same { shown.new ≡ shown.old }
     ensures told { IfOk result (λ items. IsDeadTold shown.old items.items) }
 {
-    let told = told_steps(shown, steps, &[cycle], walks)?;
-    let mut items = told.items;
-    put_cycle(&mut items, shown, &told.steps, &[], cycle)?;
-    Ok(items)
+    let alloc = shown.alloc();
+    let line = without_runs(alloc, shown.chains().history(), cycle)?;
+    let round = Round {
+        before: Vec::new(alloc),
+        decided: Vec::new(alloc),
+        line: Some(line),
+    };
+    tell(shown, steps, &[round], walks)
 }
 
 /// The steps that this cycle over what the entries of a ledger keep needs, and the cycle, where the
@@ -69,7 +74,7 @@ fn tell_with(
 {
     let steps = steps_in(shown.alloc(), shown.chains(), entries)?;
     let round = shorter_cycle(shown, &steps, cycle)?;
-    tell_steps(shown, steps, &round, Walks::Shorter)
+    tell_cycle(shown, steps, &round, Walks::Shorter)
 }
 
 /// Proposed steps of few words and the cycle that they end in, where these are right.
@@ -88,7 +93,7 @@ fn tell_proposed(shown: &mut Shown<'_>) -> Result<Option<Vec<Item>>, AllocError>
     if !closed {
         return Ok(None);
     }
-    Ok(Some(tell_steps(shown, steps, &cycle, Walks::Same)?))
+    Ok(Some(tell_cycle(shown, steps, &cycle, Walks::Same)?))
 }
 
 /// A dead ledger, told as forced steps, and the cycle that they end in: only the steps that the

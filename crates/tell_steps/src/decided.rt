@@ -7,7 +7,7 @@ ghost use Rattle.log_definitions.specs.Numbers.{log_of};
 ghost use Rattle.tell_steps.specs.Orders.{IsChainOf};
 ghost use Rattle.tell_steps.specs.Steps.{IsOrder, edges_in, Follows, NoStepHas};
 ghost use Rattle.tell_steps.specs.Lines.{IsFound};
-ghost use Rattle.tell_steps.specs.Needed.{orders_of};
+ghost use Rattle.tell_steps.specs.Ledgers.{orders_of};
 
 use crate::shown::Shown;
 use serializability::NodeIx;

@@ -7,17 +7,18 @@
 mod checks;
 mod dead;
 mod decided;
-mod forced;
 mod item;
 mod lines;
 mod needed;
 mod orders;
+mod rounds;
 mod shorter;
 mod shown;
 mod steps;
-mod wants;
+mod whole;
 
 pub use dead::tell_dead;
-pub use forced::{Steps, steps_of};
 pub use item::Item;
 pub use orders::choice_orders;
+pub use rounds::Round;
+pub use whole::tell_rounds;

@@ -5,13 +5,12 @@ ghost use Rattle.std.specs.List.{All};
 ghost use Rattle.log_definitions.specs.Numbers.{log_of};
 ghost use Rattle.tell_steps.specs.Steps.{IsOrder, IsWhy, IsLineTold};
 ghost use Rattle.tell_steps.specs.Lines.{Stands, LineStands, IsRound};
-ghost use Rattle.tell_steps.specs.Needed.{orders_of};
+ghost use Rattle.tell_steps.specs.Ledgers.{orders_of};
 ghost use Rattle.tell_steps.specs.Told.{IsPut, WhyPut, IsRoundTold};
 
 use crate::decided::{decided_with, first_with};
 use crate::item::Item;
 use crate::shown::Shown;
-use reasons::without_runs;
 use serializability::NodeIx;
 use std::alloc::AllocError;
 use tell_proposals::Step;
@@ -88,7 +87,7 @@ pub fn put_edges(
     Ok(())
 }
 
-/// Appends a cycle, and its edges, with each run of edges of one session as one edge.
+/// Appends a cycle, and its edges, each with why it stands among these steps.
 pub fn put_cycle(
     items: &mut Vec<Item>,
     shown: &mut Shown<'_>,
@@ -104,9 +103,8 @@ pub fn put_cycle(
     ensures put { OnOk result (IsPut items.old.items items.new.items
         (IsRoundTold shown.old (orders_of steps.now) decided.now line.now)) }
 {
-    let line = without_runs(shown.alloc(), shown.chains().history(), line)?;
     let start = line[0];
     let edges = line.len() - 1;
     items.extend_from_slice(&[Item::Cycle { start, edges }])?;
-    put_edges(items, shown, steps, decided, &line)
+    put_edges(items, shown, steps, decided, line)
 }

@@ -2,8 +2,7 @@
 //! they are found: each is taken only where it is shown to be right.
 
 ghost use Rattle.std.specs.Prelude.{◌≡◌, IfOk};
-ghost use Rattle.tell_steps.specs.Ledgers.{IsStep, IsClosed};
-ghost use Rattle.tell_steps.specs.Needed.{orders_of};
+ghost use Rattle.tell_steps.specs.Ledgers.{orders_of, IsClosed};
 
 use crate::checks::{is_closed, is_step};
 use crate::decided::readers_behind;
@@ -86,28 +85,27 @@ fn walk_to_one(
 pub fn shorter_step(
     shown: &mut Shown<'_>,
     earlier: &[Step],
-    step: Step,
+    step: &Step,
     walks: Walks,
 ) -> Result<Step, AllocError>
-    requires step { IsStep shown.old (orders_of earlier.now) step }
     ensures same { shown.new ≡ shown.old }
-    ensures order { IfOk result (λ made. made.order ≡ step.order) }
-    ensures step { IfOk result (IsStep shown.old (orders_of earlier.now)) }
 {
-    if let Walks::Same = walks {
-        return Ok(step);
+    if let Walks::Shorter = walks {
+        let line = shorter_line(shown, &step.walk)?;
+        let nearer = walk_to_one(shown, &line, readers_behind(shown, turned(step.order)))?;
+        let made = Step {
+            order: step.order,
+            walk: nearer.unwrap_or(line),
+        };
+        let right = is_step(shown, earlier, &made)?;
+        if right {
+            return Ok(made);
+        }
     }
-    let line = shorter_line(shown, &step.walk)?;
-    let nearer = walk_to_one(shown, &line, readers_behind(shown, turned(step.order)))?;
-    let made = Step {
+    Ok(Step {
         order: step.order,
-        walk: nearer.unwrap_or(line),
-    };
-    let right = is_step(shown, earlier, &made)?;
-    if right {
-        return Ok(made);
-    }
-    Ok(step)
+        walk: Vec::from_slice(shown.alloc(), &step.walk)?,
+    })
 }
 
 /// A cycle of some nodes of this one, if that is right, and else this one.

@@ -1,28 +1,18 @@
 //! Steps, told one behind the other.
 
-ghost use Rattle.std.specs.Prelude.{◌≡◌, [], map, IfOk, OnOk};
+ghost use Rattle.std.specs.Prelude.{◌≡◌, [], OnOk};
 ghost use Rattle.std.specs.List.{All};
 ghost use Rattle.log_definitions.specs.Numbers.{log_of};
 ghost use Rattle.tell_steps.specs.Steps.{IsOrder};
 ghost use Rattle.tell_steps.specs.Lines.{LineStands};
-ghost use Rattle.tell_steps.specs.Needed.{orders_of, AreBuilt};
+ghost use Rattle.tell_steps.specs.Ledgers.{orders_of, AreBuilt};
 ghost use Rattle.tell_steps.specs.Told as spec;
 
 use crate::item::Item;
 use crate::lines::put_edges;
-use crate::needed::needed_steps;
-use crate::shorter::Walks;
 use crate::shown::Shown;
-use serializability::NodeIx;
 use std::alloc::AllocError;
 use tell_proposals::Step;
-
-/// Steps that are told, and the items.
-#[derive(Drop)]
-pub struct Told {
-    pub steps: Vec<Step>,
-    pub items: Vec<Item>,
-}
 
 /// Appends a step behind these, and the edges of its walk.
 fn put_step(
@@ -46,27 +36,19 @@ fn put_step(
     put_edges(items, shown, earlier, &[], &step.walk)
 }
 
-/// Those of the steps that these lines need, each of which rests on what the log shows and on
-/// earlier ones.
-pub fn told_steps(
+/// Appends steps, each of which rests on what the log shows and on earlier ones.
+pub fn put_steps(
+    items: &mut Vec<Item>,
     shown: &mut Shown<'_>,
-    steps: Vec<Step>,
-    lines: &[&[NodeIx]],
-    walks: Walks,
-) -> Result<Told, AllocError>
-    requires built { AreBuilt shown.old [] steps.items }
+    steps: &[Step],
+) -> Result<(), AllocError>
+    requires built { AreBuilt shown.old [] steps.now }
     ensures same { shown.new ≡ shown.old }
-    ensures told { IfOk result (λ told. spec.AreToldFor shown.old (orders_of steps.items)
-        (map (λ l. l.now) lines.now) (orders_of told.steps.items) [] told.items.items) }
+    ensures put { OnOk result (spec.IsPut items.old.items items.new.items
+        (spec.AreWalksTold shown.old [] steps.now)) }
 {
-    let needed = needed_steps(shown, steps, lines, walks)?;
-    let mut items = Vec::new(shown.alloc());
-    let told = needed.as_slice();
-    for (place, step) in told.iter().enumerate() {
-        put_step(&mut items, shown, &told[..place], step)?;
+    for (place, step) in steps.iter().enumerate() {
+        put_step(items, shown, &steps[..place], step)?;
     }
-    Ok(Told {
-        steps: needed,
-        items,
-    })
+    Ok(())
 }

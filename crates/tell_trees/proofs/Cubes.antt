@@ -1,11 +1,14 @@
 -- The orders that a ledger leaves open and that the cubes of a tree's nodes decide, and what the edges of a leaf's cycle rest on.
-use Rattle.std.proofs.Common.{◌≡◌, ℕ, ◌+◌, Bool, true, false, cond, eqb, ◌&&◌, ◌||◌, List, [], ◌∷◌, map, refl, sym, ap, ◌∙◌, subst, ◌⊎◌, zero, suc, ◌<◌, length, Option, Some, None, inl, inr, arith, Bor}
+use Rattle.std.proofs.Common.{◌≡◌, ℕ, ◌+◌, Bool, true, false, cond, eqb, ◌&&◌, ◌||◌, List, [], ◌∷◌, map, refl, sym, ap, ◌∙◌, subst, ◌⊎◌, zero, suc, ◌<◌, length, Option, Some, None, inl, inr, arith}
 use Rattle.std.proofs.Math.Bool.{or_assoc, or_comm, or-false}
-use Rattle.std.specs.List.{All, list_any, Contains}
-use Rattle.std.proofs.lemmas.List.Elements.{All-nil, All-cons, All-head, All-tail}
+use Rattle.std.specs.List.{All, AllByRecursion, list_any, Contains}
+use Rattle.std.proofs.lemmas.List.{map-append}
+use Rattle.std.proofs.lemmas.List.Elements.{All-nil, All-cons, All-head, All-tail, All-from_recursion}
 use Rattle.list_lemmas.proofs.Bools.{either_way}
 use Rattle.session_log.specs.Text.{ClientSession}
 use Rattle.serializability.specs.Log.{Log}
+use Rattle.serializability.specs.Reads.{IsClean}
+use Rattle.serializability.proofs.Places.{each_from_append, each_of_map}
 use Rattle.serializability.specs.Polygraph.{Choice, Edge, Polygraph}
 use Rattle.pruning_laws.specs.declared.side.Side.TheVariants.{One, Two}
 use Rattle.pruning_laws.specs.Forced.{open_from, edges_of}
@@ -21,8 +24,8 @@ use Rattle.cube_machine.proofs.Flags.{some_side}
 use Rattle.tell_reasons.specs.declared.why.ChainOrder.{ChainOrder}
 use Rattle.tell_steps.specs.Orders.{choice_of}
 use Rattle.tell_steps.specs.Steps.{IsOrder, edges_in}
-use Rattle.tell_trees.specs.Orders.{AreOrdersOf, names_choice, unsettled_from, no_order, sided, order_at, IsSearched}
-use Rattle.std.specs.Prelude.{slice_get, slice_index, slice_index_or, IfSome}
+use Rattle.tell_trees.specs.Orders.{AreOrdersOf, names_choice, unsettled_from, no_order, sided, order_at}
+use Rattle.std.specs.Prelude.{slice_get, slice_index, slice_index_or}
 use Rattle.std.proofs.lemmas.Option.{same_Some, get_or_from_slice_get, slice_get_within}
 use Rattle.list_lemmas.proofs.Elements.{same_item, behind}
 use Rattle.pruning_laws.specs.declared.side.Side.{Side}
@@ -36,12 +39,16 @@ use Rattle.cube_laws.specs.declared.tree.TreeNode.{TreeNode}
 use Rattle.cube_laws.specs.Trees.{cube_below, cube_of, IsChild, IsRefutationTree}
 use Rattle.cube_laws.proofs.Lists.{some_map, map_length}
 use Rattle.cube_laws.proofs.Upward.{cube_under, cube_top, cube_past}
-use Rattle.tell_steps.specs.View.{StepsView}
+use Rattle.tell_steps.specs.declared.rounds.Round.{Round}
+use Rattle.tell_steps.specs.Rounds.{RoundView, round_view, RoundStands, AllStand}
 use Rattle.tell_steps.specs.Lines.{IsRound, LineStands}
-use Rattle.tell_steps.specs.Ledgers.{AreEntries, IsCovered, kept_by}
+use Rattle.tell_steps.specs.Ledgers.{AreEntries, kept_by}
 use Rattle.tell_steps.proofs.Chosen.{turned_order}
 use Rattle.tell_steps.proofs.Ledgers.{order_leads, Rests, AllRest, all_rest, round_stands}
-use Rattle.tell_trees.specs.Visits.{IsTreeOver, IsGrown, decided_at, IsUp, IsReady}
+use Rattle.tell_steps.proofs.Telling.{runs_stand, runs_round}
+use Rattle.tell_trees.specs.Trees.{leaves_round}
+use Rattle.tell_trees.specs.Visits.{IsTreeOver, IsGrown, IsVisited, visit_of, decided_at, IsUp, round_for}
+use Rattle.tell_trees.specs.Visits as visited
 use Rattle.tell_trees.specs.declared.visits.Visit.{Visit}
 
 -- ---- a side is kept where an entry speaks of its choice
@@ -170,9 +177,20 @@ ledger_shown ss reduced left =
     record { poly = left.poly; known = λ e. (made.known e).0; choices = made.choices; shown = left.left.ledger.shown }
 
 -- ---- a leaf's cycle
-module _ (s : StepsView) (orders : List ChainOrder) (nodes : List TreeNode) (h : IsSearched s.sessions s.entries orders nodes) where
+-- a refutation tree of what pruning left of the sessions with this ledger, whose choices are between
+-- these orders and their turned ones
+pub record IsSearched (ss : List ClientSession) (entries : List LedgerEntry)
+    (orders : List ChainOrder) (nodes : List TreeNode) : Type 0 where
+  pub clean : IsClean (log_of ss)
+  pub reduced : Remainder
+  pub left : IsOpenHistory ss reduced
+  pub entries_are : entries ≡ reduced.ledger.entries.items
+  pub sides : AreOrdersOf (log_of ss) reduced.poly.choices orders
+  pub shown : IsRefutationTree reduced.poly nodes
+
+module _ (ss : List ClientSession) (entries : List LedgerEntry) (orders : List ChainOrder) (nodes : List TreeNode) (h : IsSearched ss entries orders nodes) where
   abbrev log : Log
-  log = log_of s.sessions
+  log = log_of ss
 
   abbrev p : Polygraph
   p = h.reduced.poly
@@ -190,16 +208,16 @@ module _ (s : StepsView) (orders : List ChainOrder) (nodes : List TreeNode) (h :
       let g = choice_of_edge p.choices d.0 d.1 e i in
       sided_order log (slice_index_or orders d.0 no_order) d.1 (h.sides.each d.0 no_order (omega (arith, slice_get_within p.choices d.0 g.choice g.at, orders_count log p.choices orders h.sides)))
 
-  known_rests : (e : Edge) → Contains p.known e → Rests s.sessions (kept_by s.sessions s.entries) [] e
+  known_rests : (e : Edge) → Contains p.known e → Rests ss (kept_by ss entries) [] e
   unfolding ledger_shown
   known_rests e c =
-      let all = ledger_shown s.sessions h.reduced h.left in
-      all_rest s.sessions all.poly (record { clean = h.clean; known = all.known; choices = all.choices }) [] (posts_in s.entries) e (subst (λ es. Contains (edges_after all.poly (pruned.kept_by es)) e) (sym h.entries_are) ((h.left.left.known e).0 c))
+      let all = ledger_shown ss h.reduced h.left in
+      all_rest ss all.poly (record { clean = h.clean; known = all.known; choices = all.choices }) [] (posts_in entries) e (subst (λ es. Contains (edges_after all.poly (pruned.kept_by es)) e) (sym h.entries_are) ((h.left.left.known e).0 c))
 
-  cube_rests : (cube : Cube) → AllRest s.sessions (kept_by s.sessions s.entries) (map (order_at orders) cube) (edges_after p cube)
+  cube_rests : (cube : Cube) → AllRest ss (kept_by ss entries) (map (order_at orders) cube) (edges_after p cube)
   cube_rests cube e c = in_cube cube (In-from_Contains (edges_after p cube) e c)
     where
-      in_cube : (cube : Cube) → In e (edges_after p cube) → Rests s.sessions (kept_by s.sessions s.entries) (map (order_at orders) cube) e
+      in_cube : (cube : Cube) → In e (edges_after p cube) → Rests ss (kept_by ss entries) (map (order_at orders) cube) e
       in_cube [] i = known_rests e (Contains-from_In p.known e (no_kept p e i))
       in_cube (d ∷ cube) i = elim (kept_cases p cube d e i) [
         | inl a ↦
@@ -214,7 +232,7 @@ module _ (s : StepsView) (orders : List ChainOrder) (nodes : List TreeNode) (h :
         | inr b ↦
             let has = side_has d e b in
             record {
-              second = order_leads s.sessions (order_at orders d) (sided_at d e b) e has;
+              second = order_leads ss (order_at orders d) (sided_at d e b) e has;
               has = λ lo none. inr (record { order = order_at orders d; among = (0, omega arith, refl); has = has });
             }
       ]
@@ -226,11 +244,28 @@ module _ (s : StepsView) (orders : List ChainOrder) (nodes : List TreeNode) (h :
         (λ d ds lt rest. All-cons (IsOrder log) (order_at orders d) (map (order_at orders) ds) (sided_order log (slice_index_or orders d.0 no_order) d.1 (h.sides.each d.0 no_order (omega (arith, lt, orders_count log p.choices orders h.sides)))) rest)
         (suc i) i (slice_get nodes i) (omega arith) refl
 
-    pub leaf_line : (line : List ℕ) → IsGrown nodes i (Leaf line) → IsRound line × LineStands s.sessions (kept_by s.sessions s.entries) (decided_at orders nodes i) line
+    pub leaf_line : (line : List ℕ) → IsGrown nodes i (Leaf line) → IsRound line × LineStands ss (kept_by ss entries) (decided_at orders nodes i) line
     leaf_line line g =
         let start = slice_index line 0 in
         let edges = edges_after p (cube_of nodes i) in
-        round_stands s.sessions (kept_by s.sessions s.entries) (decided_at orders nodes i) edges (cube_rests (cube_of nodes i)) line (start, walk_of edges line start start (h.shown.leaves i g.node line g.here g.is))
+        round_stands ss (kept_by ss entries) (decided_at orders nodes i) edges (cube_rests (cube_of nodes i)) line (start, walk_of edges line start start (h.shown.leaves i g.node line g.here g.is))
 
-  pub visit_line : (v : Visit) (line : Bor (List ℕ)) → v.line ≡ Some line → IsReady s nodes v → IsRound line.now × LineStands s.sessions (kept_by s.sessions s.entries) (decided_at orders nodes v.node) line.now
-  visit_line v line e r = leaf_line v.node line.now (subst (λ (o : Option (Bor (List ℕ))). IfSome o (λ l. IsGrown nodes v.node (Leaf l.now) × IsCovered s l.now)) e r).0
+    none_stands : RoundStands ss (kept_by ss entries) (round_for ss orders nodes (visit_of i None))
+    none_stands = record { decided = are_orders; round = tt; rests = tt }
+
+  abbrev AllRounds : List RoundView → Type 0
+  AllRounds = AllByRecursion (RoundStands ss (kept_by ss entries))
+
+  visits_stand : {i n k : ℕ} {vs : List Visit} → IsVisited nodes i n k vs → AllRounds (map (round_for ss orders nodes) vs)
+  visits_stand (visited.leaf i n line lt g) =
+      let l = leaf_line i line.now g in
+      (record { decided = are_orders i; round = runs_round ss line.now l.0; rests = runs_stand ss (kept_by ss entries) (decided_at orders nodes i) line.now l.1 }, tt)
+  visits_stand (visited.split i n m k c first second one two g a b) =
+      let f = round_for ss orders nodes in
+      (none_stands i, subst AllRounds (sym (map-append f one two)) (each_from_append (RoundStands ss (kept_by ss entries)) (map f one) (map f two) (visits_stand a) (visits_stand b)))
+  visits_stand (visited.left_out i) = (none_stands i, tt)
+
+  pub rounds_stand : {last : ℕ} {visits : List Visit} → IsVisited nodes 0 0 last visits → (count : ℕ) (rounds : List Round) → map round_view rounds ≡ leaves_round count ∷ map (round_for ss orders nodes) visits → AllStand ss (kept_by ss entries) rounds
+  rounds_stand v count rounds is =
+      All-from_recursion (λ (r : Round). RoundStands ss (kept_by ss entries) (round_view r)) rounds
+      (each_of_map (RoundStands ss (kept_by ss entries)) round_view rounds (subst AllRounds (sym is) (record { decided = All-nil (IsOrder log); round = tt; rests = tt }, visits_stand v)))

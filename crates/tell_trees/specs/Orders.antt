@@ -2,19 +2,12 @@
 use Rattle.std.specs.Prelude.{◌≡◌, ℕ, ◌+◌, ◌<◌, ◌==◌, if◌then◌else◌, List, [], ◌∷◌, Bool, false}
 use Rattle.std.specs.Prelude.{length, map, slice_index_or}
 use Rattle.std.specs.List.{All, list_any}
-use Rattle.session_log.specs.Text.{ClientSession}
 use Rattle.serializability.specs.Log.{Log}
-use Rattle.serializability.specs.Reads.{IsClean}
 use Rattle.serializability.specs.Polygraph.{Choice}
 use Rattle.pruning_laws.specs.declared.side.Side.{Side}
 use Rattle.pruning_laws.specs.declared.side.Side.TheVariants.{One, Two}
 use Rattle.pruning_laws.specs.Ledger.{Entry}
-use Rattle.log_definitions.specs.Numbers.{log_of}
-use Rattle.prune_ledger.specs.Pruned.{Remainder}
 use Rattle.prune_ledger.specs.declared.ledger.LedgerEntry.{LedgerEntry}
-use Rattle.reduction.specs.Outcome.{IsOpenHistory}
-use Rattle.cube_laws.specs.declared.tree.TreeNode.{TreeNode}
-use Rattle.cube_laws.specs.Trees.{IsRefutationTree}
 use Rattle.tell_reasons.specs.declared.why.ChainOrder.{ChainOrder}
 use Rattle.tell_steps.specs.Orders.{choice_of}
 use Rattle.tell_steps.specs.Steps.{turned, IsOrder}
@@ -51,14 +44,3 @@ no_order = record { key = 0; first = 0; second = 0 }
 -- the order that a decision of a choice makes
 abbrev pub order_at : List ChainOrder → Entry → ChainOrder
 order_at orders d = sided d.1 (slice_index_or orders d.0 no_order)
-
--- a refutation tree of what pruning left of the sessions with this ledger, whose choices are between
--- these orders and their turned ones
-pub record IsSearched (ss : List ClientSession) (entries : List LedgerEntry)
-    (orders : List ChainOrder) (nodes : List TreeNode) : Type 0 where
-  pub clean : IsClean (log_of ss)
-  pub reduced : Remainder
-  pub left : IsOpenHistory ss reduced
-  pub entries_are : entries ≡ reduced.ledger.entries.items
-  pub sides : AreOrdersOf (log_of ss) reduced.poly.choices orders
-  pub shown : IsRefutationTree reduced.poly nodes

@@ -1,5 +1,5 @@
 -- How a refutation tree is told, depth first.
-use Rattle.std.specs.Prelude.{◌≡◌, ℕ, ◌+◌, ◌<◌, nat_lt, min, if◌then◌else◌, List, [], ◌∷◌, ◌++◌, length}
+use Rattle.std.specs.Prelude.{◌≡◌, ℕ, ◌+◌, ◌<◌, nat_lt, min, if◌then◌else◌, List, [], ◌∷◌, ◌++◌, length, None}
 use Rattle.session_log.specs.Text.{ClientSession}
 use Rattle.serializability.specs.Polygraph.{Choice}
 use Rattle.pruning_laws.specs.declared.side.Side.TheVariants.{One}
@@ -8,6 +8,7 @@ use Rattle.cube_laws.specs.declared.tree.Growth.TheVariants.{Leaf, Inner}
 use Rattle.cube_laws.specs.declared.tree.TreeNode.{TreeNode}
 use Rattle.tell_reasons.specs.declared.why.ChainOrder.{ChainOrder}
 use Rattle.tell_steps.specs.Steps.{turned, IsOrder, AreStepsTold, IsCycleTold, IsNamed}
+use Rattle.tell_steps.specs.Rounds.{RoundView}
 use Rattle.tell_steps.specs.declared.item.Item.{Item}
 use Rattle.tell_steps.specs.declared.item.Item.TheVariants as item
 use Rattle.tell_trees.specs.Orders.{AreOrdersOf, order_at}
@@ -37,6 +38,9 @@ pub data IsCubeTold (ss : List ClientSession) (steps orders : List ChainOrder)
 -- how many leaves the tree has, where it has more than one
 abbrev pub leaves_items : ℕ → List Item
 leaves_items count = if nat_lt 1 count then item.Leaves count ∷ [] else []
+
+abbrev pub leaves_round : ℕ → RoundView
+leaves_round count = record { before = leaves_items count; decided = []; line = None }
 
 -- of so many leaves so many are told: all of them, up to the greatest number
 abbrev pub told_leaves : ℕ → ℕ

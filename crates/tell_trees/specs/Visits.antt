@@ -1,8 +1,10 @@
 -- The nodes of a tree on the way depth first, and what is told of them, one behind the other.
-use Rattle.std.specs.Prelude.{◌≡◌, ℕ, ◌+◌, ◌<◌, List, [], ◌∷◌, ◌++◌, Option, None, Some, IfSome}
-use Rattle.std.specs.Prelude.{is_some, count_by, length, slice_get, map}
+use Rattle.std.specs.Prelude.{◌≡◌, ℕ, ◌+◌, ◌<◌, List, [], ◌∷◌, ◌++◌, Option, None, Some, is_some, count_by, length, slice_get, map}
+use Rattle.std.specs.Option.{option_map}
 use Rattle.std.specs.Borrow.{Bor}
+use Rattle.session_log.specs.Text.{ClientSession}
 use Rattle.serializability.specs.Polygraph.{Polygraph}
+use Rattle.reasons.specs.Runs.{without_runs}
 use Rattle.cube_laws.specs.declared.tree.Growth.{Growth}
 use Rattle.cube_laws.specs.declared.tree.Growth.TheVariants.{Leaf, Inner}
 use Rattle.cube_laws.specs.declared.tree.TreeNode.{TreeNode}
@@ -10,9 +12,7 @@ use Rattle.cube_laws.specs.Trees.{IsRefutationTree, cube_of}
 use Rattle.tell_trees.specs.declared.visits.Visit.{Visit}
 use Rattle.tell_trees.specs.declared.TheConstants.{MAX_LEAVES}
 use Rattle.tell_reasons.specs.declared.why.ChainOrder.{ChainOrder}
-use Rattle.tell_steps.specs.View.{StepsView}
-use Rattle.tell_steps.specs.Ledgers.{IsCovered}
-use Rattle.tell_steps.specs.Told.{IsRoundTold}
+use Rattle.tell_steps.specs.Rounds.{RoundView}
 use Rattle.tell_steps.specs.declared.item.Item.{Item}
 use Rattle.tell_steps.specs.declared.item.Item.TheVariants as item
 use Rattle.tell_trees.specs.Orders.{order_at}
@@ -64,32 +64,16 @@ IsUp orders nodes i None = decided_at orders nodes i ≡ []
 IsUp orders nodes i (Some up) = (up.1 < i)
     × (decided_at orders nodes i ≡ up.0 ∷ decided_at orders nodes up.1)
 
--- the cycle that is told of a visited node is a leaf's, and the steps were made for it
-abbrev pub IsReady : StepsView → List TreeNode → Visit → Type 0
-IsReady s nodes v = IfSome v.line (λ line. IsGrown nodes v.node (Leaf line.now)
-    × IsCovered s line.now)
-
 -- the newest of the orders that a cube decides, with its number from 1
 abbrev pub decision_items : List ChainOrder → List Item
 decision_items [] = []
 decision_items (o ∷ above) = item.Decided (length above + 1) o ∷ []
 
--- the cycle, where there is one
-abbrev pub IsLeafTold : StepsView → List ChainOrder → Option (Bor (List ℕ)) → List Item → Type 0
-IsLeafTold s decided None items = items ≡ []
-IsLeafTold s decided (Some line) items = IsRoundTold s.sessions s.orders decided line.now items
-
--- what a visited node decides itself, and its cycle, where it is a leaf that is told
-pub record IsVisitTold (s : StepsView) (orders : List ChainOrder) (nodes : List TreeNode)
-    (v : Visit) (items : List Item) : Type 0 where
-  pub cycle : List Item
-  pub whole : items ≡ decision_items (decided_at orders nodes v.node) ++ cycle
-  pub leaf : IsLeafTold s (decided_at orders nodes v.node) v.line cycle
-
--- each of these, one behind the other
-abbrev pub AreVisitsTold : StepsView → List ChainOrder → List TreeNode → List Visit → List Item
-    → Type 0
-AreVisitsTold s orders nodes [] items = items ≡ []
-AreVisitsTold s orders nodes (v ∷ vs) items =
-    (own : List Item) × (rest : List Item) × IsVisitTold s orders nodes v own
-    × AreVisitsTold s orders nodes vs rest × (items ≡ own ++ rest)
+-- what is told of a visited node itself: what it decides, and its cycle, with each run of edges of
+-- one session as one edge, where it is a leaf that is told
+abbrev pub round_for : List ClientSession → List ChainOrder → List TreeNode → Visit → RoundView
+round_for ss orders nodes v = record {
+  before = decision_items (decided_at orders nodes v.node);
+  decided = decided_at orders nodes v.node;
+  line = option_map (λ l. without_runs ss l.now) v.line;
+}

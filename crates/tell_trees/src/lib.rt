@@ -4,8 +4,8 @@
 //! Called by `tell_decision`. It knows no format and no piece.
 #![tactic(auto)]
 
-mod items;
 mod orders;
+mod rounds;
 mod telling;
 mod visits;
 

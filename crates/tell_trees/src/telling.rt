@@ -7,14 +7,14 @@ ghost use Rattle.reduction.specs.Outcome.{IsOpenHistory};
 ghost use Rattle.cube_laws.specs.Trees.{IsRefutationTree};
 ghost use Rattle.tell_trees.specs.Trees.{IsTreeTold};
 
-use crate::items::{put_leaves, put_visits};
 use crate::orders::open_orders;
-use crate::visits::{count_leaves, told_lines, visits};
+use crate::rounds::rounds_of;
+use crate::visits::visits;
 use cube_laws::Tree;
 use prune_ledger::Reduced;
 use session_history::History;
 use std::alloc::{AllocError, Global};
-use tell_steps::{Item, steps_of};
+use tell_steps::{Item, tell_rounds};
 use write_chains::Chains;
 
 /// What is told of a refutation tree of what pruning left of a history, of which these are the
@@ -38,9 +38,6 @@ pub fn tell_tree(
     let orders = open_orders(alloc, chains, reduced)?;
     let nodes = tree.nodes();
     let visits = visits(alloc, nodes)?;
-    let lines = told_lines(alloc, &visits)?;
-    let (mut steps, mut items) = steps_of(alloc, history, chains, entries, &lines)?;
-    put_leaves(&mut items, count_leaves(nodes))?;
-    put_visits(alloc, &mut items, &mut steps, &orders, nodes, &visits)?;
-    Ok(items)
+    let rounds = rounds_of(alloc, history, &orders, nodes, &visits)?;
+    tell_rounds(alloc, history, chains, entries, &rounds)
 }

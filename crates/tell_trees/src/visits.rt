@@ -1,7 +1,6 @@
 //! The nodes of a tree, depth first.
 
 ghost use Rattle.std.specs.Prelude.{◌≡◌, ℕ, IfOk};
-ghost use Rattle.std.specs.List.{filter_map};
 ghost use Rattle.tell_trees.specs.Visits.{IsTreeOver, IsVisited, leaf_count};
 
 use crate::MAX_LEAVES;
@@ -55,11 +54,4 @@ pub fn count_leaves(nodes: &[TreeNode]) -> usize
         .iter()
         .filter(|node| matches!(&node.growth, Growth::Leaf(_)))
         .count()
-}
-
-/// The cycles of the leaves that are told.
-pub fn told_lines<'a>(alloc: Global, visits: &[Visit<'a>]) -> Result<Vec<&'a [NodeIx]>, AllocError>
-    ensures lines { IfOk result (λ lines. lines.items ≡ filter_map (λ v. v.line) visits.now) }
-{
-    visits.iter().filter_map(|visit| visit.line).collect(alloc)
 }

@@ -58,7 +58,7 @@ fn refused_words(rt: HostRuntime) {
         "cobra_poly explain --format dot --format dot log",
         "cobra_poly explain --plain log",
         "cobra_poly explain --level best log",
-        "cobra_poly explain --level snapshot --format dot log",
+        "cobra_poly explain --level snapshot --format json log",
         "cobra_poly check --workers 17 log",
         "cobra_poly encode --workers 0",
         "cobra_poly encode --workers 17",
@@ -147,22 +147,6 @@ fn texts_of_help(rt: HostRuntime) {
     }
 }
 
-#[test]
-fn texts_of_exclusion(rt: HostRuntime) {
-    for (line, part) in [
-        (
-            "cobra_poly explain --level snapshot --format dot log",
-            "error: the argument '--level <LEVEL>' cannot be used with '--format <FORM>'\n\nUsage: cobra_poly explain --level <LEVEL> <FILE>\n\nFor more information, try '--help'.\n",
-        ),
-        (
-            "cobra_poly explain --format text --workers 3 --level snapshot",
-            "error: the argument '--format <FORM>' cannot be used with '--level <LEVEL>'\n\nUsage: cobra_poly explain --format <FORM> --workers <N> [FILE]\n",
-        ),
-    ] {
-        see_text(&rt, rt.alloc(), line, part);
-    }
-}
-
 /// Whether a call reads the log from this file, or from standard input where it has no name.
 fn is_log(request: &Request<'_>, file: &str) -> bool {
     match request.log {
@@ -236,15 +220,16 @@ fn words_of_check(rt: HostRuntime) {
     }
 }
 
-/// The form that a call asks for, where it is one of `explain`.
+/// The form in which a call asks why a log has no order.
 fn form_asked(request: &Request<'_>) -> Option<Format> {
     match &request.command {
         Command::Explain { format } => Some(*format),
+        Command::Audit(words) => Some(words.explanation),
         _ => None,
     }
 }
 
-/// Words are a call of `explain` in this form.
+/// Words are a call that asks so in this form.
 fn see_form(rt: &impl Abort, alloc: Global, line: &str, form: Format) {
     let words = words(rt, alloc, line);
     assert!(rt;
@@ -259,6 +244,19 @@ fn words_of_explain(rt: HostRuntime) {
         ("cobra_poly explain log", Format::Text),
         ("cobra_poly explain --format text", Format::Text),
         ("cobra_poly explain --format dot --budget 3", Format::Dot),
+        ("cobra_poly explain --level snapshot log", Format::Text),
+        (
+            "cobra_poly explain --level snapshot --format dot log",
+            Format::Dot,
+        ),
+        (
+            "cobra_poly explain --format text --level causal",
+            Format::Text,
+        ),
+        (
+            "cobra_poly audit --level causal --format json",
+            Format::Text,
+        ),
     ] {
         see_form(&rt, rt.alloc(), line, form);
     }

@@ -15,20 +15,20 @@ use Rattle.audit_command.proofs.command.audit_sessions.Goals as goal
 pub know-requires-clause-legal : goal.know-requires-clause-legal
 know-requires-clause-legal g c κs within =
     let ss = map view c.args.sessions.items in
-    let log = sound_where_long c.args.log.now ss c.requires.long in
+    let log = sound_where_long c.args.log.items ss c.requires.long in
     subst (AllByRecursion IsLegal) (sym c.seen-sessions.ensures.seen) (seen_legal c.args.options.now.no_moments ss log.0)
 
 pub know-requires-clause-sound : goal.know-requires-clause-sound
 know-requires-clause-sound g c κs within =
     let ss = map view c.args.sessions.items in
-    let log = sound_where_long c.args.log.now ss c.requires.long in
+    let log = sound_where_long c.args.log.items ss c.requires.long in
     subst IsSoundLog (sym c.seen-sessions.ensures.seen) (seen_sound c.args.options.now.no_moments ss log.0 log.1)
 
 pub judge_weaker-requires-clause-log : goal.judge_weaker-requires-clause-log
 judge_weaker-requires-clause-log g c κs within =
     let ss = map view c.args.sessions.items in
     let no_moments = c.args.options.now.no_moments in
-    let log = sound_where_long c.args.log.now ss c.requires.long in
+    let log = sound_where_long c.args.log.items ss c.requires.long in
     let legal = subst (AllByRecursion IsLegal) (sym c.seen-sessions.ensures.seen) (seen_legal no_moments ss log.0) in
     let sound = subst IsSoundLog (sym c.seen-sessions.ensures.seen) (seen_sound no_moments ss log.0 log.1) in
     subst IsLog (sym c.in_ok-sessions.ensures.known.resolved) (resolved_is_log (map view c.seen-sessions.result.items) legal sound)
@@ -37,7 +37,7 @@ pub judge_lower-requires-clause-log : goal.judge_lower-requires-clause-log
 judge_lower-requires-clause-log g c κs within =
     let ss = map view c.args.sessions.items in
     let no_moments = c.args.options.now.no_moments in
-    let log = sound_where_long c.args.log.now ss c.requires.long in
+    let log = sound_where_long c.args.log.items ss c.requires.long in
     let legal = subst (AllByRecursion IsLegal) (sym c.seen-sessions.ensures.seen) (seen_legal no_moments ss log.0) in
     let sound = subst IsSoundLog (sym c.seen-sessions.ensures.seen) (seen_sound no_moments ss log.0 log.1) in
     let known = subst IsLog (sym c.in_ok-sessions.ensures.known.resolved) (resolved_is_log (map view c.seen-sessions.result.items) legal sound) in
@@ -46,7 +46,7 @@ judge_lower-requires-clause-log g c κs within =
 pub returns : goal.returns
 returns g c =
     let o = c.args.options.now in
-    let text = c.args.log.now in
+    let text = c.args.log.items in
     let ss = map view c.args.sessions.items in
     let judged = map view c.seen-sessions.result.items in
     let e : judged ≡ seen o.no_moments ss = c.seen-sessions.ensures.seen in

@@ -1,6 +1,8 @@
-use Rattle.std.proofs.Common.{map, ap, ◌∙◌, subst}
+use Rattle.std.proofs.Common.{◌≡◌, length, map, ap, ◌∙◌, subst, arith}
 use Rattle.session_log.specs.Text.{view}
-use Rattle.audit_command.specs.Counts.{AreCounts}
+use Rattle.serializability.proofs.Places.{length_mapped}
+use Rattle.log_definitions.specs.Unknown.{txns_in}
+use Rattle.session_history.specs.Counted.{IsTally}
 use Rattle.audit_command.specs.Resolved.{IsResolved}
 use Rattle.audit_command.proofs.Resolved.{log_of_known, verdict_part}
 use Rattle.audit_command.proofs.known.know.Goals as goal
@@ -30,7 +32,9 @@ answer_of-requires-clause-told g c κs within =
 pub returns : goal.returns
 returns g c =
     let ss = map view c.args.sessions.items in
-    let counts : AreCounts ss c.in_ok-counts.counts = subst (λ l. AreCounts (map view l) c.in_ok-counts.counts) c.deref.ensures.value c.in_ok-counts.ensures.counts in
+    let tally : IsTally (txns_in ss) c.of-tally.result = subst (λ l. IsTally (txns_in (map view l)) c.of-tally.result) c.deref.ensures.value c.of-tally.ensures in
+    let count : c.len-count.result ≡ length ss = omega (arith, c.len-count.ensures, c.args.sessions.ok.0, length_mapped view c.args.sessions.items) in
+    let counts = c.in_ok-counts.ensures.counts ss tally count c.in_ok-sessions.ensures.keys in
     let judged = ap (map view) c.deref-2.ensures.value ∙ c.in_ok-sessions.ensures.resolved in
     let known = ap (map view) c.deref-3.ensures.value ∙ c.in_ok-sessions.ensures.resolved in
     record {

@@ -76,5 +76,5 @@ returns-clause-ended g c =
     let old = g.W.Sink.bytes c.args.sink.now in
     let new = g.W.Sink.bytes c.refuse.new.sink in
     let told = subst (λ name. IsRefusalTold name c.in-Err.refusal old new c.refuse.result) c.log_name.ensures.name c.refuse.ensures.told in
-    refused_so c.args.request.now c.args.words.now c.args.start c.args.log.now old new (g.F.NewFiles.files c.args.files.now) c.options_of-options.result c.in-Err.refusal c.refuse.result
+    refused_so c.args.request.now c.args.words.now c.args.start c.args.log.now.items old new (g.F.NewFiles.files c.args.files.now) c.options_of-options.result c.in-Err.refusal c.refuse.result
     (record { options = c.options_of-options.ensures.options; apart = c.in_ok-refuse_same_files.ensures.apart }) c.in-Err.ensures.refused told

@@ -7,6 +7,7 @@ pub returns-in-Err : goal.returns-in-Err
 returns-in-Err g c = record {
   answered = unread c.in-Err.ending c.in-Err.ensures.unread c.tell_failure.ensures.said refl
       (record { told = c.tell_ending.ensures.told; code = c.tell_ending.ensures.status });
+  once = c.read_log.ensures.once;
 }
 
 pub returns-in-Ok-audit_log : goal.returns-in-Ok-audit_log
@@ -17,8 +18,9 @@ returns-in-Ok-audit_log g c =
     let later = g.F.NewFiles.files c.audit_log.new.files in
     record {
       answered = by_answer c.in-Ok.log.items c.in-Ok-audit_log.status c.in-Ok.ensures.log c.in-Ok.ensures.count
-          (subst (λ log. IsAuditDone c.args.request.now c.args.words.now c.args.start log old new files later c.in-Ok-audit_log.status) c.deref.ensures.value c.in-Ok-audit_log.ensures.done)
+          c.in-Ok-audit_log.ensures.done
           c.in-Ok-audit_log.ensures.through c.in-Ok-audit_log.ensures.count refl c.code.ensures.code;
+      once = c.read_log.ensures.once;
     }
 
 pub returns : goal.returns
@@ -29,6 +31,7 @@ returns g c =
     let later = g.F.NewFiles.files c.audit_log.new.files in
     record {
       answered = by_ending c.in-Ok.log.items c.in-Err-audit_log.ending c.in-Ok.ensures.log c.in-Ok.ensures.count
-          (subst (λ log. IsAuditEnding c.args.request.now c.args.words.now c.args.start log old new files later c.in-Err-audit_log.ending) c.deref.ensures.value c.in-Err-audit_log.ensures.ended)
+          c.in-Err-audit_log.ensures.ended
           c.in-Err-audit_log.ensures.count (record { told = c.tell_ending-in-Err-audit_log.ensures.told; code = c.tell_ending-in-Err-audit_log.ensures.status });
+      once = c.read_log.ensures.once;
     }

@@ -22,7 +22,7 @@ returns-in-Err g c =
             code = c.tell_ending.ensures.status ∙ ap status_of is;
           };
         };
-        files = refl;
+        nothing = record { reads = refl; files = refl };
       });
     }
 
@@ -41,7 +41,7 @@ returns-in-Ok-Some-Shown g c =
     let read = read_as (map string_bytes c.deref.result.now) at.field-0 at.field-0-0 (Shown at.text) at.field-0-is at.field-0-0-is at.ensures.read in
     record {
       call = with_words c.args.start c.args.words c.in-Ok.words _ c.show.result c.in-Ok.is
-          (read_so c.args.start c.in-Ok.words.items c.deref.result.now (Some (Shown at.text)) _ c.show.result c.deref.ensures.value read (c.show.ensures.shown, refl));
+          (read_so c.args.start c.in-Ok.words.items c.deref.result.now (Some (Shown at.text)) _ c.show.result c.deref.ensures.value read (c.show.ensures.shown, record { reads = c.show.ensures.unread; files = refl }));
     }
 
 pub returns-in-Ok-None : goal.returns-in-Ok-None
@@ -51,7 +51,7 @@ returns-in-Ok-None g c =
     record {
       call = with_words c.args.start c.args.words c.in-Ok.words _ 2 c.in-Ok.is
           (read_so c.args.start c.in-Ok.words.items c.deref.result.now none _ 2 c.deref.ensures.value read
-          (record { reads = refl; silent = record { bytes = refl; failures = refl }; lines = refl; files = refl }, refl));
+          (record { reads = refl; silent = record { bytes = refl; failures = refl }; lines = refl; nothing = record { reads = refl; files = refl } }, refl));
     }
 
 pub returns : goal.returns
@@ -65,6 +65,6 @@ returns g c = record {
         code = c.tell_ending-in-Err-words_of.ensures.status ∙ ap status_of c.memory.ensures;
       };
     };
-    files = refl;
+    nothing = record { reads = refl; files = refl };
   }));
 }

@@ -16,12 +16,14 @@ returns-in_default g c = record {
       code = c.tell_ending.ensures.status ∙ ap status_of c.memory.ensures;
     };
   });
+  unread = refl;
 }
 
 pub returns-in-Ok-hand_on : goal.returns-in-Ok-hand_on
 returns-in-Ok-hand_on g c = record {
   shown = answered c.as_bytes.result.now (ap is_asked_for (sym c.kind.ensures) ∙ sym c.if-is_asked_for.ensures.asked) refl c.in-Ok-hand_on.ensures.told
       c.in-Ok-hand_on.ensures.through c.in-Ok-hand_on.ensures.count refl refl;
+  unread = refl;
 }
 
 pub returns-then-is_asked_for : goal.returns-then-is_asked_for
@@ -32,10 +34,12 @@ returns-then-is_asked_for g c = record {
         told = told_for _ _ _ c.in-Err.ending (Stop stop.Output) c.in-Err.ensures.output c.tell_ending-in-Err.ensures.told;
         code = c.tell_ending-in-Err.ensures.status ∙ ap status_of c.in-Err.ensures.output;
       });
+  unread = refl;
 }
 
 pub returns : goal.returns
 returns g c = record {
   shown = refused (string_bytes c.in-Ok.shown) (ap is_asked_for (sym c.kind.ensures) ∙ sym c.if-is_asked_for.ensures.asked) refl
       (record { bytes = refl; failures = refl }) (text_told c.tell.result _ _ _ _ c.tell.ensures.told c.tell.ensures.failed c.tell.ensures.broken) refl;
+  unread = refl;
 }

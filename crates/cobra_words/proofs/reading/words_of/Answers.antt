@@ -1,8 +1,5 @@
-use Rattle.std.proofs.Common.{map, string_bytes, ◌∙◌, sym}
-use Rattle.std.specs.Prelude.{IfSome}
-use Rattle.std.proofs.lemmas.Result.{IfOk-weaker}
-use Rattle.cobra_words.specs.Asked.{IsExclusion, IsRead}
-use Rattle.cobra_words.proofs.Entering.{shown_by, asked_by, none_asked, read_apart}
+use Rattle.std.proofs.Common.{map, string_bytes, ◌∙◌}
+use Rattle.cobra_words.proofs.Entering.{shown_by, asked_by, none_asked}
 use Rattle.cobra_words.proofs.reading.words_of.Goals as goal
 
 pub returns-in-Err : goal.returns-in-Err
@@ -18,20 +15,6 @@ returns-in-Err c =
       };
     }
 
-pub returns-then-excludes : goal.returns-then-excludes
-returns-then-excludes c =
-    let p = c.in_ok-program.ensures.app in
-    let words = map string_bytes c.args.words.now in
-    record {
-      read = IfOk-weaker c.exclusion.result (λ said. IfSome said IsExclusion) (IsRead words)
-          (λ said h. record {
-            lists = p.lists;
-            are = p.are;
-            read_as = read_apart p.lists words _ c.in-Ok.matches said p.has.is c.in-Ok.ensures.kinds c.in-Ok.ensures.matches (sym c.excludes.ensures.excludes ∙ c.if-excludes.true) h;
-          })
-          c.exclusion.ensures.said;
-    }
-
 pub returns-in-Some : goal.returns-in-Some
 returns-in-Some c =
     let p = c.in_ok-program.ensures.app in
@@ -40,7 +23,7 @@ returns-in-Some c =
       read = record {
         lists = p.lists;
         are = p.are;
-        read_as = asked_by p.lists words _ c.in-Ok.matches c.in-Some.request p.has.is c.in-Ok.ensures.kinds c.in-Ok.ensures.matches (sym c.excludes.ensures.excludes ∙ c.if-excludes.false) c.in-Some.ensures.request;
+        read_as = asked_by p.lists words _ c.in-Ok.matches c.in-Some.request p.has.is c.in-Ok.ensures.kinds c.in-Ok.ensures.matches c.in-Some.ensures.request;
       };
     }
 

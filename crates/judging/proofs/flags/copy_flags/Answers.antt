@@ -1,11 +1,10 @@
 use Rattle.std.proofs.Common.{◌+◌, ◌++◌, ◌∷◌, [], List, Vec, Bool, sym, ap, ◌∙◌}
 use Rattle.std.specs.Prelude.{drop}
 use Rattle.std.specs.declared.alloc.Global.{Global}
-use Rattle.std.proofs.lemmas.List.{drop_all, map-append}
+use Rattle.std.proofs.lemmas.List.{drop_all, map-append, append_assoc}
 use Rattle.list_lemmas.proofs.Lists.{append_none}
 use Rattle.list_lemmas.proofs.Elements.{get_drop, item}
 use Rattle.log_parts.specs.Picked.{flags_view}
-use Rattle.order_checks.proofs.Lists.{append_once}
 use Rattle.judging.proofs.flags.copy_flags.Goals as goal
 
 pub loop-list-preserved : goal.loop-list-preserved
@@ -19,7 +18,7 @@ loop-list-preserved c =
     let at = item flags i list c.loop-list-test.true c.list-item.is in
     ap (λ (l : List (Vec Bool Global)). flags_view l ++ rest) c.in_ok-push.ensures.items
     ∙ ap (λ l. l ++ rest) (map-append (λ (f : Vec Bool Global). f.items) copy (own ∷ []))
-    ∙ sym (append_once (flags_view copy) own.items rest)
+    ∙ append_assoc (flags_view copy) (own.items ∷ []) rest
     ∙ ap (λ l. flags_view copy ++ l ∷ rest) (c.in_ok-copy_list.ensures ∙ c.deref.ensures.value)
     ∙ ap (λ (l : List (Vec Bool Global)). flags_view copy ++ flags_view l) (sym (get_drop flags i list at))
     ∙ c.loop-list.invariant

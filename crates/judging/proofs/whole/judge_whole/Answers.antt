@@ -1,12 +1,13 @@
-use Rattle.std.proofs.Common.{◌∷◌, List, map, sym, subst}
-use Rattle.session_log.specs.Text.{view}
+use Rattle.std.proofs.Common.{◌∷◌, List, length, map, sym, ap, ◌∙◌, subst}
+use Rattle.session_log.specs.Text.{ClientSession, view}
 use Rattle.session_log.specs.declared.session.Session.{Session}
 use Rattle.serializability.proofs.Places.{Apart-from_IsDistinct}
 use Rattle.serializability.proofs.Listed.{IsDistinct-from_Apart}
 use Rattle.log_definitions.specs.Unknown.{ops_in}
-use Rattle.log_definitions.specs.WellFormed.{written}
+use Rattle.log_definitions.specs.WellFormed.{written, keys_in}
 use Rattle.log_laws.specs.Logs.{IsLog}
 use Rattle.log_laws.proofs.Resolved.{resolved_is_log}
+use Rattle.judging.proofs.Levels.{keys_resolved}
 use Rattle.judging.proofs.whole.judge_whole.Goals as goal
 
 pub resolve-requires-clause-writes : goal.resolve-requires-clause-writes
@@ -20,7 +21,20 @@ log_at-requires g c =
     let P : List Session → Type 0 = λ l. IsLog (map view l) in
     record { log = subst P (sym c.deref.ensures.value) (subst IsLog (sym c.in_ok-sessions.ensures.resolved) (resolved_is_log (map view c.args.sessions.items) c.requires.legal c.requires.sound)) }
 
+pub count_keys-requires-clause-log : goal.count_keys-requires-clause-log
+count_keys-requires-clause-log g c =
+    let P : List Session → Type 0 = λ l. IsLog (map view l) in
+    subst P (sym c.deref-3.ensures.value) (subst IsLog (sym c.in_ok-sessions.ensures.resolved) (resolved_is_log (map view c.args.sessions.items) c.requires.legal c.requires.sound))
+
 pub judge-requires-clause-log : goal.judge-requires-clause-log
 judge-requires-clause-log g c κs within =
     let P : List Session → Type 0 = λ l. IsLog (map view l) in
-    subst P (sym c.deref-3.ensures.value) (subst IsLog (sym c.in_ok-sessions.ensures.resolved) (resolved_is_log (map view c.args.sessions.items) c.requires.legal c.requires.sound))
+    subst P (sym c.deref-5.ensures.value) (subst IsLog (sym c.in_ok-sessions.ensures.resolved) (resolved_is_log (map view c.args.sessions.items) c.requires.legal c.requires.sound))
+
+pub returns-clause-keys : goal.returns-clause-keys
+returns-clause-keys g c =
+    let ss = map view c.args.sessions.items in
+    let known = ap (map view) c.deref-3.ensures.value ∙ c.in_ok-sessions.ensures.resolved in
+    c.in_ok-keys.ensures
+    ∙ ap (λ (l : List ClientSession). length (keys_in l)) known
+    ∙ ap length (keys_resolved ss)

@@ -1,9 +1,8 @@
 use Rattle.std.proofs.Common.{◌∙◌, List, [], take, sym, subst}
 use Rattle.list_lemmas.proofs.Lists.{front_more}
 use Rattle.session_log.specs.Text.{ClientSession}
-use Rattle.tell_steps.specs.Ledgers.{IsStep}
-use Rattle.tell_steps.specs.Needed.{orders_of, AreBuilt}
-use Rattle.tell_steps.proofs.Needing.{built_push}
+use Rattle.tell_steps.specs.Ledgers.{IsStep, orders_of, AreBuilt}
+use Rattle.tell_steps.proofs.Dropping.{built_push}
 use Rattle.tell_steps.proofs.checks.are_steps.Goals as goal
 
 pub loop-place-preserved : goal.loop-place-preserved

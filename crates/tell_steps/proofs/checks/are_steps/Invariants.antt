@@ -1,5 +1,5 @@
 use Rattle.std.proofs.Common.{◌≡◌, [], take}
-use Rattle.tell_steps.specs.Needed.{AreBuilt}
+use Rattle.tell_steps.specs.Ledgers.{AreBuilt}
 use Rattle.tell_steps.proofs.checks.are_steps.Given as goal
 
 abbrev pub invariant-loop-place : goal.invariant-loop-place

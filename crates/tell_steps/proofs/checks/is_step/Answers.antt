@@ -7,8 +7,7 @@ use Rattle.tell_proposals.specs.declared.proposal.Step.{Step}
 use Rattle.tell_reasons.specs.declared.why.ChainOrder.{ChainOrder}
 use Rattle.tell_steps.specs.Steps.{IsOrder, Follows, turned}
 use Rattle.tell_steps.specs.Lines.{HasEnds, LineStands}
-use Rattle.tell_steps.specs.Ledgers.{edge_against, IsStep}
-use Rattle.tell_steps.specs.Needed.{orders_of}
+use Rattle.tell_steps.specs.Ledgers.{edge_against, IsStep, orders_of}
 use Rattle.tell_steps.proofs.Ledgers.{ends_there}
 use Rattle.tell_steps.proofs.checks.is_step.Goals as goal
 

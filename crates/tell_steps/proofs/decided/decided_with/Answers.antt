@@ -6,7 +6,7 @@ use Rattle.list_lemmas.proofs.Lists.{front_more}
 use Rattle.log_definitions.specs.Numbers.{log_of}
 use Rattle.tell_reasons.specs.declared.why.ChainOrder.{ChainOrder}
 use Rattle.tell_steps.specs.Steps.{IsOrder, NoStepHas}
-use Rattle.tell_steps.proofs.Needing.{none_more}
+use Rattle.tell_steps.proofs.ChainSides.{none_more}
 use Rattle.tell_steps.proofs.decided.decided_with.Goals as goal
 
 pub loop-order-preserved : goal.loop-order-preserved

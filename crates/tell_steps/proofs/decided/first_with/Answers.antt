@@ -8,7 +8,7 @@ use Rattle.log_definitions.specs.Numbers.{log_of}
 use Rattle.std.proofs.lemmas.List.Elements.{All-contains}
 use Rattle.std.proofs.lemmas.List.{length-map}
 use Rattle.tell_proposals.specs.declared.proposal.Step.{Step}
-use Rattle.tell_steps.specs.Needed.{orders_of}
+use Rattle.tell_steps.specs.Ledgers.{orders_of}
 use Rattle.tell_steps.specs.Steps.{edges_in, IsOrder}
 use Rattle.tell_steps.proofs.decided.first_with.Goals as goal
 

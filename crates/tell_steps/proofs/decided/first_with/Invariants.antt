@@ -3,7 +3,7 @@ use Rattle.std.specs.Prelude.{slice_get}
 use Rattle.std.specs.List.{All, Contains}
 use Rattle.log_definitions.specs.Numbers.{log_of}
 use Rattle.tell_reasons.specs.declared.why.ChainOrder.{ChainOrder}
-use Rattle.tell_steps.specs.Needed.{orders_of}
+use Rattle.tell_steps.specs.Ledgers.{orders_of}
 use Rattle.tell_steps.specs.Steps.{edges_in, IsOrder}
 use Rattle.tell_steps.proofs.decided.first_with.Given as goal
 

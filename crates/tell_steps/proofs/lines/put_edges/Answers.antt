@@ -1,6 +1,6 @@
 use Rattle.std.proofs.Common.{◌≡◌, ◌∙◌, ◌+◌, ◌<◌, length, get_or, arith}
 use Rattle.std.proofs.lemmas.List.{get_or_read}
-use Rattle.tell_steps.specs.Needed.{orders_of}
+use Rattle.tell_steps.specs.Ledgers.{orders_of}
 use Rattle.tell_steps.specs.Told.{WhyPut}
 use Rattle.tell_steps.proofs.Telling.{put_more, put_all}
 use Rattle.tell_steps.proofs.lines.put_edges.Goals as goal

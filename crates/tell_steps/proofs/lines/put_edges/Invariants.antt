@@ -1,5 +1,5 @@
 use Rattle.std.proofs.Common.{◌≡◌}
-use Rattle.tell_steps.specs.Needed.{orders_of}
+use Rattle.tell_steps.specs.Ledgers.{orders_of}
 use Rattle.tell_steps.specs.Told.{IsPut, EdgesTold}
 use Rattle.tell_steps.proofs.lines.put_edges.Given as goal
 

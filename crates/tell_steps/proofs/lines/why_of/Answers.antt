@@ -6,7 +6,7 @@ use Rattle.log_definitions.specs.Numbers.{log_of}
 use Rattle.reasons.specs.Given.{HaveNone}
 use Rattle.tell_proposals.specs.declared.proposal.Step.{Step}
 use Rattle.tell_reasons.specs.declared.why.Why.TheVariants.{Forced}
-use Rattle.tell_steps.specs.Needed.{orders_of}
+use Rattle.tell_steps.specs.Ledgers.{orders_of}
 use Rattle.tell_steps.specs.Steps.{IsFirstWith, IsWhy}
 use Rattle.tell_steps.proofs.lines.why_of.Goals as goal
 

@@ -1,0 +1,8 @@
+use Rattle.std.proofs.Common.{◌≡◌, ◌++◌, map}
+use Rattle.std.specs.Prelude.{drop}
+use Rattle.session_log.specs.Text.{view}
+use Rattle.node_names.specs.Names.{nodes_of, names_of}
+use Rattle.node_names.proofs.number.names_of.Given as goal
+
+abbrev pub invariant-loop-session : goal.invariant-loop-session
+invariant-loop-session l = l.names.items ++ names_of (nodes_of (map view (drop l.session-index l.sessions))) ≡ names_of (nodes_of (map view l.sessions))

@@ -1,0 +1,17 @@
+use Rattle.std.proofs.Common.{List, map, subst, nat_cmp}
+use Rattle.std.specs.BTreeSet.{contains}
+use Rattle.std.proofs.lemmas.Result.{IfOk-weaker}
+use Rattle.session_log.specs.Text.{view}
+use Rattle.log_definitions.specs.Serial.{Committed}
+use Rattle.log_definitions.proofs.Settled.{IsLearnt}
+use Rattle.log_laws.proofs.Txns.{split}
+use Rattle.numbered_log.specs.Numbering.{IsNumbering}
+use Rattle.numbered_log.proofs.Passing.{nodes_learnt}
+use Rattle.numbered_log.proofs.log.NumberedLog.of.Goals as goal
+
+pub returns : goal.returns
+returns c =
+    let ss = map view c.args.sessions.now in
+    record {
+      numbering = IfOk-weaker c.with_taken.result _ _ (λ log is learnt. subst (λ (l : List Committed). IsNumbering ss l log) (nodes_learnt (contains nat_cmp c.new.result) ss (split IsLearnt ss learnt)) is) c.with_taken.ensures.numbering;
+    }
