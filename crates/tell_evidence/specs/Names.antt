@@ -80,25 +80,30 @@ is_known_session (edge.Forced o found) = false
 -- A read overlooks a write that it sees: far away, by some session or by none, or else by its own
 -- session, or else by a read of something else. What is left is that its transaction reads the very
 -- write: two versions of a key. A fault has the name that it has at serializability.
-abbrev pub view_name : Bool → List ℕ
-view_name other = if other then codes "read skew (G-single)"
+abbrev pub skew_name : Bool → List ℕ
+skew_name some = if some then codes "read skew by way of sessions (G-single-process)"
+    else codes "read skew (G-single)"
+
+abbrev pub view_name : Bool → Bool → List ℕ
+view_name some other = if other then skew_name some
     else codes "non-repeatable read (internal)"
 
-abbrev pub atomic_name : Bool → Bool → List ℕ
-atomic_name session other = if session
-    then codes "a session misses its own write (G-single-process)" else view_name other
+abbrev pub atomic_name : Bool → Bool → Bool → List ℕ
+atomic_name some session other = if session
+    then codes "a session misses its own write (G-single-process)" else view_name some other
 
 abbrev pub far_name : Bool → List ℕ
 far_name some = if some then codes "cycle with one missed write and sessions (G-single-process)"
     else codes "cycle with one missed write (G-single)"
 
 abbrev pub causal_name : Bool → Bool → Bool → Bool → List ℕ
-causal_name far some session other = if far then far_name some else atomic_name session other
+causal_name far some session other = if far then far_name some
+    else atomic_name some session other
 
 abbrev pub seen_name : Level → Bool → Bool → Bool → Bool → Option (List ℕ)
 seen_name ReadCommitted far some session other = None
-seen_name MonotonicAtomicView far some session other = Some (view_name other)
-seen_name ReadAtomic far some session other = Some (atomic_name session other)
+seen_name MonotonicAtomicView far some session other = Some (view_name some other)
+seen_name ReadAtomic far some session other = Some (atomic_name some session other)
 seen_name Causal far some session other = Some (causal_name far some session other)
 
 -- of edges of which none is forced

@@ -122,25 +122,37 @@ fn is_known_session(edge: &Edge) -> bool
     }
 }
 
+/// The name of a read that overlooks a write of a transaction from which its own one reads
+/// something else, by some session or by none.
+fn skew_name(some: bool) -> &'static str
+    ensures { result.now ≡ spec.skew_name some }
+{
+    if some {
+        "read skew by way of sessions (G-single-process)"
+    } else {
+        "read skew (G-single)"
+    }
+}
+
 /// The name at monotonic atomic view of a read that overlooks a write.
-fn view_name(other: bool) -> &'static str
-    ensures { result.now ≡ spec.view_name other }
+fn view_name(some: bool, other: bool) -> &'static str
+    ensures { result.now ≡ spec.view_name some other }
 {
     if other {
-        "read skew (G-single)"
+        skew_name(some)
     } else {
         "non-repeatable read (internal)"
     }
 }
 
 /// The name at read atomic.
-fn atomic_name(session: bool, other: bool) -> &'static str
-    ensures { result.now ≡ spec.atomic_name session other }
+fn atomic_name(some: bool, session: bool, other: bool) -> &'static str
+    ensures { result.now ≡ spec.atomic_name some session other }
 {
     if session {
         "a session misses its own write (G-single-process)"
     } else {
-        view_name(other)
+        view_name(some, other)
     }
 }
 
@@ -162,7 +174,7 @@ fn causal_name(far: bool, some: bool, session: bool, other: bool) -> &'static st
     if far {
         far_name(some)
     } else {
-        atomic_name(session, other)
+        atomic_name(some, session, other)
     }
 }
 
@@ -179,8 +191,8 @@ fn seen_name(
 {
     match level {
         Level::ReadCommitted => None,
-        Level::MonotonicAtomicView => Some(view_name(other)),
-        Level::ReadAtomic => Some(atomic_name(session, other)),
+        Level::MonotonicAtomicView => Some(view_name(some, other)),
+        Level::ReadAtomic => Some(atomic_name(some, session, other)),
         Level::Causal => Some(causal_name(far, some, session, other)),
     }
 }
