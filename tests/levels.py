@@ -29,6 +29,8 @@ CASES, SEED, SHOWN, LARGER, SAMPLE = 600, 1, 20, 40, 100
 TABLE = os.path.join(generate.EXAMPLES, 'README.md')
 # Examples of which one level tells another cycle than others do.
 OTHER_CYCLES = {'dirty_write.log', 'needless_step.log', 'crossed_readers.log'}
+# A read skew of which the two versions stand in the order of a session.
+BY_SESSION = 'session 1\nbegin\nw k 1\ncommit\nbegin\nw k 2\nw j 3\ncommit\nsession 2\nbegin\nr j 3\nr k 1\ncommit\n'
 ROW = re.compile(r'\| `(\w+\.log)` \| [^|]+ \|((?: (?:yes|no|-) \|){%d})\n' % len(LEVELS))
 
 
@@ -233,7 +235,7 @@ def wrong_rows():
 
 def wrong_names(program):
     """The examples that have several names, of the levels at which they are not kept; and the first levels of those that have none."""
-    for name, text in generate.examples((1, 2, 3)):
+    for name, text in [*generate.examples((1, 2, 3)), ('a read skew by a session', BY_SESSION)]:
         found = {}
         for level in LEVELS:
             status, said, _ = call(program, 'audit', '--only', '--level', level, '--format', 'json', text=text)
