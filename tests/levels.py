@@ -30,7 +30,7 @@ TABLE = os.path.join(generate.EXAMPLES, 'README.md')
 # Examples of which one level tells another cycle than others do.
 OTHER_CYCLES = {'dirty_write.log', 'needless_step.log', 'crossed_readers.log'}
 # A read skew of which the two versions stand in the order of a session.
-BY_SESSION = 'session 1\nbegin\nw k 1\ncommit\nbegin\nw k 2\nw j 3\ncommit\nsession 2\nbegin\nr j 3\nr k 1\ncommit\n'
+BY_SESSION = b'session 1\nbegin\nw k 1\ncommit\nbegin\nw k 2\nw j 3\ncommit\nsession 2\nbegin\nr j 3\nr k 1\ncommit\n'
 ROW = re.compile(r'\| `(\w+\.log)` \| [^|]+ \|((?: (?:yes|no|-) \|){%d})\n' % len(LEVELS))
 
 
