@@ -10,6 +10,7 @@ use Rattle.session_log.specs.declared.fault.LogFault.TheVariants.{Memory}
 use Rattle.log_definitions.specs.Unknown.{txns_in, is_committed, resolved}
 use Rattle.log_definitions.specs.Serial.{IsSerialOrder}
 use Rattle.long_log_definitions.specs.LongLog.{IsLongLog, IsLongLogFault}
+use Rattle.long_log_definitions.specs.declared.limits.TheConstants.{MAX_LONG_LOG_BYTES}
 use Rattle.fault_words.specs.Words.{IsSaidOf}
 use Rattle.order_text.specs.Text.{order_text}
 use Rattle.call_options.specs.declared.format.Format.{Format}
@@ -32,13 +33,12 @@ use Rattle.judging.specs.declared.judged.Verdict.TheVariants as verdict
 use Rattle.judging.specs.declared.means.JudgeMeans.{JudgeMeans}
 use Rattle.audit_command.specs.Apart.{IsSerialApartWhere}
 use Rattle.audit_command.specs.Counts.{AreCounts}
-use Rattle.audit_command.specs.Distinct.{AreDistinct, AreLeastFirst, has_txns, is_told}
+use Rattle.audit_command.specs.Distinct.{AreDistinct, AreLeastFirst, is_same, tells}
 use Rattle.isolation.specs.declared.level.Isolation.{Isolation}
 use Rattle.isolation.specs.declared.level.Isolation.TheVariants as isolation
 use Rattle.judging.specs.declared.judged.RefutedPart.{RefutedPart}
 use Rattle.audit_command.specs.Levels.{judged_of, is_above, asks_moments}
 use Rattle.audit_command.specs.Lower.{weakest_of}
-use Rattle.audit_command.specs.declared.told.ToldTxn.{ToldTxn}
 use Rattle.audit_command.specs.declared.told.Lower.{Lower}
 use Rattle.audit_command.specs.Words.{status_of, is_kept}
 use Rattle.audit_command.specs.Places.{told_by}
@@ -188,11 +188,11 @@ verdict_word (verdict.Serializable order) = word.Serializable
 verdict_word (verdict.NotSerializable told) = word.NotSerializable
 verdict_word (verdict.Undecided why tried) = word.Unknown
 
--- the part, unless one of these has its transactions
+-- the part, unless one of these tells the same
 abbrev pub unless_told : ToldPart → List ToldPart → Option ToldPart
-unless_told p parts = if is_told p.txns.items parts then None else Some p
+unless_told p parts = if tells p parts then None else Some p
 
--- a part that has no snapshot order; it is told, unless a part of the answer has its transactions
+-- a part that has no snapshot order; it is told, unless a part of the answer tells the same
 pub record IsShown (o : AuditOptions) (n : ℕ) (ss : List ClientSession) (a : Answer)
     (shown : Option ToldPart) : Type 0 where
   pub part : ToldPart
@@ -243,16 +243,15 @@ down_to_atomic w = down_to_causal w || is_kept w.read_atomic
 abbrev pub down_to_view : Lower → Bool
 down_to_view w = down_to_atomic w || is_kept w.monotonic_atomic_view
 
--- the part, unless one of these has its transactions, or this one has
-abbrev pub is_shown : List ToldTxn → Option ToldPart → Bool
-is_shown txns None = false
-is_shown txns (Some p) = has_txns txns p
+-- the part, unless one of these tells the same, or this one does
+abbrev pub is_shown : ToldPart → Option ToldPart → Bool
+is_shown p None = false
+is_shown p (Some q) = is_same p q
 
 abbrev pub unless_shown : ToldPart → List ToldPart → Option ToldPart → Option ToldPart
-unless_shown p parts shown = if is_told p.txns.items parts || is_shown p.txns.items shown then None
-    else Some p
+unless_shown p parts shown = if tells p parts || is_shown p shown then None else Some p
 
--- a part that has no order of this level; it is told, unless one that is told has its transactions
+-- a part that has no order of this level; it is told, unless one that is told tells the same
 pub record IsLowestAt
     (o : AuditOptions)
     (l : Isolation)
@@ -404,7 +403,7 @@ pub record IsAudited (o : AuditOptions) (log : List ℕ) (a : Audited) : Type 0 
 -- what is said of a refused log: nothing, or an object with what is said of the fault
 abbrev pub IsRefusal : ReportForm → AuditOptions → LogFault → List ℕ → Type 0
 IsRefusal Text o f text = text ≡ []
-IsRefusal Json o f text = (words : List ℕ) × IsSaidOf f words
+IsRefusal Json o f text = (words : List ℕ) × IsSaidOf MAX_LONG_LOG_BYTES f words
     × (text ≡ refusal_object o.quiet f words o.version.now)
 
 -- memory was refused; or the log is no long log, with this fault, and that is said

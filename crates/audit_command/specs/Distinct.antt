@@ -1,7 +1,10 @@
 -- Parts of different transactions, the least first.
-use Rattle.std.specs.Prelude.{◌&&◌, Bool, nat_eq, ◌≤◌, ◌≢◌, List, [], ◌∷◌, length, AllPairs}
+use Rattle.std.specs.Prelude.{◌&&◌, Bool, false, not, nat_eq, ℕ, ◌≤◌, ◌≢◌, List, [], ◌∷◌, length}
+use Rattle.std.specs.Prelude.{AllPairs, Option, Some, None, is_some, String, string_bytes}
 use Rattle.std.specs.List.{AllByRecursion, list_any}
 use Rattle.std.specs.Cmp.Lexicographic.{pointwise}
+use Rattle.std.specs.Str.{bytes_eq}
+use Rattle.std.specs.declared.alloc.Global.{Global}
 use Rattle.audit_command.specs.declared.told.ToldTxn.{ToldTxn}
 use Rattle.audit_command.specs.declared.told.ToldPart.{ToldPart}
 
@@ -35,3 +38,20 @@ has_txns txns p = pointwise same_txn p.txns.items txns
 -- and those of one of the parts
 abbrev pub is_told : List ToldTxn → List ToldPart → Bool
 is_told txns parts = list_any (has_txns txns) parts
+
+-- this is the name, and two names are one, or both are missing
+abbrev pub has_name : List ℕ → Option (String Global) → Bool
+has_name name None = false
+has_name name (Some own) = bytes_eq (string_bytes own) name
+
+abbrev pub same_name : Option (String Global) → Option (String Global) → Bool
+same_name None other = not (is_some other)
+same_name (Some name) other = has_name (string_bytes name) other
+
+-- the parts have the same transactions, and what is told of them has one name
+abbrev pub is_same : ToldPart → ToldPart → Bool
+is_same p q = has_txns p.txns.items q && same_name p.known_as q.known_as
+
+-- one of the parts is the same
+abbrev pub tells : ToldPart → List ToldPart → Bool
+tells p parts = list_any (is_same p) parts

@@ -16,7 +16,7 @@ use Rattle.tell_points.specs.Told.{name_line, refutation_text}
 use Rattle.tell_points.specs.Names.{refutation_name}
 use Rattle.judging.specs.declared.judged.Finding.TheVariants as finding
 use Rattle.judging.specs.declared.judged.RefutedPart.{RefutedPart}
-use Rattle.audit_command.specs.Why.{table_of, anomaly_name, IsKnownAs, IsSerialWhy, IsSaidBelow}
+use Rattle.audit_command.specs.Why.{table_of, anomaly_name, IsKnownAs, IsSerialWhy, IsEvidenceTold}
 
 -- ---- an anomaly
 
@@ -108,6 +108,7 @@ pub data IsSaidOfPoints
       → IsSaidOfPoints locked budget n known p name text
   points : IsRefutationTold locked n known p name text
       → IsSaidOfPoints locked budget n known p name text
-  weaker : IsSaidBelow Causal n known p name text → IsSaidOfPoints locked budget n known p name text
+  weaker : IsEvidenceTold Causal n known p name text
+      → IsSaidOfPoints locked budget n known p name text
   search : IsSearchTold locked budget n known p name text
       → IsSaidOfPoints locked budget n known p name text

@@ -15,12 +15,12 @@ ghost use Rattle.audit_command.specs.Lower.{or_above};
 ghost use Rattle.audit_command.specs.Audited.{IsRefutedWhere, IsWeakest, refuted_of, IsLowest, IsLower};
 ghost use Rattle.audit_command.specs.Resolved.{IsPartOf, IsPartOfVerdict};
 
-use crate::distinct::{has_txns, is_told};
+use crate::distinct::{is_same, tells};
 use crate::levels::{is_above, judged_of};
 use crate::object::parts_of;
 use crate::options::AuditOptions;
 use crate::telling::told_part;
-use crate::told::{Answer, Lower, ToldPart, ToldTxn, Word};
+use crate::told::{Answer, Lower, ToldPart, Word};
 use crate::without::{asks_levels, first_flags, is_kept, is_one_kept, word_of};
 use isolation::Isolation;
 use judging::{JudgeMeans, RefutedPart, Verdict, judge_known_log};
@@ -166,29 +166,28 @@ fn or_above(
     }
 }
 
-/// Whether this part has these transactions, where there is one.
-fn is_shown(shown: &Option<ToldPart>, txns: &[ToldTxn]) -> bool
-    ensures shown { result ≡ is_shown txns.now shown.now }
+/// Whether this part tells the same, where there is one.
+fn is_shown(shown: &Option<ToldPart>, part: &ToldPart) -> bool
+    ensures shown { result ≡ is_shown part.now shown.now }
 {
     match shown {
         None => false,
-        Some(part) => has_txns(part, txns),
+        Some(other) => is_same(part, other),
     }
 }
 
-/// The part, unless one of these has its transactions, or this one has.
+/// The part, unless one of these tells the same, or this one does.
 fn unless_shown(part: ToldPart, parts: &[ToldPart], shown: &Option<ToldPart>) -> Option<ToldPart>
     ensures told { result ≡ unless_shown part parts.now shown.now }
 {
-    if is_told(parts, &part.txns) || is_shown(shown, &part.txns) {
+    if tells(parts, &part) || is_shown(shown, &part) {
         None
     } else {
         Some(part)
     }
 }
 
-/// The part that shows that the weakest level was not kept, unless one that is told has its
-/// transactions.
+/// The part that shows that the weakest level was not kept, unless one that is told tells the same.
 fn tell_lowest<R: Threads + Wait + Clock + Sync>(
     rt: &R,
     alloc: Global,

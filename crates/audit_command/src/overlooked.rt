@@ -5,7 +5,7 @@ ghost use Rattle.session_log.specs.Text.{view};
 ghost use Rattle.session_log.specs.Version.{first_line};
 ghost use Rattle.judging.specs.Made.{IsMadeOf};
 ghost use Rattle.level_refutations.specs.Refuted.{is_refuted};
-ghost use Rattle.audit_command.specs.Why.{IsSaidBelow};
+ghost use Rattle.audit_command.specs.Why.{IsEvidenceTold, IsSaidBelow};
 
 use crate::explaining::{Explained, MANY_LINES, owned, places_of, searched};
 use judging::RefutedPart;
@@ -17,7 +17,7 @@ use std::alloc::{AllocError, Global};
 use tell_evidence::{evidence_name, evidence_text};
 
 /// What evidence that is right says of a part of these sessions, which are those of a log of this
-/// version.
+/// version; nothing where they have too many lines.
 fn told(
     alloc: Global,
     version: Version,
@@ -25,19 +25,19 @@ fn told(
     refuted: &RefutedPart,
     below: Level,
     evidence: &Evidence,
-) -> Result<Explained, AllocError>
+) -> Result<Option<Explained>, AllocError>
     requires made { IsMadeOf (map view sessions.now) refuted.now }
     requires right { is_refuted below (map view refuted.now.part.items) evidence.now ≡ true }
-    ensures said { IfOk result (λ told. IsSaidBelow below (first_line version)
-        (map view sessions.now) refuted.now told.known_as told.text.items) }
+    ensures told { IfOk result (λ some. IfSome some (λ told. IsEvidenceTold below
+        (first_line version) (map view sessions.now) refuted.now told.known_as told.text.items)) }
 {
     if line_count(sessions) > MANY_LINES {
-        return searched(alloc);
+        return Ok(None);
     }
     let places = places_of(alloc, version, sessions, refuted)?;
     let text = evidence_text(alloc, &refuted.part, &places, evidence)?;
     let known_as = owned(alloc, evidence_name(below, evidence))?;
-    Ok(Explained { text, known_as })
+    Ok(Some(Explained { text, known_as }))
 }
 
 /// Evidence that a part of these sessions, which are those of a log of this version with their outcomes
@@ -50,13 +50,13 @@ pub fn tell_evidence(
     below: Level,
 ) -> Result<Option<Explained>, AllocError>
     requires made { IsMadeOf (map view sessions.now) refuted.now }
-    ensures said { IfOk result (λ some. IfSome some (λ told. IsSaidBelow below (first_line version)
-        (map view sessions.now) refuted.now told.known_as told.text.items)) }
+    ensures told { IfOk result (λ some. IfSome some (λ told. IsEvidenceTold below
+        (first_line version) (map view sessions.now) refuted.now told.known_as told.text.items)) }
 {
     if let Proposal::Evidence(evidence) = find_break(alloc, below, &refuted.part)?
         && refutes(below, &refuted.part, &evidence)
     {
-        return Ok(Some(told(alloc, version, sessions, refuted, below, &evidence)?));
+        return told(alloc, version, sessions, refuted, below, &evidence);
     }
     Ok(None)
 }

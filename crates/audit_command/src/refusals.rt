@@ -12,6 +12,7 @@ use crate::object::{put_quoted, put_version};
 use crate::options::AuditOptions;
 use call_options::ReportForm;
 use fault_words::words_of;
+use long_log_definitions::MAX_LONG_LOG_BYTES;
 use session_log::LogFault;
 use std::alloc::{AllocError, Global};
 
@@ -97,7 +98,7 @@ pub fn refusal(
     match options.form {
         ReportForm::Text => Ok(Vec::new(alloc)),
         ReportForm::Json => {
-            let words = words_of(alloc, log, fault)?;
+            let words = words_of(alloc, log, fault, MAX_LONG_LOG_BYTES)?;
             refusal_object(
                 alloc,
                 options.quiet,

@@ -3,6 +3,7 @@ use Rattle.std.specs.Prelude.{◌≡◌, ◌≢◌, ◌⊎◌, ℕ, List, ◌++�
 use Rattle.std.specs.declared.alloc.Global.{Global}
 use Rattle.session_log.specs.declared.fault.LogFault.{LogFault}
 use Rattle.session_log.specs.declared.fault.LogFault.TheVariants.{Memory}
+use Rattle.long_log_definitions.specs.declared.limits.TheConstants.{MAX_LONG_LOG_BYTES}
 use Rattle.fault_words.specs.Codes.{IsRefusalLine}
 use Rattle.output.specs.Sinks.{one_more}
 use Rattle.proof_text.specs.Refusals.{proof_refusal, proof_status}
@@ -47,9 +48,9 @@ IsToldSo Says status (Stop s) = s ≡ stop.Refused fault.Memory
 IsToldSo Says status (Proof e) = ⊥
 IsToldSo Says status (Told line told) = Says (string_bytes line) × (told ≡ status)
 
--- why a log of this name is refused
+-- why a long log of this name is refused
 abbrev pub IsRefusedBy : List ℕ → LogFault → List ℕ → Type 0
-IsRefusedBy name f line = (f ≢ Memory) × IsRefusalLine name f line
+IsRefusedBy name f line = (f ≢ Memory) × IsRefusalLine MAX_LONG_LOG_BYTES name f line
 
 abbrev pub IsLogRefusal : List ℕ → LogFault → Ending → Type 0
 IsLogRefusal name f e = IsToldSo (IsRefusedBy name f) 2 e

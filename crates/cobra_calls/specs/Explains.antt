@@ -6,6 +6,7 @@ use Rattle.std.specs.declared.alloc.Global.{Global}
 use Rattle.std.specs.Io.KnownBytes.{Keeps}
 use Rattle.session_log.specs.Version.{version_of}
 use Rattle.session_log.specs.declared.fault.LogFault.{LogFault}
+use Rattle.session_log.specs.declared.limits.TheConstants.{MAX_LOG_BYTES}
 use Rattle.log_definitions.specs.WellFormed.{IsLogFault}
 use Rattle.fault_words.specs.Codes.{IsRefusalLine}
 use Rattle.call_options.specs.declared.format.Format.{Format}
@@ -24,19 +25,19 @@ use Rattle.cobra_calls.specs.Handed.{IsHandedOn, TellsFront}
 
 -- the line that says why a log of this name is refused, with its line feed
 abbrev pub IsRefusalText : List ℕ → LogFault → String Global → Type 0
-IsRefusalText name f text = (line : List ℕ) × IsRefusalLine name f line
+IsRefusalText name f text = (line : List ℕ) × IsRefusalLine MAX_LOG_BYTES name f line
     × (string_bytes text ≡ line ++ 10 ∷ [])
 
 -- a line says why a log of this name is refused, and a line feed ends it
 pub record IsSaid (name : List ℕ) (f : LogFault) (old new : Option (List ℕ)) : Type 0 where
   pub line : List ℕ
-  pub says : IsRefusalLine name f line
+  pub says : IsRefusalLine MAX_LOG_BYTES name f line
   pub told : IsHandedOn old new (line ++ 10 ∷ [])
 
 -- the output failed at that
 pub record IsSaidInPart (name : List ℕ) (f : LogFault) (old new : Option (List ℕ)) : Type 0 where
   pub line : List ℕ
-  pub says : IsRefusalLine name f line
+  pub says : IsRefusalLine MAX_LOG_BYTES name f line
   pub cut : TellsFront old new (line ++ 10 ∷ [])
 
 -- why it is not said

@@ -8,6 +8,7 @@ ghost use Rattle.cobra_calls.specs.Endings.{IsLogRefusal, IsUnusable, IsUnusable
 
 use cobra_answers::{Fault, Stop};
 use fault_words::refusal as refusal_line;
+use long_log_definitions::MAX_LONG_LOG_BYTES;
 use proof_text::ProofFault;
 use refute_command::Refusal;
 use session_log::LogFault;
@@ -96,7 +97,10 @@ impl Ending {
     {
         match fault {
             LogFault::Memory => Ending::memory(),
-            fault => Ending::told(refusal_line(alloc, name, log, fault), USAGE),
+            fault => Ending::told(
+                refusal_line(alloc, name, log, fault, MAX_LONG_LOG_BYTES),
+                USAGE,
+            ),
         }
     }
 

@@ -22,7 +22,7 @@ use cobra_cli::{Format, Options, explain};
 use cobra_words::Request;
 use desk::gate::OpenGate;
 use fault_words::refusal as refusal_line;
-use session_log::LogFault;
+use session_log::{LogFault, MAX_LOG_BYTES};
 use std::alloc::{AllocError, Global};
 use std::sync::Wait;
 use std::thread::Threads;
@@ -37,7 +37,7 @@ fn refusal_text(
 ) -> Result<String, AllocError>
     ensures text { IfOk result (IsRefusalText name.now fault) }
 {
-    let mut line = refusal_line(alloc, name, log, fault)?;
+    let mut line = refusal_line(alloc, name, log, fault, MAX_LOG_BYTES)?;
     line.push('\n')?;
     Ok(line)
 }

@@ -13,7 +13,7 @@ place_of name (Some line) = name ++ 58 ∷ decimal line
 abbrev pub joined : List ℕ → List ℕ → List ℕ → List ℕ
 joined place words code = place ++ codes ": " ++ words ++ codes " (" ++ code ++ codes ")"
 
--- such a line, with what is said of the fault
-abbrev pub IsRefusalLine : List ℕ → LogFault → List ℕ → Type 0
-IsRefusalLine name f text = (words : List ℕ) × IsSaidOf f words
+-- such a line, with what is said of the fault, where a log may have so many bytes
+abbrev pub IsRefusalLine : ℕ → List ℕ → LogFault → List ℕ → Type 0
+IsRefusalLine most name f text = (words : List ℕ) × IsSaidOf most f words
     × (text ≡ joined (place_of name (line_of f)) words (code_of f))

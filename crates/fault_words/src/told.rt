@@ -9,7 +9,6 @@ use crate::form::{Number, Wrong, first_word, wrong_form};
 use crate::lines::{LogLine, earlier_line, line_at};
 use crate::numbers::NumberFault;
 use crate::quoted::quoted;
-use long_log_definitions::MAX_LONG_LOG_BYTES;
 use serializability::MAX_NODES;
 use session_log::{Limit, LogFault, MAX_KEYS, MAX_OPERATIONS, MAX_SESSIONS, Version, index_of};
 use std::alloc::{AllocError, Global};
@@ -162,11 +161,11 @@ fn outside_words(alloc: Global, log: &[u8], number: usize) -> Result<String, All
     }
 }
 
-fn limit_words(alloc: Global, which: Limit) -> Result<String, AllocError>
-    ensures said { IfOk result (λ text. IsLimitSaid which (string_bytes text)) }
+fn limit_words(alloc: Global, which: Limit, most_bytes: usize) -> Result<String, AllocError>
+    ensures said { IfOk result (λ text. IsLimitSaid most_bytes which (string_bytes text)) }
 {
     match which {
-        Limit::LogBytes => { format!(in alloc; "the log has more than {MAX_LONG_LOG_BYTES} bytes") }
+        Limit::LogBytes => format!(in alloc; "the log has more than {most_bytes} bytes"),
         Limit::Sessions => format!(in alloc; "the log has more than {MAX_SESSIONS} sessions"),
         Limit::Operations => {
             format!(in alloc; "the log has more than {MAX_OPERATIONS} reads and writes")
@@ -180,16 +179,22 @@ fn limit_words(alloc: Global, which: Limit) -> Result<String, AllocError>
     }
 }
 
-/// What is wrong with a log that has this fault, as a sentence without its end.
-pub fn words_of(alloc: Global, log: &[u8], fault: LogFault) -> Result<String, AllocError>
-    ensures said { IfOk result (λ text. IsSaidOf fault (string_bytes text)) }
+/// What is wrong with a log that has this fault, where a log may have so many bytes, as a sentence
+/// without its end.
+pub fn words_of(
+    alloc: Global,
+    log: &[u8],
+    fault: LogFault,
+    most_bytes: usize,
+) -> Result<String, AllocError>
+    ensures said { IfOk result (λ text. IsSaidOf most_bytes fault (string_bytes text)) }
 {
     match fault {
         LogFault::BadLine { line } => bad_line_words(alloc, log, line),
         LogFault::SessionTwice { line } => session_twice_words(alloc, log, line),
         LogFault::OutsideTransaction { line } => outside_words(alloc, log, line),
         LogFault::WriteTwice { line } => write_twice_words(alloc, log, line),
-        LogFault::OverLimit { which } => limit_words(alloc, which),
+        LogFault::OverLimit { which } => limit_words(alloc, which, most_bytes),
         LogFault::OpenTransaction { .. } => String::from_str(
             alloc,
             "the transaction that begins here has no `commit`, `abort` or `unknown`",
@@ -231,11 +236,19 @@ fn joined(alloc: Global, place: &str, words: &str, code: &str) -> Result<String,
 }
 
 /// The line that a compiler would print of a log of this name that has this fault: `FILE:LINE:
-/// WORDS (CODE)`, without a line feed, and without the line where the fault has none.
-pub fn refusal(alloc: Global, name: &str, log: &[u8], fault: LogFault) -> Result<String, AllocError>
-    ensures refusal { IfOk result (λ text. IsRefusalLine name.now fault (string_bytes text)) }
+/// WORDS (CODE)`, without a line feed, and without the line where the fault has none. Such a log may
+/// have so many bytes.
+pub fn refusal(
+    alloc: Global,
+    name: &str,
+    log: &[u8],
+    fault: LogFault,
+    most_bytes: usize,
+) -> Result<String, AllocError>
+    ensures refusal { IfOk result (λ text.
+        IsRefusalLine most_bytes name.now fault (string_bytes text)) }
 {
-    let words = words_of(alloc, log, fault)?;
+    let words = words_of(alloc, log, fault, most_bytes)?;
     let code = fault.code();
     let place = place_of(alloc, name, fault.line())?;
     joined(alloc, &place, &words, code)

@@ -1,7 +1,8 @@
 use desk::seat_no::Workers;
 use fault_words::{refusal, words_of};
+use long_log_definitions::MAX_LONG_LOG_BYTES;
 use long_reading::read_long_log;
-use session_log::{Limit, LogFault};
+use session_log::{Limit, LogFault, MAX_LOG_BYTES};
 use std::alloc::Global;
 use std::process::Abort;
 use std::test::*;
@@ -13,7 +14,7 @@ fn is_told<R: Threads + Abort + Sync>(rt: &R, alloc: Global, log: &[u8], want: &
     let fault = read_long_log(rt, alloc, log, workers)
         .err()
         .expect(rt, "a fault");
-    let told = refusal(alloc, "a.log", log, fault).expect(rt, "memory");
+    let told = refusal(alloc, "a.log", log, fault, MAX_LONG_LOG_BYTES).expect(rt, "memory");
     assert_eq!(rt; told.as_str(), want, "{log:?}");
 }
 
@@ -209,7 +210,7 @@ fn limits_and_memory(rt: HostRuntime) -> Result<(), Fail> {
         (
             Limit::LogBytes,
             "L7 log-bytes",
-            "the log has more than 1073741824 bytes",
+            "the log has more than 16777216 bytes",
         ),
         (
             Limit::Sessions,
@@ -231,9 +232,9 @@ fn limits_and_memory(rt: HostRuntime) -> Result<(), Fail> {
         let fault = LogFault::OverLimit { which };
         assert_eq!(rt; fault.code(), code);
         assert_eq!(rt; fault.line(), None);
-        assert_eq!(rt; words_of(alloc, b"", fault)?.as_str(), want);
+        assert_eq!(rt; words_of(alloc, b"", fault, MAX_LOG_BYTES)?.as_str(), want);
     }
-    let told = refusal(alloc, "-", b"", LogFault::Memory)?;
+    let told = refusal(alloc, "-", b"", LogFault::Memory, MAX_LOG_BYTES)?;
     assert_eq!(rt; told.as_str(), "-: out of memory (L8)");
     Ok(())
 }
