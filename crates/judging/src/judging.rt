@@ -13,7 +13,7 @@ ghost use Rattle.judging.specs.Finds.{IsAttempt, IsSaid, IsWhole};
 ghost use Rattle.judging.specs.Made.{IsMade, IsToldPart};
 ghost use Rattle.judging.specs.declared.level.Level.TheVariants as level;
 
-use crate::below::judge_level_order;
+use crate::below::{judge_level_order, propose_below};
 use crate::flags::{copy_flags, count_flags};
 use crate::found::{Found, Seen, see_log};
 use crate::judged::{Finding, RefutedPart, Tried, Verdict, Why};
@@ -339,7 +339,7 @@ fn judge_where_stuck<R: Threads + Wait + Clock + Sync>(
 
 /// What is said of a log whose outcomes are known, by what is proposed of it, and by what is judged
 /// for it in numbers.
-pub fn judge_known<R: Threads + Wait + Clock + Sync>(
+fn judge_proposed<R: Threads + Wait + Clock + Sync>(
     rt: &R,
     alloc: Global,
     sessions: &[Session],
@@ -361,6 +361,62 @@ pub fn judge_known<R: Threads + Wait + Clock + Sync>(
         Proposal::Stuck(stuck) => judge_where_stuck(rt, alloc, sessions, stuck, proposal, means),
         Proposal::NotTried(_) => judge_rest(rt, alloc, sessions, proposal, Tried::Nothing, means),
     }
+}
+
+/// The transactions that evidence against causal consistency names, where some is found.
+fn causal_flags(alloc: Global, sessions: &[Session]) -> Result<Option<Flags>, AllocError> {
+    match propose_below(alloc, seen_laws::Level::Causal, sessions, &[])? {
+        Proposal::Part(flags) => Ok(Some(flags)),
+        Proposal::Order(_) | Proposal::Stuck(_) | Proposal::NotTried(_) => Ok(None),
+    }
+}
+
+/// Whether a log is not decided at a level above causal consistency.
+fn is_open_above_causal(verdict: &Verdict, level: Level) -> bool {
+    matches!(verdict, Verdict::Undecided { .. }) && !matches!(level, Level::Below(_))
+}
+
+/// What is said of a log; where it is not decided, by a part that breaks causal consistency, if there
+/// is one: to find it takes no search, and no stronger level allows it.
+fn or_by_causal<R: Threads + Wait + Clock + Sync>(
+    rt: &R,
+    alloc: Global,
+    sessions: &[Session],
+    verdict: Verdict,
+    means: &JudgeMeans,
+) -> Result<Verdict, AllocError>
+    requires log { IsLog (map view sessions.now) }
+    requires said { IsSaid means.now (map view sessions.now) verdict }
+    ensures { IfOk result (IsSaid means.now (map view sessions.now)) }
+{
+    if !is_open_above_causal(&verdict, means.level) || means.is_over(rt) {
+        return Ok(verdict);
+    }
+    let flags = causal_flags(alloc, sessions)?;
+    match shown_by(rt, alloc, sessions, flags.as_ref(), means)? {
+        Some(told) => Ok(Verdict::NotSerializable(told)),
+        None => Ok(verdict),
+    }
+}
+
+/// What is said of a log whose outcomes are known, by what is proposed of it, and by what is judged
+/// for it in numbers; else by what it shows of causal consistency.
+pub fn judge_known<R: Threads + Wait + Clock + Sync>(
+    rt: &R,
+    alloc: Global,
+    sessions: &[Session],
+    at: &LevelLog,
+    log: &NumberedLog<'_>,
+    proposal: &Proposal,
+    means: &JudgeMeans,
+) -> Result<Verdict, AllocError>
+    requires log { IsLog (map view sessions.now) }
+    requires at { IsLogAt means.now.level (map view sessions.now) at.now }
+    requires numbered { IsNumbered (judged_in (map view sessions.now) at.now) log.now }
+    ensures { IfOk result (IsSaid means.now (map view sessions.now)) }
+{
+    let verdict = judge_proposed(rt, alloc, sessions, at, log, proposal, means)?;
+    or_by_causal(rt, alloc, sessions, verdict, means)
 }
 
 /// Tells how many transactions are searched, where a part is proposed.
