@@ -219,6 +219,9 @@ READ_TWICE = b'session 2\nbegin\nr x0 2\nr x0 1\ncommit\n'
 # Who writes 900001 comes first by its identity, but is read behind 900002.
 WRONG_GUESS = (b'session 5001\nbegin\nw s 900001\ncommit\nsession 5002\nbegin\nw s 900002\ncommit\n'
                b'session 5003\nbegin\nr s 900002\ncommit\nbegin\nr s 900001\ncommit\n')
+# A session sees a write, and then an earlier one of its writer's session.
+WENT_BACK = (b'session 5001\nbegin\nw s 900001\ncommit\nbegin\nw s 900002\ncommit\n'
+             b'session 5003\nbegin\nr s 900002\ncommit\nbegin\nr s 900001\ncommit\n')
 NOT_WRITTEN = b'session 3000\nbegin\nr x0 999999\ncommit\n'
 
 # Of a log: words, the first line, and what stands in a line between that and the counts.
@@ -256,6 +259,8 @@ ANSWERED = [
     ('60,000 sessions that write and read a key, all at once', hot_key(30000, moments=True), [], 'serializable', []),
     ('1,025 sessions at once, and a read of nothing', blind_log(2050, 1025, 5) + NOT_WRITTEN, [], 'not serializable',
      ['shown by 1 transactions: A1']),
+    ('1,025 sessions at once, and one that goes back', blind_log(2050, 1025, 5) + WENT_BACK, [], 'not serializable',
+     ['shown by 4 transactions: A9']),
     ('a circle of 64 sessions', circle(64), [], 'not serializable', ['shown by 64 transactions: A8']),
     ('a circle of 65 sessions', circle(65), [], 'not serializable', ['shown by 65 transactions: A8']),
     ('a circle of 1,001 sessions', circle(1001), [], 'unknown: a part that was found has too many transactions', []),
