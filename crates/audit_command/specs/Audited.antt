@@ -57,9 +57,9 @@ use Rattle.audit_command.specs.declared.told.Answer.{Answer}
 use Rattle.audit_command.specs.declared.told.Answer.TheVariants as answer
 use Rattle.audit_command.specs.declared.told.Totals.{Totals}
 use Rattle.audit_command.specs.declared.told.Told.{Told}
-use Rattle.audit_command.specs.declared.without.Side.{Side}
-use Rattle.audit_command.specs.declared.without.Side.TheVariants as side
-use Rattle.audit_command.specs.declared.without.Weaker.{Weaker}
+use Rattle.audit_command.specs.declared.weaker.Side.{Side}
+use Rattle.audit_command.specs.declared.weaker.Side.TheVariants as side
+use Rattle.audit_command.specs.declared.weaker.Weaker.{Weaker}
 use Rattle.audit_command.specs.declared.telling.Answered.{Answered}
 use Rattle.audit_command.specs.declared.files.PartFile.{PartFile}
 use Rattle.audit_command.specs.declared.known.Known.{Known}

@@ -20,7 +20,7 @@ use crate::refusals::refusal;
 use crate::report::report_text;
 use crate::telling::Answered;
 use crate::told::{Answer, Told};
-use crate::without::judge_weaker;
+use crate::weaker::judge_weaker;
 use call_options::{Format, ReportForm};
 use cobra_answers::{Reply, Status};
 use judging::leave_out_moments;

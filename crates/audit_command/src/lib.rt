@@ -38,8 +38,8 @@ mod telling;
 mod told;
 mod totals;
 mod undecided;
+mod weaker;
 mod whys;
-mod without;
 
 pub use command::audit;
 pub use files::PartFile;

@@ -21,7 +21,7 @@ use crate::object::parts_of;
 use crate::options::AuditOptions;
 use crate::telling::told_part;
 use crate::told::{Answer, Lower, ToldPart, Word};
-use crate::without::{asks_levels, first_flags, is_kept, is_one_kept, word_of};
+use crate::weaker::{asks_levels, first_flags, is_kept, is_one_kept, word_of};
 use isolation::Isolation;
 use judging::{JudgeMeans, RefutedPart, Verdict, judge_known_log};
 use progress::Progress;

@@ -19,7 +19,7 @@ use crate::codes::{
 };
 use crate::lines::{put, put_count, put_line, put_lines, put_name, put_number};
 use crate::told::{Answer, Lower, Told, ToldPart, ToldTxn, Totals, Word};
-use crate::without::is_kept;
+use crate::weaker::is_kept;
 use isolation::Isolation;
 use std::alloc::{AllocError, Global};
 

@@ -1,7 +1,7 @@
 use Rattle.std.proofs.Common.{◌≡◌, map, drop}
 use Rattle.session_log.specs.Text.{view}
 use Rattle.audit_command.specs.Audited.{one_states}
-use Rattle.audit_command.proofs.without.one_states.Given as goal
+use Rattle.audit_command.proofs.weaker.one_states.Given as goal
 
 abbrev pub invariant-loop-session : goal.invariant-loop-session
 invariant-loop-session l = one_states l.side (map view l.sessions) ≡ one_states l.side (map view (drop l.session-index l.sessions))

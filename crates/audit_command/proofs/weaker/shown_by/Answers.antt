@@ -8,7 +8,7 @@ use Rattle.judging.specs.declared.judged.Verdict.{Verdict}
 use Rattle.judging.specs.declared.judged.Verdict.TheVariants.{NotSerializable}
 use Rattle.audit_command.specs.declared.options.AuditOptions.{AuditOptions}
 use Rattle.audit_command.specs.Audited.{at_snapshot, verdict_word, unless_told, IsPartTold, IsShown, IsShownBy}
-use Rattle.audit_command.proofs.without.shown_by.Goals as goal
+use Rattle.audit_command.proofs.weaker.shown_by.Goals as goal
 
 pub returns-in-NotSerializable : goal.returns-in-NotSerializable
 returns-in-NotSerializable g c =

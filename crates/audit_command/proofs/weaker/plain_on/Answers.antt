@@ -7,7 +7,7 @@ use Rattle.judging.proofs.Resolved.{known}
 use Rattle.audit_command.specs.Audited.{at_snapshot, IsShownBy}
 use Rattle.audit_command.specs.Resolved.{IsResolved}
 use Rattle.audit_command.proofs.Resolved.{verdict_part}
-use Rattle.audit_command.proofs.without.plain_on.Goals as goal
+use Rattle.audit_command.proofs.weaker.plain_on.Goals as goal
 
 pub shown_by-requires-clause-part : goal.shown_by-requires-clause-part
 shown_by-requires-clause-part g c κs within =
