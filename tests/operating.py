@@ -282,6 +282,9 @@ class Runs:
             self.expect('%s as order' % name, ['verify', '--order', path, self.paths['log']], INPUT, **means)
         for call, _ in self.calls('/dev/zero'):
             self.expect('endless log of %s' % call[0], call, answers.refused('L7 log-bytes'))
+        status, _, said = answers.refused('L7 log-bytes')
+        words = b'/dev/zero: the log has more than 16777216 bytes (L7 log-bytes)\n'
+        self.expect('endless log of explain, as text', ['explain', '/dev/zero'], (status, words, said))
         for plain in self.plains:
             call = ['decode', *(['--plain'] if plain else []), '--model', '/dev/zero', self.paths['log']]
             self.expect('endless model', call, answers.refused('M8'))
