@@ -33,13 +33,16 @@ onto_within (suc j) (suc k) n acc lt le = elim (cases_Bool (n / 10 == 0)) [
   | inr e ↦ let h = rw e at le in let ih = onto_within j k (n / 10) (digit_glyph false (n % 10) ∷ acc) (omega arith) (omega (arith, h)) in omega (arith, ih)
 ]
 
+within_tens : (k j n : ℕ) → j < k → length (digits_onto k 10 false n []) ≤ j → n < 10 ^ j
+within_tens k j n lt le = onto_within j k n [] lt (omega arith)
+
 pub below_tens : (j n : ℕ) → j < 64 → length (decimal n) ≤ j → n < 10 ^ j
 unfolding digits
-below_tens j n lt le = onto_within j 64 n [] lt le
+below_tens j n lt le = within_tens 64 j n lt le
 
 -- ---- where the digits are few
 pub below_wide : (j n : ℕ) → j < 64 → n < 10 ^ j → n < 10 ^ 64
-below_wide j n lt h = let le = pow-le-pow_right {10} (omega arith) {j} {64} (omega arith) in omega (arith, h, le)
+below_wide j n lt h = let le = pow-le-pow_right {n = 10} (omega arith) {i = j} {j = 64} (omega arith) in omega (arith, h, le)
 
 -- a smaller number has no more digits
 pub fewer_digits : (m n : ℕ) → 0 < m → m ≤ n → length (decimal n) < 64 → length (decimal m) ≤ length (decimal n)
@@ -53,12 +56,12 @@ pub same_decimal : (m n : ℕ) → m < 10 ^ 64 → n < 10 ^ 64 → decimal m ≡
 same_decimal m n a b e = sym (decimal_is_IsNumeral_wide m a).1 ∙ ap (digits_value 10) e ∙ (decimal_is_IsNumeral_wide n b).1
 
 -- ---- the bytes
-third : (a b c d : Bool) → c ≡ true → (a || b || c || d) ≡ true
-third v0 v1 v2 v3 e = grind arith
+third : (a b c d e f g h : Bool) → c ≡ true → (a || b || c || d || e || f || g || h) ≡ true
+third v0 v1 v2 v3 v4 v5 v6 v7 e = grind arith
 
 digit_byte : (d : ℕ) → 48 ≤ d → d ≤ 57 → is_key_byte d ≡ true
 unfolding is_key_byte
-digit_byte d low high = let a = le_true 48 d low in let b = le_true d 57 high in rw (a, b) (third _ _ true _ refl)
+digit_byte d low high = let a = le_true 48 d low in let b = le_true d 57 high in rw (a, b) (third (nat_le 65 d && nat_le d 90) (nat_le 97 d && nat_le d 122) true (d == 95) (d == 46) (d == 58) (d == 47) (d == 45) refl)
 
 pub digit_bytes : (ds : List ℕ) → AllDigits 10 ds → list_all is_key_byte ds ≡ true
 digit_bytes [] h = refl
