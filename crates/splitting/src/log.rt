@@ -183,11 +183,9 @@ pub fn split(
 {
     let survey = Survey::of(sessions)?;
     let names = Names::of(alloc, survey, sessions)?;
-    match refusal(survey, names.widest(survey.longest)) {
-        Some(refused) => Ok(Err(refused)),
-        None => {
-            let split = split_sessions(alloc, &names, survey.largest, sessions)?;
-            Ok(Ok(split))
-        }
+    if let Some(refused) = refusal(survey, names.widest(survey.longest)) {
+        return Ok(Err(refused));
     }
+    let split = split_sessions(alloc, &names, survey.largest, sessions)?;
+    Ok(Ok(split))
 }
