@@ -6,7 +6,7 @@ Small logs of all versions are made, some with keys that begin with underscores,
 the plain splitter, and `check` must find an order of it exactly where the log has a snapshot order; the search for these is tried against
 all lists of points. A log without room is refused in words; one with a fault as `audit` refuses it. Then calls by hand: a transaction of
 200,000 operations, and a long log, whose split log goes through `audit`. Last line: 'splitting: N passed, M failed'."""
-import argparse, concurrent.futures, os, random, subprocess, sys, time
+import argparse, concurrent.futures, hashlib, os, random, subprocess, sys, time
 
 HERE = os.path.dirname(os.path.abspath(__file__))
 sys.path.insert(0, HERE)
@@ -42,15 +42,20 @@ class Locks:
         self.largest = max((wid for _, _, wid in operations(sessions)), default=0)
         writes = [wid for kind, _, wid in operations(sessions) if kind == 'w']
         self.places = {wid: place for place, wid in enumerate(writes, 1)}
+        self.numbers = {}
+        for key in keys:
+            self.numbers.setdefault(key, len(self.numbers) + 1)
         longest = max(map(len, keys), default=0)
-        if longest > MOST_BYTES - self.marks:
+        self.are_long = self.marks + longest > MOST_BYTES
+        if self.are_long and self.marks + len(str(len(self.numbers))) > MOST_BYTES:
             raise NoRoom('a key of the log has %d bytes and its lock %d more, and a key has at most 64' % (longest, self.marks))
         if self.largest + len(writes) >= IDENTITIES:
             raise NoRoom('the identities of the log reach %d, and above it are not as many as its %d writes' % (self.largest, len(writes)))
 
     def of(self, key, wid):
         """The lock of a key, and the identity under which a transaction takes it whose first write of the key has this one."""
-        return '_' * self.marks + key, self.largest + self.places[wid]
+        name = str(self.numbers[key]) if self.are_long else key
+        return '_' * self.marks + name, self.largest + self.places[wid]
 
 
 def halves(locks, it):
@@ -79,7 +84,7 @@ def split_log(sessions):
 
 def renamed(r, sessions):
     """The same with other keys, and with other identities."""
-    forms = ['%s', '_%s', '__%s', '%s_', '_', 'k_%s', '%s' + 'k' * r.randint(58, 62), '_%s' + 'k' * r.randint(55, 62)]
+    forms = ['%s', '_%s', '__%s', '%s_', '_', 'k_%s', '%s' + 'k' * r.randint(58, 63), '_%s' + 'k' * r.randint(55, 62), '_' * r.randint(60, 63) + '%s']
     names = {}
     for kind, key, wid in operations(sessions):
         form = r.choice(forms if r.random() < 0.3 else forms[:6])
@@ -173,6 +178,17 @@ def commit(*ops):
     return Transaction(list(ops), 'commit')
 
 
+def underscores(many, keys):
+    """A log of so many keys, of which one is so many underscores."""
+    return [(1, [commit(*[('w', 'k%d' % n, n) for n in range(1, keys)], ('w', '_' * many, keys))])]
+
+
+def hashed(sessions):
+    """The same with keys of 64 bytes: the SHA-256 of each."""
+    name = lambda key: hashlib.sha256(key.encode()).hexdigest()
+    return [(number, [it._replace(ops=[(kind, name(key), wid) for kind, key, wid in it.ops]) for it in its]) for number, its in sessions]
+
+
 def large_transaction():
     """200,000 operations: on each key a read, then a write, or the other way round."""
     ops = []
@@ -208,9 +224,18 @@ def by_hand(program):
     key = 'k' * MOST_BYTES
     cases = [
         ('empty', [], None),
-        ('a reader alone', [(1, [commit(('r', key, 0))])], 'a key of the log has 64 bytes and its lock 1 more, and a key has at most 64'),
+        ('a reader alone', [(1, [commit(('r', key, 0))])], None),
         ('a key of 63 bytes', [(1, [commit(('w', key[1:], 1))])], None),
-        ('underscores alone', [(1, [commit(('w', '_' * 32, 1))])], 'a key of the log has 32 bytes and its lock 33 more, and a key has at most 64'),
+        ('a key of 64 bytes', [(1, [commit(('r', 'x', 0), ('w', key, 1), ('w', 'x', 2))])], None),
+        ('a long key of an aborted transaction', [(1, [Transaction([('w', key, 1)], 'abort'), commit(('w', 'x', 2))])], None),
+        ('31 underscores', [(1, [commit(('w', '_' * 31, 1))])], None),
+        ('40 underscores', [(1, [commit(('w', '_' * 40, 1), ('w', 'x', 2))])], None),
+        ('62 underscores and 9 keys', underscores(62, 9), None),
+        ('62 underscores and 10 keys', underscores(62, 10), 'a key of the log has 62 bytes and its lock 63 more, and a key has at most 64'),
+        ('63 underscores', underscores(63, 1), 'a key of the log has 63 bytes and its lock 64 more, and a key has at most 64'),
+        ('64 underscores', underscores(64, 1), 'a key of the log has 64 bytes and its lock 65 more, and a key has at most 64'),
+        ('neither keys nor identities', [(1, [commit(('w', '_' * 64, IDENTITIES - 1))])],
+         'a key of the log has 64 bytes and its lock 65 more, and a key has at most 64'),
         ('the last identity', [(1, [commit(('w', 'x', IDENTITIES - 2))])], None),
         ('no identity left', [(1, [commit(('w', 'x', IDENTITIES - 1))])],
          'the identities of the log reach 18446744073709551615, and above it are not as many as its 1 writes'),

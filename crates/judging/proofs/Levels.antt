@@ -1,18 +1,17 @@
 -- What is judged at a level, and what it says of a log whose outcomes are known, and of the sessions that this comes from.
-use Rattle.std.proofs.Common.{◌≡◌, ℕ, ◌+◌, List, [], length, map, sym, ap, ◌∙◌, subst, true}
+use Rattle.std.proofs.Common.{◌≡◌, ℕ, List, [], map, sym, ap, ◌∙◌, subst, true}
 use Rattle.std.specs.List.{AllByRecursion}
 use Rattle.session_log.specs.Text.{ClientSession, IsLegal, key_of}
 use Rattle.session_log.specs.declared.session.Op.{Op}
-use Rattle.serializability.specs.Replay.{place_of}
 use Rattle.log_definitions.specs.Unknown.{resolved}
-use Rattle.log_definitions.specs.WellFormed.{written, keys_in, first_seen}
+use Rattle.log_definitions.specs.WellFormed.{keys_in, first_seen}
 use Rattle.log_definitions.specs.Serial.{IsSerialOrder}
 use Rattle.log_definitions.proofs.Settled.{ops_resolved}
 use Rattle.log_definitions.proofs.OnlyTaken.{some_where_serial}
 use Rattle.log_laws.specs.Logs.{IsSoundLog, IsLog}
 use Rattle.log_laws.proofs.Resolved.{nodes_stay, resolved_is_log}
 use Rattle.part_laws.specs.Parts.{IsPart}
-use Rattle.level_laws.specs.Split.{Locks, split_writers}
+use Rattle.level_laws.specs.Split.{split_writers}
 use Rattle.level_laws.proofs.Resolved.{of_same_nodes}
 use Rattle.level_laws.proofs.Some.{snapshot_of_taken, prefix_of_taken}
 use Rattle.level_laws.proofs.OfPart.{some_snapshot_of_part, some_prefix_of_part}
@@ -23,8 +22,8 @@ use Rattle.seen_laws.proofs.Same.{same_nodes, same_order, same_level}
 use Rattle.seen_laws.proofs.OfPart.{level_of_taken, some_level_of_part}
 use Rattle.level_refutations.specs.declared.evidence.Evidence.{Evidence}
 use Rattle.level_refutations.specs.Refuted.{is_refuted}
-use Rattle.splitting.specs.Locks.{lock_key, most_leading, longest, largest, refusal, locks_of, no_room}
-use Rattle.splitting.proofs.Fresh.{snapshot_by_split_log, prefix_by_split_log}
+use Rattle.splitting.specs.Locks.{locks_of, no_room}
+use Rattle.splitting.proofs.Fresh.{same_locks, same_room, snapshot_by_split_log, prefix_by_split_log}
 use Rattle.polygraph.specs.declared.fault.PolyFault.TheVariants as poly_fault
 use Rattle.reduction.specs.Outcome.{IsReduceFault}
 use Rattle.branch_search.specs.declared.answer.Answer.TheVariants.{Unknown}
@@ -47,19 +46,10 @@ use Rattle.judging.proofs.Parts.{none_of_part}
 
 -- ---- names of locks are those of the operations alone
 pub locks_resolved : (ss : List ClientSession) → locks_of (resolved ss) ≡ locks_of ss
-unfolding locks_of
-locks_resolved ss = ap by_ops (ops_resolved ss)
-  where
-    by_ops : List Op → Locks
-    by_ops ops = record {
-      key = lock_key (most_leading ops + 1);
-      identity = λ v. largest ops + 1 + place_of (written ops) v;
-      taken = true;
-    }
+locks_resolved ss = same_locks (resolved ss) ss (ops_resolved ss)
 
 pub room_resolved : (ss : List ClientSession) → no_room (resolved ss) ≡ no_room ss
-unfolding no_room
-room_resolved ss = ap (λ ops. refusal (most_leading ops + 1) (longest ops) (largest ops) (length (written ops))) (ops_resolved ss)
+room_resolved ss = same_room (resolved ss) ss (ops_resolved ss)
 
 pub bare_resolved : (ss : List ClientSession) → judged_at Prefix (resolved ss) ≡ judged_at Prefix ss
 bare_resolved ss = ap (split_writers no_locks) (twice ss)

@@ -1,6 +1,6 @@
 -- The locks' names are new, and a log can hold them.
-use Rattle.std.proofs.Common.{◌≡◌, ℕ, zero, suc, ◌+◌, ◌≤◌, ◌<◌, ◌^◌, Bool, true, false, ◌&&◌, List, [], ◌∷◌, length, ap, sym, ◌∙◌, inl, inr, arith, subst, Option, Some, None, cond}
-use Rattle.std.specs.Prelude.{replicate, nat_lt, nat_le, ◌↔◌}
+use Rattle.std.proofs.Common.{◌≡◌, ℕ, zero, suc, ◌+◌, ◌≤◌, ◌<◌, ◌^◌, Bool, true, false, ◌&&◌, List, [], ◌∷◌, length, map, ◌⊎◌, ap, sym, ◌∙◌, inl, inr, arith, subst, Option, Some, None, cond}
+use Rattle.std.specs.Prelude.{replicate, nat_lt, nat_le, ◌↔◌, decimal}
 use Rattle.std.specs.List.{AllByRecursion, Contains, list_all}
 use Rattle.std.proofs.lemmas.Bool.{cases_Bool, and_from}
 use Rattle.std.proofs.lemmas.List.{length-append}
@@ -13,7 +13,9 @@ use Rattle.session_log.specs.declared.session.Op.TheVariants.{Read, Write}
 use Rattle.serializability.specs.Replay.{place_of}
 use Rattle.serializability.proofs.Places.{Has, Has-from_Contains, place_within}
 use Rattle.log_definitions.specs.Unknown.{ops_in, txns_in, resolved}
-use Rattle.log_definitions.specs.WellFormed.{written}
+use Rattle.log_definitions.specs.WellFormed.{written, keys_in, first_seen}
+use Rattle.log_definitions.specs.Numbers.{number_in}
+use Rattle.log_definitions.proofs.Keys.{Listed, all_listed, number_below, same_number}
 use Rattle.log_definitions.proofs.Members.{member}
 use Rattle.log_definitions.proofs.Settled.{learnt_resolved, ops_resolved}
 use Rattle.log_laws.specs.Logs.{IsLog, HasOrder}
@@ -27,9 +29,11 @@ use Rattle.level_laws.proofs.Fresh.{same_behind}
 use Rattle.level_laws.specs.Prefix.{no_locks}
 use Rattle.level_laws.proofs.Prefix.{prefix_by_split, bare_split_log}
 use Rattle.level_laws.proofs.Doubled.{same_place}
-use Rattle.splitting.specs.Locks.{leading, most_leading, longest, largest, lock_key, marks, locks_of, refusal, no_room, HasRoom}
+use Rattle.splitting.specs.Locks.{leading, most_leading, longest, largest, lock_key, marks, is_long, name_in, widest, locks_of, refusal, no_room, HasRoom}
 use Rattle.splitting.specs.Laws.{LocksAreFresh, SnapshotBySplitLog, SnapshotByResolvedSplit, PrefixBySplitLog}
+use Rattle.splitting.specs.declared.room.NoRoom.{NoRoom}
 use Rattle.splitting.proofs.Greatest.{within_greatest}
+use Rattle.splitting.proofs.Decimals.{below_tens, below_wide, fewer_digits, same_decimal, decimal_is_key}
 
 -- ---- keys
 begins : (n : ℕ) (key : List ℕ) → n ≤ leading (lock_key n key)
@@ -70,12 +74,12 @@ never_none text lock o e h is none = let yes : is_key text ≡ true = ap is_key 
     some_none e = cc
 
 -- ---- room
-pub record Room (marks longest largest writes : ℕ) : Type 0 where
-  pub keys : marks + longest ≤ 64
+pub record Room (marks widest largest writes : ℕ) : Type 0 where
+  pub keys : marks + widest ≤ 64
   pub identities : largest + writes < 2 ^ 64
 
-room_where : (m l g w : ℕ) → refusal m l g w ≡ None → Room m l g w
-room_where m l g w e = elim (cases_Bool (nat_lt 64 (m + l))) [
+room_where : (m k l g w : ℕ) → refusal m k l g w ≡ None → Room m l g w
+room_where m k l g w e = elim (cases_Bool (nat_lt 64 (m + l))) [
   | inl a ↦ absurd (some_none (rw a at e))
   | inr a ↦ elim (cases_Bool (nat_lt (g + w) (2 ^ 64))) [
     | inl b ↦ record { keys = not_below 64 (m + l) a; identities = below (g + w) (2 ^ 64) b }
@@ -92,9 +96,9 @@ room_where m l g w e = elim (cases_Bool (nat_lt 64 (m + l))) [
     below : (a b : ℕ) → nat_lt a b ≡ true → a < b
     below a b e = grind arith
 
-pub room_of : (ss : List ClientSession) → HasRoom ss → Room (marks ss) (longest (ops_in ss)) (largest (ops_in ss)) (length (written (ops_in ss)))
+pub room_of : (ss : List ClientSession) → HasRoom ss → Room (marks ss) (widest ss) (largest (ops_in ss)) (length (written (ops_in ss)))
 unfolding no_room
-room_of ss h = room_where (marks ss) (longest (ops_in ss)) (largest (ops_in ss)) (length (written (ops_in ss))) h
+room_of ss h = room_where (marks ss) (longest (ops_in ss)) (widest ss) (largest (ops_in ss)) (length (written (ops_in ss))) h
 
 -- ---- what the log has
 record WithKey (ss : List ClientSession) (key : List ℕ) : Type 0 where
@@ -110,13 +114,6 @@ fewer_begin ss key h =
     let m = with_key ss key h in
     let le = within_greatest (λ o. leading (key_of o)) (ops_in ss) m.op m.has in
     let same = ap leading m.is in
-    omega (arith, le, same)
-
-within_longest : (ss : List ClientSession) (key : List ℕ) → HasKey ss key → length key ≤ longest (ops_in ss)
-within_longest ss key h =
-    let m = with_key ss key h in
-    let le = within_greatest (λ o. length (key_of o)) (ops_in ss) m.op m.has in
-    let same = ap (length {A = ℕ}) m.is in
     omega (arith, le, same)
 
 legal_key : (o : Op) → IsLegalOp o → IsKey (key_of o)
@@ -140,18 +137,85 @@ written_within (Read key wid ∷ ops) v h = let ih = written_within ops v h in o
 written_within (Write key wid ∷ ops) v (inl e) = omega (arith, e)
 written_within (Write key wid ∷ ops) v (inr h) = let ih = written_within ops v h in omega (arith, ih)
 
+-- ---- the names of keys
+-- where they are numbers, these are few
+record IsNumbered (ss : List ClientSession) (key : List ℕ) : Type 0 where
+  pub within : number_in (keys_in ss) key + 1 ≤ length (keys_in ss)
+  pub wide : length (keys_in ss) < 10 ^ 64
+
+numbers_few : (ss : List ClientSession) → HasRoom ss → is_long ss ≡ true → length (decimal (length (keys_in ss))) < 64
+numbers_few ss room long = let r = (room_of ss room).keys in let few = rw long at r in omega (arith, few)
+
+listed : (ss : List ClientSession) (o : Op) → Contains (ops_in ss) o → Listed (keys_in ss) (key_of o)
+listed ss o c = member (λ o. Listed (keys_in ss) (key_of o)) (ops_in ss) o (all_listed ss) c
+
+listed_key : (ss : List ClientSession) (key : List ℕ) → HasKey ss key → Listed (keys_in ss) key
+listed_key ss key h = let m = with_key ss key h in subst (Listed (keys_in ss)) m.is (listed ss m.op m.has)
+
+is_numbered : (ss : List ClientSession) → HasRoom ss → is_long ss ≡ true → (key : List ℕ) → Listed (keys_in ss) key → IsNumbered ss key
+is_numbered ss room long key h = record {
+  within = (let lt = number_below (keys_in ss) key h in omega (arith, lt));
+  wide = (let few = numbers_few ss room long in below_wide 63 (length (keys_in ss)) (omega arith) (below_tens 63 (length (keys_in ss)) (omega arith) (omega (arith, few))));
+}
+
+-- the lock of a key of the log has no more bytes than a key may have
+pub name_within : (ss : List ClientSession) → HasRoom ss → (o : Op) → Contains (ops_in ss) o → marks ss + length (name_in ss (key_of o)) ≤ 64
+name_within ss room o c = go (cases_Bool (is_long ss))
+  where
+    go : (is_long ss ≡ true) ⊎ (is_long ss ≡ false) → marks ss + length (name_in ss (key_of o)) ≤ 64
+    go (inl long) =
+        let r = (room_of ss room).keys in
+        let few = rw long at r in
+        let le = fewer_digits (number_in (keys_in ss) (key_of o) + 1) (length (keys_in ss)) (omega arith) (is_numbered ss room long (key_of o) (listed ss o c)).within (numbers_few ss room long) in
+        rw long (omega (arith, few, le))
+    go (inr short) =
+        let r = (room_of ss room).keys in
+        let few = rw short at r in
+        let le = within_greatest (λ p. length (key_of p)) (ops_in ss) o c in
+        rw short (omega (arith, few, le))
+
+one_name : (ss : List ClientSession) → HasRoom ss → (a b : List ℕ) → HasKey ss a → HasKey ss b → name_in ss a ≡ name_in ss b → a ≡ b
+one_name ss room a b h k e = go (cases_Bool (is_long ss))
+  where
+    go : (is_long ss ≡ true) ⊎ (is_long ss ≡ false) → a ≡ b
+    go (inl long) =
+        let same : decimal (number_in (keys_in ss) a + 1) ≡ decimal (number_in (keys_in ss) b + 1) = rw long at e in
+        let l = listed_key ss a h in
+        let p = is_numbered ss room long a l in
+        let q = is_numbered ss room long b (listed_key ss b k) in
+        let x = p.within in
+        let y = q.within in
+        let w = p.wide in
+        let numbers = same_decimal (number_in (keys_in ss) a + 1) (number_in (keys_in ss) b + 1) (omega (arith, x, w)) (omega (arith, y, w)) same in
+        same_number (keys_in ss) a b l (omega (arith, numbers))
+    go (inr short) = rw short at e
+
+name_is_key : (ss : List ClientSession) → AllByRecursion IsLegal ss → HasRoom ss → (key : List ℕ) → HasKey ss key → IsKey (name_in ss key)
+name_is_key ss legal room key h = go (cases_Bool (is_long ss))
+  where
+    go : (is_long ss ≡ true) ⊎ (is_long ss ≡ false) → IsKey (name_in ss key)
+    go (inl long) =
+        let p = is_numbered ss room long key (listed_key ss key h) in
+        let x = p.within in
+        let w = p.wide in
+        let le = fewer_digits (number_in (keys_in ss) key + 1) (length (keys_in ss)) (omega arith) p.within (numbers_few ss room long) in
+        let few = numbers_few ss room long in
+        rw long (decimal_is_key (number_in (keys_in ss) key + 1) (omega (arith, x, w)) (omega (arith, le, few)))
+    go (inr short) = rw short (is_key_of ss legal key h)
+
 -- ---- the laws
 pub locks_are_fresh : LocksAreFresh
 unfolding locks_of
 locks_are_fresh ss legal sound room = (
   record {
-    new_key = λ a b h k e. (let le = begins (marks ss) a in let few = fewer_begin ss b k in let same = ap leading e in omega (arith, le, few, same));
-    one_key = λ a b h k e. lock_same (marks ss) a b e;
+    new_key = λ a b h k e. (let le = begins (marks ss) (name_in ss a) in let few = fewer_begin ss b k in let same = ap leading e in omega (arith, le, few, same));
+    one_key = λ a b h k e. one_name ss room a b h k (lock_same (marks ss) (name_in ss a) (name_in ss b) e);
     new_identity = λ v w h k e. (let le = written_within (ops_in ss) w (Has-from_Contains (written (ops_in ss)) w k) in omega (arith, le, e));
     one_identity = λ v w h k e. same_place (written (ops_in ss)) v w (Has-from_Contains (written (ops_in ss)) v h) (Has-from_Contains (written (ops_in ss)) w k) (omega (arith, e));
   },
   record {
-    key = λ a h. lock_is_key (marks ss) a (is_key_of ss legal a h) (let le = within_longest ss a h in let r = (room_of ss room).keys in omega (arith, le, r));
+    key = λ a h. lock_is_key (marks ss) (name_in ss a) (name_is_key ss legal room a h)
+        (let m = with_key ss a h in subst (λ k. marks ss + length (name_in ss k) ≤ 64) m.is (name_within ss room m.op m.has));
     identity = λ v h. (let lt = place_within (written (ops_in ss)) v (Has-from_Contains (written (ops_in ss)) v h) in let r = (room_of ss room).identities in (omega arith, omega (arith, lt, r)));
   },
 )
@@ -164,13 +228,27 @@ snapshot_by_split_log ss log room =
     ((split_is_log ss (locks_of ss) log names.0 names.1).1, subst (λ l. (HasSnapshotOrder ss ↔ HasOrder (split_writers (locks_of ss) l))) same (snapshot_by_writers ss (locks_of ss) log.sound names.0))
 
 -- ---- where outcomes are unknown: the names are those of the operations alone
-same_locks : (a b : List ClientSession) → ops_in a ≡ ops_in b → locks_of a ≡ locks_of b
-unfolding locks_of
-same_locks a b e = ap (λ ops. record { key = lock_key (most_leading ops + 1); identity = λ v. largest ops + 1 + place_of (written ops) v; taken = true }) e
+same_keys : (a b : List ClientSession) → ops_in a ≡ ops_in b → keys_in a ≡ keys_in b
+unfolding keys_in
+same_keys a b e = ap (λ (ops : List Op). first_seen [] (map key_of ops)) e
 
-same_room : (a b : List ClientSession) → ops_in a ≡ ops_in b → no_room a ≡ no_room b
+pub same_locks : (a b : List ClientSession) → ops_in a ≡ ops_in b → locks_of a ≡ locks_of b
+unfolding locks_of
+same_locks a b e = ap (by_ops (keys_in a)) e ∙ ap (λ keys. by_ops keys (ops_in b)) (same_keys a b e)
+  where
+    by_ops : List (List ℕ) → List Op → Locks
+    by_ops keys ops = record {
+      key = λ key. lock_key (most_leading ops + 1) (cond (nat_lt 64 (most_leading ops + 1 + longest ops)) (decimal (number_in keys key + 1)) key);
+      identity = λ v. largest ops + 1 + place_of (written ops) v;
+      taken = true;
+    }
+
+pub same_room : (a b : List ClientSession) → ops_in a ≡ ops_in b → no_room a ≡ no_room b
 unfolding no_room
-same_room a b e = ap (λ ops. refusal (most_leading ops + 1) (longest ops) (largest ops) (length (written ops))) e
+same_room a b e = ap (by_ops (keys_in a)) e ∙ ap (λ keys. by_ops keys (ops_in b)) (same_keys a b e)
+  where
+    by_ops : List (List ℕ) → List Op → Option NoRoom
+    by_ops keys ops = refusal (most_leading ops + 1) (longest ops) (cond (nat_lt 64 (most_leading ops + 1 + longest ops)) (length (decimal (length keys))) (longest ops)) (largest ops) (length (written ops))
 
 pub snapshot_by_resolved_split : SnapshotByResolvedSplit
 unfolding locks_of

@@ -1,4 +1,6 @@
 pub mod Greatest
+pub mod Decimals
+pub mod KeyNumbers
 pub mod Fresh
 pub mod Keys
 pub mod Steps

@@ -1,20 +1,26 @@
 -- The whole log.
-use Rattle.std.proofs.Common.{◌≡◌, ℕ, ◌+◌, ◌≤◌, List, [], ◌∷◌, ◌++◌, length, refl, sym, ap, ◌∙◌, inl, arith, subst, append_assoc}
-use Rattle.std.specs.Prelude.{nat_eq}
+use Rattle.std.proofs.Common.{◌≡◌, ℕ, ◌+◌, ◌≤◌, Bool, true, false, cond, List, [], ◌∷◌, ◌++◌, length, refl, sym, ap, ◌∙◌, inl, arith, subst, append_assoc, Option, Some, None}
+use Rattle.std.specs.Prelude.{nat_eq, nat_lt, decimal}
 use Rattle.std.specs.List.{IsDistinct}
+use Rattle.std.specs.Option.{option_map_or}
 use Rattle.std.proofs.lemmas.List.{length-append}
 use Rattle.session_log.specs.Text.{ClientSession, key_of}
 use Rattle.serializability.specs.Replay.{place_of}
 use Rattle.serializability.proofs.Places.{Has, Apart, Apart-from_IsDistinct, Apart-not_both, place_of-back, place_of-here}
 use Rattle.log_definitions.specs.Unknown.{ops_in}
-use Rattle.log_definitions.specs.WellFormed.{written}
+use Rattle.log_definitions.specs.WellFormed.{written, keys_in}
+use Rattle.log_definitions.specs.Numbers.{number_in}
 use Rattle.log_definitions.proofs.Members.{each_member}
 use Rattle.level_laws.specs.Split.{Locks}
-use Rattle.splitting.specs.Locks.{longest, largest, marks, locks_of, refusal, no_room, HasRoom}
+use Rattle.splitting.specs.Locks.{longest, largest, marks, is_long, name_in, widest, lock_key, locks_of, refusal, no_room, HasRoom}
+use Rattle.splitting.specs.Names.{number_by, name_by, NumbersWhere}
 use Rattle.splitting.specs.Room.{Finds, Fit, GiveBehind, AreNamed}
+use Rattle.splitting.specs.declared.numbers.KeyNumbers.{KeyNumbers}
+use Rattle.splitting.specs.declared.names.Names.{Names}
 use Rattle.splitting.specs.declared.survey.Survey.{Survey}
-use Rattle.splitting.proofs.Greatest.{base, marks_are, within_greatest}
-use Rattle.splitting.proofs.Fresh.{room_of}
+use Rattle.splitting.proofs.Greatest.{base, marks_are}
+use Rattle.splitting.proofs.KeyNumbers.{number_is}
+use Rattle.splitting.proofs.Fresh.{room_of, name_within}
 
 -- ---- what was found is what the definitions say
 record IsSurvey (ss : List ClientSession) (s : Survey) : Type 0 where
@@ -31,21 +37,50 @@ is_survey ss s f = record {
   writes = (let e = f.writes in omega (arith, e));
 }
 
-pub refusal_is : (ss : List ClientSession) (s : Survey) → Finds base (ops_in ss) s → refusal s.marks s.longest s.largest s.writes ≡ no_room ss
-unfolding no_room
-refusal_is ss s f =
-    let is = is_survey ss s f in
-    ap (λ m. refusal m s.longest s.largest s.writes) is.marks
-    ∙ ap (λ l. refusal (marks ss) l s.largest s.writes) is.longest
-    ∙ ap (λ l. refusal (marks ss) (longest (ops_in ss)) l s.writes) is.largest
-    ∙ ap (λ l. refusal (marks ss) (longest (ops_in ss)) (largest (ops_in ss)) l) is.writes
+-- ---- so are the names
+pub name_is : (ss : List ClientSession) (names : Names) → NumbersWhere (is_long ss) (keys_in ss) names.numbers → (key : List ℕ) → name_by names key ≡ name_in ss key
+name_is ss names h key = go (is_long ss) names.numbers h
+  where
+    go : (long : Bool) (o : Option KeyNumbers) → NumbersWhere long (keys_in ss) o → option_map_or (λ n. decimal (number_by n key)) o key ≡ cond long (decimal (number_in (keys_in ss) key + 1)) key
+    go true (Some numbers) h = ap decimal (number_is (keys_in ss) numbers h key)
+    go true None h = absurd h
+    go false (Some numbers) h = absurd h
+    go false None h = refl
 
-pub fit_of : (ss : List ClientSession) (s : Survey) → Finds base (ops_in ss) s → HasRoom ss → Fit s.marks s.largest (ops_in ss)
-fit_of ss s f room =
+-- what the names of the log are, and what is known of their widest
+pub record AreNames (ss : List ClientSession) (names : Names) : Type 0 where
+  pub marks : names.marks ≡ marks ss
+  pub numbers : NumbersWhere (is_long ss) (keys_in ss) names.numbers
+
+pub names_are : (ss : List ClientSession) (s : Survey) (names : Names) → Finds base (ops_in ss) s → names.marks ≡ s.marks → NumbersWhere (nat_lt 64 (s.marks + s.longest)) (keys_in ss) names.numbers → AreNames ss names
+names_are ss s names f same h =
+    let is = is_survey ss s f in
+    record {
+      marks = same ∙ is.marks;
+      numbers = subst (λ l. NumbersWhere (nat_lt 64 (marks ss + l)) (keys_in ss) names.numbers) is.longest (subst (λ m. NumbersWhere (nat_lt 64 (m + s.longest)) (keys_in ss) names.numbers) is.marks h);
+    }
+
+pub widest_is : (ss : List ClientSession) (s : Survey) (names : Names) (n : ℕ) → Finds base (ops_in ss) s → AreNames ss names
+    → ((long : Bool) (keys : List (List ℕ)) → NumbersWhere long keys names.numbers → n ≡ cond long (length (decimal (length keys))) s.longest) → n ≡ widest ss
+widest_is ss s names n f are h = h (is_long ss) (keys_in ss) are.numbers ∙ ap (λ l. cond (is_long ss) (length (decimal (length (keys_in ss)))) l) (is_survey ss s f).longest
+
+pub refusal_is : (ss : List ClientSession) (s : Survey) (n : ℕ) → Finds base (ops_in ss) s → n ≡ widest ss → refusal s.marks s.longest n s.largest s.writes ≡ no_room ss
+unfolding no_room
+refusal_is ss s n f wide =
+    let is = is_survey ss s f in
+    ap (λ m. refusal m s.longest n s.largest s.writes) is.marks
+    ∙ ap (λ l. refusal (marks ss) l n s.largest s.writes) is.longest
+    ∙ ap (λ w. refusal (marks ss) (longest (ops_in ss)) w s.largest s.writes) wide
+    ∙ ap (λ l. refusal (marks ss) (longest (ops_in ss)) (widest ss) l s.writes) is.largest
+    ∙ ap (λ l. refusal (marks ss) (longest (ops_in ss)) (widest ss) (largest (ops_in ss)) l) is.writes
+
+pub fit_of : (ss : List ClientSession) (s : Survey) (names : Names) → Finds base (ops_in ss) s → AreNames ss names → HasRoom ss → Fit names s.largest (ops_in ss)
+fit_of ss s names f are room =
     let is = is_survey ss s f in
     let has = room_of ss room in
     record {
-      keys = each_member (λ o. s.marks + length (key_of o) ≤ 64) (ops_in ss) (λ o c. (let le = within_greatest (λ p. length (key_of p)) (ops_in ss) o c in let m = is.marks in let k = has.keys in omega (arith, le, m, k)));
+      keys = each_member (λ o. names.marks + length (name_by names (key_of o)) ≤ 64) (ops_in ss)
+          (λ o c. (let le = name_within ss room o c in let m = are.marks in let same = ap (length {A = ℕ}) (name_is ss names are.numbers (key_of o)) in omega (arith, le, m, same)));
       identities = (let g = is.largest in let k = has.identities in omega (arith, g, k));
     }
 
@@ -67,16 +102,13 @@ gives locks first all is apart front (w ∷ ws) e = (
       ),
 )
 
-pub named_of : (ss : List ClientSession) (s : Survey) → Finds base (ops_in ss) s → IsDistinct nat_eq (written (ops_in ss)) → AreNamed (locks_of ss) s.marks s.largest (ops_in ss)
+pub named_of : (ss : List ClientSession) (s : Survey) (names : Names) → Finds base (ops_in ss) s → AreNames ss names → IsDistinct nat_eq (written (ops_in ss)) → AreNamed (locks_of ss) names s.largest (ops_in ss)
 unfolding locks_of
-named_of ss s f distinct =
-    let is = is_survey ss s f in
-    let named : AreNamed (locks_of ss) (marks ss) (largest (ops_in ss)) (ops_in ss) = record {
-      keys = λ key. refl;
-      identities = (
-          let none : largest (ops_in ss) + 0 ≡ largest (ops_in ss) = omega arith in
-          subst (λ n. GiveBehind (locks_of ss) n (written (ops_in ss))) none (gives (locks_of ss) (largest (ops_in ss)) (written (ops_in ss)) (λ v. refl) (Apart-from_IsDistinct (written (ops_in ss)) distinct) [] (written (ops_in ss)) refl)
-          );
-      taken = refl;
-    } in
-    subst (λ m. AreNamed (locks_of ss) m s.largest (ops_in ss)) (sym is.marks) (subst (λ l. AreNamed (locks_of ss) (marks ss) l (ops_in ss)) (sym is.largest) named)
+named_of ss s names f are distinct = record {
+  keys = λ key. (ap (λ m. lock_key m (name_in ss key)) (sym are.marks) ∙ ap (lock_key names.marks) (sym (name_is ss names are.numbers key)));
+  identities = (
+      let none : largest (ops_in ss) + 0 ≡ s.largest = (let l = (is_survey ss s f).largest in omega (arith, l)) in
+      subst (λ n. GiveBehind (locks_of ss) n (written (ops_in ss))) none (gives (locks_of ss) (largest (ops_in ss)) (written (ops_in ss)) (λ v. refl) (Apart-from_IsDistinct (written (ops_in ss)) distinct) [] (written (ops_in ss)) refl)
+      );
+  taken = refl;
+}

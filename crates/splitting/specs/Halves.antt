@@ -11,6 +11,7 @@ use Rattle.level_laws.specs.Split.{Locks, locked_writes, first_writes_behind, ta
 use Rattle.level_laws.specs.Split.{split_txn, is_writer}
 use Rattle.splitting.specs.Room.{AreNamed}
 use Rattle.splitting.specs.declared.halves.Halves.{Halves}
+use Rattle.splitting.specs.declared.names.Names.{Names}
 use denote.Ref.{Bor}
 
 -- what a transaction is split into: the reads from its snapshot, the writes that take locks, the
@@ -51,10 +52,11 @@ abbrev pub has : BTreeSet (Bor (List ℕ)) → List ℕ → Bool
 has keys key = contains_by (λ k. slice_cmp nat_cmp key k.now) keys
 
 -- the operations come to what there is and what those that are left come to
-pub record ComesTo (marks last : ℕ) (ops : List Op) (h : Halves) (left : List Op) : Type 0 where
+pub record ComesTo (names : Names) (last : ℕ) (ops : List Op) (h : Halves)
+    (left : List Op) : Type 0 where
   pub before : List (List ℕ)
   pub written : (key : List ℕ) → has h.written key ≡ is_in before key
-  pub lists : (locks : Locks) → AreNamed locks marks last ops
+  pub lists : (locks : Locks) → AreNamed locks names last ops
       → with_behind locks before (lists_in h) left ≡ lists_of locks ops
 
 -- the operations of transactions

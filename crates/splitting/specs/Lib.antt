@@ -1,4 +1,5 @@
 pub mod Locks
+pub mod Names
 pub mod Room
 pub mod Halves
 pub mod Sides

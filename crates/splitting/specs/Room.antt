@@ -5,7 +5,9 @@ use Rattle.session_log.specs.declared.session.Op.{Op}
 use Rattle.log_definitions.specs.WellFormed.{written}
 use Rattle.session_log.specs.Text.{key_of}
 use Rattle.level_laws.specs.Split.{Locks}
-use Rattle.splitting.specs.Locks.{lock_key, most_marks, longest, largest}
+use Rattle.splitting.specs.Locks.{most_marks, longest, largest}
+use Rattle.splitting.specs.Names.{name_by, lock_by}
+use Rattle.splitting.specs.declared.names.Names.{Names}
 use Rattle.splitting.specs.declared.survey.Survey.{Survey}
 
 -- what there was, and what these operations add to it
@@ -15,9 +17,9 @@ pub record Finds (old : Survey) (ops : List Op) (new : Survey) : Type 0 where
   pub largest : new.largest ≡ max old.largest (largest ops)
   pub writes : new.writes ≡ old.writes + length (written ops)
 
--- Locks with so many underscores are keys, and so many identities are left above the last one.
-pub record Fit (marks last : ℕ) (ops : List Op) : Type 0 where
-  pub keys : AllByRecursion (λ o. marks + length (key_of o) ≤ 64) ops
+-- Locks with these names are keys, and so many identities are left above the last one.
+pub record Fit (names : Names) (last : ℕ) (ops : List Op) : Type 0 where
+  pub keys : AllByRecursion (λ o. names.marks + length (name_by names (key_of o)) ≤ 64) ops
   pub identities : last + length (written ops) < 2 ^ 64
 
 -- these writes give the identities behind this one, in their order
@@ -26,8 +28,8 @@ GiveBehind locks last [] = Unit {0}
 GiveBehind locks last (wid ∷ wids) = (locks.identity wid ≡ last + 1)
     × GiveBehind locks (last + 1) wids
 
--- so the locks of these operations are named, with so many underscores
-pub record AreNamed (locks : Locks) (marks last : ℕ) (ops : List Op) : Type 0 where
-  pub keys : (key : List ℕ) → locks.key key ≡ lock_key marks key
+-- so the locks of these operations are named
+pub record AreNamed (locks : Locks) (names : Names) (last : ℕ) (ops : List Op) : Type 0 where
+  pub keys : (key : List ℕ) → locks.key key ≡ lock_by names key
   pub identities : GiveBehind locks last (written ops)
   pub taken : IsTrue locks.taken

@@ -5,11 +5,12 @@ ghost use Rattle.session_log.specs.Text.{view_txn};
 ghost use Rattle.session_log.specs.declared.session.Op.{Op as OpValue};
 ghost use Rattle.session_log.specs.declared.session.Op.TheVariants as op;
 ghost use Rattle.level_laws.specs.Split.{Locks, split_txn};
-ghost use Rattle.splitting.specs.Locks.{lock_key};
+ghost use Rattle.splitting.specs.Names.{name_by, lock_by};
 ghost use Rattle.splitting.specs.Room.{Fit, AreNamed};
 ghost use Rattle.splitting.specs.Halves.{ComesTo, lists_in};
+ghost use Rattle.splitting.specs.declared.names.Names.{Names as NamesValue};
 
-use crate::names::lock_key;
+use crate::names::Names;
 use session_log::{Key, Op, Txn};
 use std::alloc::{AllocError, Global};
 use std::collections::BTreeSet;
@@ -32,7 +33,8 @@ pub struct Halves<'a> {
 impl<'a> Halves<'a> {
     /// Of no operations.
     fn empty(alloc: Global) -> Halves<'a>
-        ensures { (marks last : ℕ) (ops : List OpValue) → ComesTo marks last ops result ops }
+        ensures { (names : NamesValue) (last : ℕ) (ops : List OpValue)
+            → ComesTo names last ops result ops }
     {
         Halves {
             written: BTreeSet::new(alloc),
@@ -44,9 +46,9 @@ impl<'a> Halves<'a> {
     }
 
     fn add_read(&mut self, alloc: Global, key: &'a Key, wid: u64) -> Result<(), AllocError>
-        ensures { OnOk result ((marks last : ℕ) (ops behind : List OpValue)
-            → ComesTo marks last ops self.old (op.Read key.now wid ∷ behind)
-            → ComesTo marks last ops self.new behind) }
+        ensures { OnOk result ((names : NamesValue) (last : ℕ) (ops behind : List OpValue)
+            → ComesTo names last ops self.old (op.Read key.now wid ∷ behind)
+            → ComesTo names last ops self.new behind) }
     {
         let read = Op::Read {
             key: key.to_owned_key(alloc)?,
@@ -64,19 +66,19 @@ impl<'a> Halves<'a> {
     fn add_lock(
         &mut self,
         alloc: Global,
-        marks: usize,
-        key: &Key,
+        names: &Names<'a>,
+        key: &'a Key,
         taken_as: u64,
     ) -> Result<(), AllocError>
-        requires { marks + length key.now ≤ 64 }
+        requires { names.now.marks + length (name_by names.now key.now) ≤ 64 }
         ensures written { self.new.written ≡ self.old.written }
-        ensures lists { let lock = lock_key marks key.now in
+        ensures lists { let lock = lock_by names.now key.now in
             OnOk result (lists_in self.new ≡ record (lists_in self.old) {
               takes = self.old.takes.items ++ op.Write lock taken_as ∷ [];
               finds = self.old.finds.items ++ op.Read lock taken_as ∷ [];
             }) }
     {
-        let lock = lock_key(alloc, marks, key)?;
+        let lock = names.lock(alloc, key)?;
         self.finds.push(Op::Read {
             key: lock.to_owned_key(alloc)?,
             wid: taken_as,
@@ -93,31 +95,37 @@ impl<'a> Halves<'a> {
     fn add_write(
         &mut self,
         alloc: Global,
-        marks: usize,
+        names: &Names<'a>,
         key: &'a Key,
         wid: u64,
         taken_as: u64,
     ) -> Result<(), AllocError>
-        requires { marks + length key.now ≤ 64 }
+        requires { names.now.marks + length (name_by names.now key.now) ≤ 64 }
         ensures { OnOk result ((last : ℕ) (ops behind : List OpValue)
-            → ((locks : Locks) → AreNamed locks marks last ops → locks.identity wid ≡ taken_as)
-            → ComesTo marks last ops self.old (op.Write key.now wid ∷ behind)
-            → ComesTo marks last ops self.new behind) }
+            → ((locks : Locks) → AreNamed locks names.now last ops
+            → locks.identity wid ≡ taken_as)
+            → ComesTo names.now last ops self.old (op.Write key.now wid ∷ behind)
+            → ComesTo names.now last ops self.new behind) }
     {
         self.rest.push(Op::Write {
             key: key.to_owned_key(alloc)?,
             wid,
         })?;
         if self.written.insert(key)? {
-            self.add_lock(alloc, marks, key, taken_as)?;
+            self.add_lock(alloc, names, key, taken_as)?;
         }
         Ok(())
     }
 
     /// Of these operations, whose writes give the identities behind this one.
-    fn of(alloc: Global, marks: usize, last: u64, ops: &'a [Op]) -> Result<Halves<'a>, AllocError>
-        requires { Fit marks last ops.now }
-        ensures { IfOk result (λ h. ComesTo marks last ops.now h []) }
+    fn of(
+        alloc: Global,
+        names: &Names<'a>,
+        last: u64,
+        ops: &'a [Op],
+    ) -> Result<Halves<'a>, AllocError>
+        requires { Fit names.now last ops.now }
+        ensures { IfOk result (λ h. ComesTo names.now last ops.now h []) }
     {
         let mut halves = Halves::empty(alloc);
         let mut taken_as = last;
@@ -126,7 +134,7 @@ impl<'a> Halves<'a> {
                 Op::Read { key, wid } => halves.add_read(alloc, key, *wid)?,
                 Op::Write { key, wid } => {
                     taken_as += 1;
-                    halves.add_write(alloc, marks, key, *wid, taken_as)?;
+                    halves.add_write(alloc, names, key, *wid, taken_as)?;
                 }
             }
         }
@@ -163,14 +171,14 @@ pub fn both_halves(txn: &Txn, start: Vec<Op>, end: Vec<Op>) -> (Txn, Txn)
 
 /// The two transactions that a transaction is split into, whose writes give the identities behind
 /// this one.
-pub fn split_txn(
+pub fn split_txn<'a>(
     alloc: Global,
-    marks: usize,
+    names: &Names<'a>,
     last: u64,
-    txn: &Txn,
+    txn: &'a Txn,
 ) -> Result<(Txn, Txn), AllocError>
-    requires { Fit marks last txn.now.ops.items }
-    ensures { IfOk result (λ both. (locks : Locks) → AreNamed locks marks last txn.now.ops.items
+    requires { Fit names.now last txn.now.ops.items }
+    ensures { IfOk result (λ both. (locks : Locks) → AreNamed locks names.now last txn.now.ops.items
         → view_txn both.0 ∷ view_txn both.1 ∷ [] ≡ split_txn locks (view_txn txn.now)) }
 {
     let Halves {
@@ -179,7 +187,7 @@ pub fn split_txn(
         mut takes,
         mut finds,
         mut rest,
-    } = Halves::of(alloc, marks, last, &txn.ops)?;
+    } = Halves::of(alloc, names, last, &txn.ops)?;
     reads.append(&mut takes)?;
     finds.append(&mut rest)?;
     Ok(both_halves(txn, reads, finds))

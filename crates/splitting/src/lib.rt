@@ -11,6 +11,7 @@ mod halves;
 pub mod laws;
 mod log;
 mod names;
+mod numbers;
 mod room;
 mod survey;
 

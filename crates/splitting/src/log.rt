@@ -12,13 +12,11 @@ ghost use Rattle.splitting.specs.Room.{Fit, AreNamed};
 ghost use Rattle.splitting.specs.Halves.{parts, ops_by};
 
 use crate::halves::split_txn;
+use crate::names::Names;
 use crate::room::NoRoom;
-use crate::survey::Survey;
+use crate::survey::{MOST_BYTES, Survey};
 use session_log::{Op, Session, Txn};
 use std::alloc::{AllocError, Global};
-
-/// The most bytes of a key.
-const MOST_BYTES: usize = 64;
 
 fn any_write(ops: &[Op]) -> bool
     ensures { result ≡ list_any is_write ops.now }
@@ -80,20 +78,20 @@ pub fn copy_txn(alloc: Global, txn: &Txn) -> Result<Txn, AllocError>
 }
 
 /// Adds what stands for a transaction in the split log.
-fn add_txn(
+fn add_txn<'a>(
     alloc: Global,
-    marks: usize,
+    names: &Names<'a>,
     last: u64,
-    txn: &Txn,
+    txn: &'a Txn,
     txns: &mut Vec<Txn>,
 ) -> Result<(), AllocError>
-    requires { Fit marks last txn.now.ops.items }
-    ensures { OnOk result ((locks : Locks) → AreNamed locks marks last txn.now.ops.items
+    requires { Fit names.now last txn.now.ops.items }
+    ensures { OnOk result ((locks : Locks) → AreNamed locks names.now last txn.now.ops.items
         → map view_txn txns.new.items
         ≡ map view_txn txns.old.items ++ parts locks (view_txn txn.now)) }
 {
     if is_writer(txn) {
-        let (start, end) = split_txn(alloc, marks, last, txn)?;
+        let (start, end) = split_txn(alloc, names, last, txn)?;
         txns.push(start)?;
         txns.push(end)?;
     } else {
@@ -103,43 +101,43 @@ fn add_txn(
 }
 
 /// The transactions of a session of the split log.
-fn split_txns(
+fn split_txns<'a>(
     alloc: Global,
-    marks: usize,
+    names: &Names<'a>,
     last: u64,
-    txns: &[Txn],
+    txns: &'a [Txn],
 ) -> Result<(Vec<Txn>, u64), AllocError>
-    requires { Fit marks last (ops_by (map view_txn txns.now)) }
+    requires { Fit names.now last (ops_by (map view_txn txns.now)) }
     ensures { IfOk result (λ split. let ops = ops_by (map view_txn txns.now) in
         (split.1 ≡ last + length (written ops))
-        × ((locks : Locks) → AreNamed locks marks last ops
+        × ((locks : Locks) → AreNamed locks names.now last ops
         → map view_txn split.0.items ≡ flat_map (parts locks) (map view_txn txns.now))) }
 {
     let mut split = Vec::with_capacity(alloc, txns.len())?;
     let mut last = last;
     for txn in txns {
-        add_txn(alloc, marks, last, txn, &mut split)?;
+        add_txn(alloc, names, last, txn, &mut split)?;
         last = last_behind(last, &txn.ops);
     }
     Ok((split, last))
 }
 
 /// The sessions of the split log.
-fn split_sessions(
+fn split_sessions<'a>(
     alloc: Global,
-    marks: usize,
+    names: &Names<'a>,
     last: u64,
-    sessions: &[Session],
+    sessions: &'a [Session],
 ) -> Result<Vec<Session>, AllocError>
-    requires { Fit marks last (ops_in (map view sessions.now)) }
+    requires { Fit names.now last (ops_in (map view sessions.now)) }
     ensures { IfOk result (λ split. (locks : Locks)
-        → AreNamed locks marks last (ops_in (map view sessions.now))
+        → AreNamed locks names.now last (ops_in (map view sessions.now))
         → map view split.items ≡ split_writers locks (map view sessions.now)) }
 {
     let mut split = Vec::with_capacity(alloc, sessions.len())?;
     let mut last = last;
     for session in sessions {
-        let (txns, behind) = split_txns(alloc, marks, last, &session.txns)?;
+        let (txns, behind) = split_txns(alloc, names, last, &session.txns)?;
         split.push(Session {
             number: session.number,
             txns,
@@ -149,11 +147,12 @@ fn split_sessions(
     Ok(split)
 }
 
-/// Why the locks of a log that has this cannot be named.
-fn refusal(survey: Survey) -> Option<NoRoom>
-    ensures { result ≡ refusal survey.marks survey.longest survey.largest survey.writes }
+/// Why the locks of a log that has this, where the longest name of a key has so many bytes, cannot be
+/// named.
+fn refusal(survey: Survey, widest: usize) -> Option<NoRoom>
+    ensures { result ≡ refusal survey.marks survey.longest widest survey.largest survey.writes }
 {
-    if survey.marks.saturating_add(survey.longest) > MOST_BYTES {
+    if survey.marks.saturating_add(widest) > MOST_BYTES {
         return Some(NoRoom::Keys {
             longest: survey.longest,
             marks: survey.marks,
@@ -183,11 +182,10 @@ pub fn split(
         (λ refused. no_room ss ≡ Some refused)) }
 {
     let survey = Survey::of(sessions)?;
-    match refusal(survey) {
-        Some(refused) => Ok(Err(refused)),
-        None => {
-            let split = split_sessions(alloc, survey.marks, survey.largest, sessions)?;
-            Ok(Ok(split))
-        }
+    let names = Names::of(alloc, survey, sessions)?;
+    if let Some(refused) = refusal(survey, names.widest(survey.longest)) {
+        return Ok(Err(refused));
     }
+    let split = split_sessions(alloc, &names, survey.largest, sessions)?;
+    Ok(Ok(split))
 }

@@ -1,6 +1,6 @@
 //! What the names of locks have to keep clear of.
 
-ghost use Rattle.std.specs.Prelude.{◌≡◌, ◌∷◌, ◌+◌, ◌≤◌, [], IfOk, OnOk, map, max, length};
+ghost use Rattle.std.specs.Prelude.{◌≡◌, ◌∷◌, ◌+◌, ◌≤◌, [], IfOk, OnOk, map, max, length, nat_lt};
 ghost use Rattle.std.specs.List.{flat_map};
 ghost use Rattle.session_log.specs.Text.{view, view_txn};
 ghost use Rattle.log_definitions.specs.Unknown.{ops_in};
@@ -9,6 +9,9 @@ ghost use Rattle.splitting.specs.Room.{Finds};
 
 use session_log::{Key, Op, Session, Txn};
 use std::alloc::AllocError;
+
+/// The most bytes of a key.
+pub const MOST_BYTES: usize = 64;
 
 /// What the operations of a log have.
 #[derive(Clone, Copy)]
@@ -101,5 +104,12 @@ impl Survey {
             survey.add_txns(&session.txns)?;
         }
         Ok(survey)
+    }
+
+    /// Whether some key has no room behind the underscores.
+    pub fn is_long(self) -> bool
+        ensures { result ≡ nat_lt 64 (self.marks + self.longest) }
+    {
+        self.marks.saturating_add(self.longest) > MOST_BYTES
     }
 }

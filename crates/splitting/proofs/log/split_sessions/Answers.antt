@@ -15,7 +15,7 @@ use Rattle.splitting.proofs.log.split_sessions.Goals as goal
 
 pub split_txns-requires : goal.split_txns-requires
 split_txns-requires c =
-    let m = c.args.marks in
+    let m = c.args.names.now in
     let s = view c.session-item.result in
     let next = map view (drop (c.loop-session.session-index + 1) c.args.sessions.now) in
     let left = mapped_left view c.args.sessions.now c.loop-session.session-index c.session-item.result c.loop-session-test.true c.session-item.is in
@@ -25,7 +25,7 @@ split_txns-requires c =
 
 pub loop-session-preserved : goal.loop-session-preserved
 loop-session-preserved c =
-    let m = c.args.marks in
+    let m = c.args.names.now in
     let s = view c.session-item.result in
     let last = c.loop-session.last in
     let next = map view (drop (c.loop-session.session-index + 1) c.args.sessions.now) in

@@ -11,14 +11,14 @@ use Rattle.splitting.proofs.log.split_txns.Goals as goal
 
 pub add_txn-requires : goal.add_txn-requires
 add_txn-requires c =
-    let m = c.args.marks in
+    let m = c.args.names.now in
     let next = map view_txn (drop (c.loop-txn.txn-index + 1) c.args.txns.now) in
     let whole = ap ops_by (mapped_left view_txn c.args.txns.now c.loop-txn.txn-index c.txn-item.result c.loop-txn-test.true c.txn-item.is) in
     fit_front m c.loop-txn.last c.txn-item.result.ops.items (ops_by next) (subst (Fit m c.loop-txn.last) whole c.loop-txn.invariant.0)
 
 pub last_behind-last-requires : goal.last_behind-last-requires
 last_behind-last-requires c =
-    let m = c.args.marks in
+    let m = c.args.names.now in
     let next = map view_txn (drop (c.loop-txn.txn-index + 1) c.args.txns.now) in
     let whole = ap ops_by (mapped_left view_txn c.args.txns.now c.loop-txn.txn-index c.txn-item.result c.loop-txn-test.true c.txn-item.is) in
     subst (λ l. c.loop-txn.last + length (written l) < 2 ^ 64) (sym c.deref.ensures.value)
@@ -26,7 +26,7 @@ last_behind-last-requires c =
 
 pub loop-txn-preserved : goal.loop-txn-preserved
 loop-txn-preserved c =
-    let m = c.args.marks in
+    let m = c.args.names.now in
     let t = view_txn c.txn-item.result in
     let last = c.loop-txn.last in
     let behind = c.last_behind-last.result in

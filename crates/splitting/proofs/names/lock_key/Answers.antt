@@ -7,5 +7,5 @@ use Rattle.splitting.proofs.names.lock_key.Goals as goal
 pub unreachable-requires : goal.unreachable-requires
 unreachable-requires c =
     let marks : c.in_ok-bytes.bytes.items ≡ replicate c.args.marks 95 = c.in_ok-bytes.ensures.items_if_clones_equal (λ y e. e) in
-    let text = c.deref.ensures.value ∙ c.in_ok-extend_from_slice.ensures.items ∙ ap (λ l. l ++ c.as_bytes.result.now) marks ∙ ap (λ l. replicate c.args.marks 95 ++ l) c.as_bytes.ensures.bytes in
-    never_none c.deref.result.now (lock_key c.args.marks c.args.key.now) c.in_ok-lock.field-0 text (lock_is_key c.args.marks c.args.key.now c.as_bytes.ensures.legal c.requires) c.in_ok-lock.ensures.key c.in-None.is
+    let text = c.deref.ensures.value ∙ c.in_ok-extend_from_slice.ensures.items ∙ ap (λ l. l ++ c.args.name.now) marks in
+    never_none c.deref.result.now (lock_key c.args.marks c.args.name.now) c.in_ok-lock.field-0 text (lock_is_key c.args.marks c.args.name.now c.requires.name c.requires.room) c.in_ok-lock.ensures.key c.in-None.is

@@ -9,13 +9,13 @@ use Rattle.splitting.proofs.halves.Halves.of.Goals.{in-Read+in_ok-add_read-in-Re
 use Rattle.splitting.proofs.halves.Halves.of.Goals as goal
 
 pub loop-op-init : goal.loop-op-init
-loop-op-init c = (c.empty-halves.ensures c.args.marks c.args.last c.args.ops.now, c.requires, λ locks named. named)
+loop-op-init c = (c.empty-halves.ensures c.args.names.now c.args.last c.args.ops.now, c.requires, λ locks named. named)
 
 pub loop-op-preserved : goal.loop-op-preserved
 loop-op-preserved c =
     let ops = c.args.ops.now in
     let i = c.loop-op.op-index in
-    let m = c.args.marks in
+    let m = c.args.names.now in
     let next = drop (i + 1) ops in
     let inv = c.loop-op.invariant in
     elim c.match-op.branch [
