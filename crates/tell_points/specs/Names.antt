@@ -1,5 +1,5 @@
 -- What the field calls what a refutation by points shows, by what its edges are.
-use Rattle.std.specs.Prelude.{ℕ, ◌==◌, min, false, if◌then◌else◌, List, [], ◌∷◌, codes}
+use Rattle.std.specs.Prelude.{ℕ, ◌==◌, min, max, false, if◌then◌else◌, List, [], ◌∷◌, codes}
 use Rattle.std.specs.Prelude.{Option, None, Some}
 use Rattle.session_log.specs.Text.{ClientSession}
 use Rattle.tell_reasons.specs.Names.{followed, with_orders, cycle_name}
@@ -49,10 +49,11 @@ closing (Some o) = MISSED
 abbrev pub supposed : Against → Shape
 supposed a = followed (shape_of_way a.edges.items) (closing a.overwritten)
 
--- either of two circles, where as many of their edges miss a write, as names have it
+-- either of two circles, where as many of their edges miss a write, as names have it: with as many
+-- edges as the longer one
 abbrev pub either : Shape → Shape → Option Shape
 either s t = if min s.missed 2 == min t.missed 2
-    then Some (record (followed s t) { missed = s.missed }) else None
+    then Some (record (followed s t) { missed = s.missed; edges = max s.edges t.edges }) else None
 
 abbrev pub name_with : Shape → Option Shape → Option (List ℕ)
 name_with orders None = None

@@ -74,7 +74,8 @@ fn supposed(against: &Against) -> Shape
     followed(shape_of_way(&against.edges), closing(against.overwritten))
 }
 
-/// Either of two circles, where as many of their edges miss a write, as names have it.
+/// Either of two circles, where as many of their edges miss a write, as names have it: with as many
+/// edges as the longer one.
 fn either(one: Shape, other: Shape) -> Option<Shape>
     ensures { result ≡ spec.either one other }
 {
@@ -83,6 +84,7 @@ fn either(one: Shape, other: Shape) -> Option<Shape>
     }
     Some(Shape {
         missed: one.missed,
+        edges: one.edges.max(other.edges),
         ..followed(one, other)
     })
 }
