@@ -75,7 +75,7 @@ public final class Jdbc implements AutoCloseable {
     /** Whether an exception is one that a test of several clients and broken connections has to expect, and no mistake in it. */
     public static boolean isExpected(SQLException fault) {
         String state = String.valueOf(fault.getSQLState());
-        return isRolledBack(fault) || state.startsWith("40") || state.startsWith("08") || state.startsWith("57P") || state.startsWith("HYT") || IN_THE_WAY.contains(state)
+        return isRolledBack(fault) || state.startsWith("40") || state.startsWith("08") || state.startsWith("57") || state.startsWith("HYT") || IN_THE_WAY.contains(state)
                 || OF_MARIADB.contains(fault.getErrorCode()) && state.startsWith("HY") || fault instanceof SQLTransientException
                 || fault instanceof SQLRecoverableException;
     }

@@ -309,9 +309,9 @@ public final class Recorder implements AutoCloseable {
             System.err.println("recorder: " + path + ": " + text);
     }
 
-    /** What makes the log worth little, once it is closed. */
+    /** What makes the log worth little, once it is closed; nothing before. */
     public synchronized List<String> warnings() {
-        return warnings;
+        return warnings == null ? Collections.emptyList() : warnings;
     }
 
     private void join() throws IOException {

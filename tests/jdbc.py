@@ -50,6 +50,8 @@ prepareStatement 42S02: thrown as it was, 1 connected
 createStatement 42S02: abort, 1 connected
 prepareStatement 08006: abort, 1 connected
 createStatement 08006: abort, 1 connected
+prepareStatement 57014: abort, 1 connected
+createStatement 57014: abort, 1 connected
 prepareStatement null: abort, 2 connected, broken off
 createStatement 23505: commit, 1 connected
 closed null: abort, 2 connected, broken off
@@ -66,7 +68,7 @@ setAutoCommit null: abort, 2 connected
 setAutoCommit 42000: thrown as it was, 2 connected
 """
 # How the log has them, each with a second transaction: those that are thrown have their outcome too, and a commit that is rolled back is so again.
-OUTCOMES = {'commit': 42, 'abort': 39, 'unknown': 11}
+OUTCOMES = {'commit': 44, 'abort': 41, 'unknown': 11}
 
 
 def compiled(folder):

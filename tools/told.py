@@ -444,6 +444,8 @@ def main():
     words.add_argument('log', help='the log; its labels stand in LOG.labels')
     labels = scripts.labels_of(words.parse_args().log, is_needed=True)
     for line in sys.stdin:
+        if line.startswith('{"'):
+            raise scripts.Stop('standard input is an object of --format json, and names in it stay as they are: give the text')
         sys.stdout.write(labelled(line, labels))
 
 
