@@ -203,7 +203,7 @@ class Answer:
             self.codes.insert(0, middle.pop())
         self.parts = [Part(middle[at], middle[at + 1], middle[at + 2:end]) for at, end in zip(heads, heads[1:] + [len(middle)])]
         told = self.parts + [part for part in (self.shown, self.weakest) if part is not None]
-        must(len({tuple(sorted(part.lines)) for part in told}) == len(told), 'a part is told twice')
+        must(len({(tuple(sorted(part.lines)), part.known_as) for part in told}) == len(told), 'a part is told twice')
         codes = sorted(part.code or 'no code' for part in self.parts)
         wanted = ['%s %d' % (code, codes.count(code)) for code in dict.fromkeys(codes)]
         must(self.codes == (wanted if faults > 1 else []), 'codes %r, wanted %r' % (self.codes, wanted))

@@ -33,7 +33,7 @@ use Rattle.judging.specs.declared.judged.Verdict.TheVariants as verdict
 use Rattle.judging.specs.declared.means.JudgeMeans.{JudgeMeans}
 use Rattle.audit_command.specs.Apart.{IsSerialApartWhere}
 use Rattle.audit_command.specs.Counts.{AreCounts}
-use Rattle.audit_command.specs.Distinct.{AreDistinct, AreLeastFirst, is_same, tells}
+use Rattle.audit_command.specs.Distinct.{AreDistinct, AreLeastFirst, adds_nothing, is_told_by}
 use Rattle.isolation.specs.declared.level.Isolation.{Isolation}
 use Rattle.isolation.specs.declared.level.Isolation.TheVariants as isolation
 use Rattle.judging.specs.declared.judged.RefutedPart.{RefutedPart}
@@ -188,11 +188,11 @@ verdict_word (verdict.Serializable order) = word.Serializable
 verdict_word (verdict.NotSerializable told) = word.NotSerializable
 verdict_word (verdict.Undecided why tried) = word.Unknown
 
--- the part, unless one of these tells the same
+-- the part, unless it adds nothing to one of these
 abbrev pub unless_told : ToldPart → List ToldPart → Option ToldPart
-unless_told p parts = if tells p parts then None else Some p
+unless_told p parts = if is_told_by p parts then None else Some p
 
--- a part that has no snapshot order; it is told, unless a part of the answer tells the same
+-- a part that has no snapshot order; it is told, unless it adds nothing to one of the answer
 pub record IsShown (o : AuditOptions) (n : ℕ) (ss : List ClientSession) (a : Answer)
     (shown : Option ToldPart) : Type 0 where
   pub part : ToldPart
@@ -243,15 +243,15 @@ down_to_atomic w = down_to_causal w || is_kept w.read_atomic
 abbrev pub down_to_view : Lower → Bool
 down_to_view w = down_to_atomic w || is_kept w.monotonic_atomic_view
 
--- the part, unless one of these tells the same, or this one does
+-- the part, unless it adds nothing to one of these, or to this one
 abbrev pub is_shown : ToldPart → Option ToldPart → Bool
 is_shown p None = false
-is_shown p (Some q) = is_same p q
+is_shown p (Some told) = adds_nothing p told
 
 abbrev pub unless_shown : ToldPart → List ToldPart → Option ToldPart → Option ToldPart
-unless_shown p parts shown = if tells p parts || is_shown p shown then None else Some p
+unless_shown p parts shown = if is_told_by p parts || is_shown p shown then None else Some p
 
--- a part that has no order of this level; it is told, unless one that is told tells the same
+-- a part that has no order of this level; it is told, unless it adds nothing to one that is told
 pub record IsLowestAt
     (o : AuditOptions)
     (l : Isolation)

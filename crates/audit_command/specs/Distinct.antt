@@ -1,6 +1,6 @@
 -- Parts of different transactions, the least first.
-use Rattle.std.specs.Prelude.{◌&&◌, Bool, false, not, nat_eq, ℕ, ◌≤◌, ◌≢◌, List, [], ◌∷◌, length}
-use Rattle.std.specs.Prelude.{AllPairs, Option, Some, None, is_some, String, string_bytes}
+use Rattle.std.specs.Prelude.{◌&&◌, Bool, true, false, nat_eq, ℕ, ◌≤◌, ◌≢◌, List, [], ◌∷◌, length}
+use Rattle.std.specs.Prelude.{AllPairs, Option, Some, None, String, string_bytes}
 use Rattle.std.specs.List.{AllByRecursion, list_any}
 use Rattle.std.specs.Cmp.Lexicographic.{pointwise}
 use Rattle.std.specs.Str.{bytes_eq}
@@ -39,19 +39,19 @@ has_txns txns p = pointwise same_txn p.txns.items txns
 abbrev pub is_told : List ToldTxn → List ToldPart → Bool
 is_told txns parts = list_any (has_txns txns) parts
 
--- this is the name, and two names are one, or both are missing
+-- this is the name; and a name that is this one, or is missing, adds nothing
 abbrev pub has_name : List ℕ → Option (String Global) → Bool
 has_name name None = false
 has_name name (Some own) = bytes_eq (string_bytes own) name
 
-abbrev pub same_name : Option (String Global) → Option (String Global) → Bool
-same_name None other = not (is_some other)
-same_name (Some name) other = has_name (string_bytes name) other
+abbrev pub adds_no_name : Option (String Global) → Option (String Global) → Bool
+adds_no_name None told = true
+adds_no_name (Some name) told = has_name (string_bytes name) told
 
--- the parts have the same transactions, and what is told of them has one name
-abbrev pub is_same : ToldPart → ToldPart → Bool
-is_same p q = has_txns p.txns.items q && same_name p.known_as q.known_as
+-- a part adds nothing to another one: it has its transactions, and no other name
+abbrev pub adds_nothing : ToldPart → ToldPart → Bool
+adds_nothing p told = has_txns p.txns.items told && adds_no_name p.known_as told.known_as
 
--- one of the parts is the same
-abbrev pub tells : ToldPart → List ToldPart → Bool
-tells p parts = list_any (is_same p) parts
+-- it adds nothing to one of these
+abbrev pub is_told_by : ToldPart → List ToldPart → Bool
+is_told_by p parts = list_any (adds_nothing p) parts

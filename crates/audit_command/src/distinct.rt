@@ -1,11 +1,11 @@
-//! Parts of different transactions, and parts that tell the same.
+//! Parts of different transactions, and parts that add nothing to others.
 
 ghost use Rattle.std.specs.Prelude.{◌≡◌, ◌+◌, ◌-◌, ◌≤◌, ◌<◌, ℕ, List, length, IfOk};
 ghost use Rattle.session_log.specs.Text.{ClientSession};
 ghost use Rattle.audit_command.specs.declared.options.AuditOptions.{AuditOptions};
 ghost use Rattle.audit_command.specs.Audited.{AreToldParts, AreParts};
-ghost use Rattle.audit_command.specs.Distinct.{AreLeastFirst, has_txns, is_told, has_name, same_name};
-ghost use Rattle.audit_command.specs.Distinct.{is_same, tells};
+ghost use Rattle.audit_command.specs.Distinct.{AreLeastFirst, has_txns, is_told, has_name, adds_no_name};
+ghost use Rattle.audit_command.specs.Distinct.{adds_nothing, is_told_by};
 
 use crate::told::{ToldPart, ToldTxn};
 use std::alloc::{AllocError, Global};
@@ -34,28 +34,28 @@ fn has_name(own: &Option<String>, name: &str) -> bool
     }
 }
 
-/// Whether two names are one, or both are missing.
-fn same_name(one: &Option<String>, other: &Option<String>) -> bool
-    ensures same { result ≡ same_name one.now other.now }
+/// Whether a name is the one that is told, or there is none.
+fn adds_no_name(name: &Option<String>, told: &Option<String>) -> bool
+    ensures adds { result ≡ adds_no_name name.now told.now }
 {
-    match one {
-        None => other.is_none(),
-        Some(name) => has_name(other, name.as_str()),
+    match name {
+        None => true,
+        Some(name) => has_name(told, name.as_str()),
     }
 }
 
-/// Whether two parts have the same transactions, and what is told of them has one name.
-pub fn is_same(part: &ToldPart, other: &ToldPart) -> bool
-    ensures same { result ≡ is_same part.now other.now }
+/// Whether a part adds nothing to one that is told: it has its transactions, and no other name.
+pub fn adds_nothing(part: &ToldPart, told: &ToldPart) -> bool
+    ensures adds { result ≡ adds_nothing part.now told.now }
 {
-    has_txns(other, &part.txns) && same_name(&part.known_as, &other.known_as)
+    has_txns(told, &part.txns) && adds_no_name(&part.known_as, &told.known_as)
 }
 
-/// Whether one of the parts tells the same as this one.
-pub fn tells(parts: &[ToldPart], part: &ToldPart) -> bool
-    ensures tells { result ≡ tells part.now parts.now }
+/// Whether a part adds nothing to one of these.
+pub fn is_told_by(part: &ToldPart, parts: &[ToldPart]) -> bool
+    ensures told { result ≡ is_told_by part.now parts.now }
 {
-    parts.iter().any(|other| is_same(part, other))
+    parts.iter().any(|told| adds_nothing(part, told))
 }
 
 /// The parts, but for each that has the transactions of one before it.

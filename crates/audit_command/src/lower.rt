@@ -15,7 +15,7 @@ ghost use Rattle.audit_command.specs.Lower.{or_above};
 ghost use Rattle.audit_command.specs.Audited.{IsRefutedWhere, IsWeakest, refuted_of, IsLowest, IsLower};
 ghost use Rattle.audit_command.specs.Resolved.{IsPartOf, IsPartOfVerdict};
 
-use crate::distinct::{is_same, tells};
+use crate::distinct::{adds_nothing, is_told_by};
 use crate::levels::{is_above, judged_of};
 use crate::object::parts_of;
 use crate::options::AuditOptions;
@@ -166,28 +166,29 @@ fn or_above(
     }
 }
 
-/// Whether this part tells the same, where there is one.
+/// Whether a part adds nothing to this one, where there is one.
 fn is_shown(shown: &Option<ToldPart>, part: &ToldPart) -> bool
     ensures shown { result ≡ is_shown part.now shown.now }
 {
     match shown {
         None => false,
-        Some(other) => is_same(part, other),
+        Some(told) => adds_nothing(part, told),
     }
 }
 
-/// The part, unless one of these tells the same, or this one does.
+/// The part, unless it adds nothing to one of these, or to this one.
 fn unless_shown(part: ToldPart, parts: &[ToldPart], shown: &Option<ToldPart>) -> Option<ToldPart>
     ensures told { result ≡ unless_shown part parts.now shown.now }
 {
-    if tells(parts, &part) || is_shown(shown, &part) {
+    if is_told_by(&part, parts) || is_shown(shown, &part) {
         None
     } else {
         Some(part)
     }
 }
 
-/// The part that shows that the weakest level was not kept, unless one that is told tells the same.
+/// The part that shows that the weakest level was not kept, unless it adds nothing to one that is
+/// told.
 fn tell_lowest<R: Threads + Wait + Clock + Sync>(
     rt: &R,
     alloc: Global,

@@ -84,13 +84,13 @@ pub struct Told {
     /// stated moments, and without them.
     pub strict_snapshot: Option<Word>,
     pub snapshot: Option<Word>,
-    /// The part that shows that snapshot isolation was not kept, where no part of the answer tells
-    /// the same.
+    /// The part that shows that snapshot isolation was not kept, unless it adds nothing to one of the
+    /// answer.
     pub shown: Option<ToldPart>,
     /// What holds of the levels below, down to the first that was kept.
     pub lower: Lower,
-    /// The part that shows that the weakest of these that was not kept was not, where no other part
-    /// tells the same.
+    /// The part that shows that the weakest of these that was not kept was not, unless it adds nothing
+    /// to another one.
     pub lowest: Option<ToldPart>,
     pub totals: Totals,
 }

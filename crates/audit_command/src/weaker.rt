@@ -19,7 +19,7 @@ ghost use Rattle.audit_command.specs.Audited.{unless_told, IsShownBy};
 ghost use Rattle.audit_command.specs.Resolved.{IsPartOfVerdict};
 ghost use Rattle.audit_command.specs.declared.told.Word.TheVariants as word;
 
-use crate::distinct::tells;
+use crate::distinct::is_told_by;
 use crate::object::parts_of;
 use crate::options::AuditOptions;
 use crate::telling::told_part;
@@ -40,8 +40,8 @@ pub struct Weaker {
     pub without_moments: Option<Word>,
     pub strict_snapshot: Option<Word>,
     pub snapshot: Option<Word>,
-    /// The part that shows that snapshot isolation was not kept, where no part of the answer tells
-    /// the same.
+    /// The part that shows that snapshot isolation was not kept, unless it adds nothing to one of the
+    /// answer.
     pub shown: Option<ToldPart>,
 }
 
@@ -236,19 +236,19 @@ fn word_where<R: Threads + Wait + Clock + Eprint + Sync, P: Progress>(
     }
 }
 
-/// The part, unless one of these tells the same.
+/// The part, unless it adds nothing to one of these.
 fn unless_told(part: ToldPart, parts: &[ToldPart]) -> Option<ToldPart>
     ensures told { result ≡ unless_told part parts.now }
 {
-    if tells(parts, &part) {
+    if is_told_by(&part, parts) {
         None
     } else {
         Some(part)
     }
 }
 
-/// The part that shows a verdict at the level of snapshots, unless the answer has one that tells the
-/// same.
+/// The part that shows a verdict at the level of snapshots, unless it adds nothing to one of the
+/// answer.
 fn shown_by<R: Threads + Wait + Clock + Sync>(
     rt: &R,
     alloc: Global,
