@@ -2,10 +2,11 @@
 """splitting.py PROGRAM [--cases N] [--seed N]: what `split` writes of a log, against a plain splitter made from the words of
 docs/DEFINITIONS.md, and what `check` says of it, against snapshot orders by brute force.
 
-Small logs of all versions are made, some with keys that begin with underscores, long keys and great identities. The text must be that of
-the plain splitter, and `check` must find an order of it exactly where the log has a snapshot order; the search for these is tried against
-all lists of points. A log without room is refused in words; one with a fault as `audit` refuses it. Then calls by hand: a transaction of
-200,000 operations, and a long log, whose split log goes through `audit`. Last line: 'splitting: N passed, M failed'."""
+Small logs of all versions are made, some with keys that begin with underscores, keys of up to 64 bytes and great identities. The text must
+be that of the plain splitter, and `check` must find an order of it exactly where the log has a snapshot order; the search for these is
+tried against all lists of points. A log without room is refused in words; one with a fault as `audit` refuses it. Then calls by hand: a
+transaction of 200,000 operations; a long log, whose split log goes through `audit`; and the same log with keys of 64 bytes, which `audit`
+judges at `snapshot`. Last line: 'splitting: N passed, M failed'."""
 import argparse, concurrent.futures, hashlib, os, random, subprocess, sys, time
 
 HERE = os.path.dirname(os.path.abspath(__file__))
@@ -266,6 +267,10 @@ def by_hand(program):
         verdict = b'not serializable' if wrong else b'serializable'
         right = right and told[0] == int(wrong) and told[1].startswith(verdict)
         yield 'a long log', None if right else 'audit: %r' % (told,)
+    for wrong in (False, True):
+        status, out, said = call(program, 'audit', '--level', 'snapshot', text=generate.text_of(hashed(long_log(wrong))))
+        verdict = b'snapshot isolation: not kept' if wrong else b'snapshot isolation: kept'
+        yield 'keys of 64 bytes', None if status == int(wrong) and out.startswith(verdict) else '%d %r %r' % (status, out[:200], said)
     status, _, said = call(program, 'split', '/nowhere.log')
     yield 'no file', None if status == 5 and said.startswith('/nowhere.log: ') else '%d %r' % (status, said)
 
