@@ -98,6 +98,12 @@ def renamed(r, sessions):
     return [(number, [change(it) for it in transactions]) for number, transactions in sessions]
 
 
+def hashed(sessions):
+    """The same with keys of 64 bytes: the SHA-256 of each."""
+    name = lambda key: hashlib.sha256(key.encode()).hexdigest()
+    return [(number, [it._replace(ops=[(kind, name(key), wid) for kind, key, wid in it.ops]) for it in its]) for number, its in sessions]
+
+
 def isolated_log(r):
     """Transactions that overlap, in a store with snapshots, which lets a second committer through now and then."""
     keys, sessions = 'xyz'[:r.randint(2, 3)], [(number, []) for number in range(1, r.randint(2, 4))]
@@ -129,7 +135,8 @@ def isolated_log(r):
 def made_log(seed):
     r = random.Random(seed)
     sessions = isolated_log(r) if seed % 2 else reference.read_log(generate.small_log(seed, r.choice((1, 2, 3))))
-    return renamed(r, sessions) if r.random() < 0.5 else sessions
+    chosen = r.random()
+    return renamed(r, sessions) if chosen < 0.5 else hashed(sessions) if chosen < 0.6 else sessions
 
 
 # ---- what is wrong
@@ -182,12 +189,6 @@ def commit(*ops):
 def underscores(many, keys):
     """A log of so many keys, of which one is so many underscores."""
     return [(1, [commit(*[('w', 'k%d' % n, n) for n in range(1, keys)], ('w', '_' * many, keys))])]
-
-
-def hashed(sessions):
-    """The same with keys of 64 bytes: the SHA-256 of each."""
-    name = lambda key: hashlib.sha256(key.encode()).hexdigest()
-    return [(number, [it._replace(ops=[(kind, name(key), wid) for kind, key, wid in it.ops]) for it in its]) for number, its in sessions]
 
 
 def large_transaction():
