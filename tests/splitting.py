@@ -2,10 +2,11 @@
 """splitting.py PROGRAM [--cases N] [--seed N]: what `split` writes of a log, against a plain splitter made from the words of
 docs/DEFINITIONS.md, and what `check` says of it, against snapshot orders by brute force.
 
-Small logs of all versions are made, some with keys that begin with underscores, long keys and great identities. The text must be that of
-the plain splitter, and `check` must find an order of it exactly where the log has a snapshot order; the search for these is tried against
-all lists of points. A log without room is refused in words; one with a fault as `audit` refuses it. Then calls by hand: a transaction of
-200,000 operations, and a long log, whose split log goes through `audit`. Last line: 'splitting: N passed, M failed'."""
+Small logs of all versions are made, some with keys that begin with underscores, keys of up to 64 bytes and great identities. The text must
+be that of the plain splitter, and `check` must find an order of it exactly where the log has a snapshot order; the search for these is
+tried against all lists of points. A log without room is refused in words; one with a fault as `audit` refuses it. Then calls by hand: a
+transaction of 200,000 operations; a long log, whose split log goes through `audit`; and the same log with keys of 64 bytes, which `audit`
+judges at `snapshot`. Last line: 'splitting: N passed, M failed'."""
 import argparse, concurrent.futures, hashlib, os, random, subprocess, sys, time
 
 HERE = os.path.dirname(os.path.abspath(__file__))
@@ -97,6 +98,12 @@ def renamed(r, sessions):
     return [(number, [change(it) for it in transactions]) for number, transactions in sessions]
 
 
+def hashed(sessions):
+    """The same with keys of 64 bytes: the SHA-256 of each."""
+    name = lambda key: hashlib.sha256(key.encode()).hexdigest()
+    return [(number, [it._replace(ops=[(kind, name(key), wid) for kind, key, wid in it.ops]) for it in its]) for number, its in sessions]
+
+
 def isolated_log(r):
     """Transactions that overlap, in a store with snapshots, which lets a second committer through now and then."""
     keys, sessions = 'xyz'[:r.randint(2, 3)], [(number, []) for number in range(1, r.randint(2, 4))]
@@ -128,7 +135,8 @@ def isolated_log(r):
 def made_log(seed):
     r = random.Random(seed)
     sessions = isolated_log(r) if seed % 2 else reference.read_log(generate.small_log(seed, r.choice((1, 2, 3))))
-    return renamed(r, sessions) if r.random() < 0.5 else sessions
+    chosen = r.random()
+    return renamed(r, sessions) if chosen < 0.5 else hashed(sessions) if chosen < 0.6 else sessions
 
 
 # ---- what is wrong
@@ -181,12 +189,6 @@ def commit(*ops):
 def underscores(many, keys):
     """A log of so many keys, of which one is so many underscores."""
     return [(1, [commit(*[('w', 'k%d' % n, n) for n in range(1, keys)], ('w', '_' * many, keys))])]
-
-
-def hashed(sessions):
-    """The same with keys of 64 bytes: the SHA-256 of each."""
-    name = lambda key: hashlib.sha256(key.encode()).hexdigest()
-    return [(number, [it._replace(ops=[(kind, name(key), wid) for kind, key, wid in it.ops]) for it in its]) for number, its in sessions]
 
 
 def large_transaction():
@@ -266,6 +268,10 @@ def by_hand(program):
         verdict = b'not serializable' if wrong else b'serializable'
         right = right and told[0] == int(wrong) and told[1].startswith(verdict)
         yield 'a long log', None if right else 'audit: %r' % (told,)
+    for wrong in (False, True):
+        status, out, said = call(program, 'audit', '--level', 'snapshot', text=generate.text_of(hashed(long_log(wrong))))
+        verdict = b'snapshot isolation: not kept' if wrong else b'snapshot isolation: kept'
+        yield 'keys of 64 bytes', None if status == int(wrong) and out.startswith(verdict) else '%d %r %r' % (status, out[:200], said)
     status, _, said = call(program, 'split', '/nowhere.log')
     yield 'no file', None if status == 5 and said.startswith('/nowhere.log: ') else '%d %r' % (status, said)
 
