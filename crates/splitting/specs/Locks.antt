@@ -67,9 +67,9 @@ name_in ss key = if is_long ss then decimal (number_in (keys_in ss) key + 1) els
 abbrev pub widest : List ClientSession → ℕ
 widest ss = if is_long ss then length (decimal (length (keys_in ss))) else longest (ops_in ss)
 
--- The lock of a key is its name behind more underscores than any key of the log begins with. It is
--- taken under an identity above all of the log: those of the writes, in the order of the log, give
--- the first one above, the second and so on.
+-- The lock of a key is its name behind more underscores than any key of the log begins with. It is taken under an
+-- identity above all of the log: those of the writes, in the order of the log, give the first one
+-- above, the second and so on.
 unfoldable pub locks_of : List ClientSession → Locks
 locks_of ss = record {
   key = λ key. lock_key (marks ss) (name_in ss key);
