@@ -99,7 +99,7 @@ fn faults_of_writers(rt: HostRuntime) {
         alloc,
         level,
         &fault(read, Why::Overwritten { write, later: 1 }),
-        "in short: 2.1 reads what its writer wrote over before it committed\n\
+        "in short: 2.1 reads a version that its writer overwrote before committing\n\
         2.1 reads x 1 (line 8), which 1.1 wrote (line 3) and overwrote with 2 (line 4)\n",
         Some("intermediate read (G1b)"),
     );
@@ -146,12 +146,11 @@ fn circles_with_a_forced_edge(rt: HostRuntime) {
     let (rt, alloc) = (&rt, rt.alloc());
     let log = "session 1\nbegin\nw x 4\ncommit\nbegin\nw x 5\nw y 9\ncommit\n\
         session 2\nbegin\nr y 9\nr x 4\ncommit\n";
-    let text =
-        "in short: 2.1 sees 1.2, which wrote x too and comes after 1.1, but reads the x of 1.1\n\
+    let text = "in short: 2.1 sees 1.2, which wrote x, but reads the older x of 1.1\n\
         1.2 wrote x (line 6)\n\
         2.1 reads y 9 (line 11), which 1.2 wrote (line 7)\n\
         2.1 reads x 4 (line 12), which 1.1 wrote (line 3)\n\
-        so the x of 1.2 is older than the x of 1.1\n\
+        so the x of 1.2 has to be older than the x of 1.1\n\
         1.2 comes after 1.1 in session 1\n\
         so 1.2 comes before 1.1, and 1.1 comes before 1.2\n";
     let hops = [reads(txn(0, 1), 1, txn(1, 0), 0)];
@@ -160,7 +159,7 @@ fn circles_with_a_forced_edge(rt: HostRuntime) {
         found: op(0, 0, 0),
     };
     let evidence = circle(rt, alloc, first, Edge::Known(earlier(txn(0, 0), txn(0, 1))));
-    let name = Some("read skew (G-single)");
+    let name = Some("read skew by way of sessions (G-single-process)");
     tells(
         rt,
         log,
@@ -170,14 +169,26 @@ fn circles_with_a_forced_edge(rt: HostRuntime) {
         text,
         name,
     );
+    tells(rt, log, alloc, Level::ReadAtomic, &evidence, text, name);
+    let hops = [reads(txn(0, 1), 0, txn(1, 0), 0)];
+    let first = Edge::Forced {
+        overlooked: overlooked(rt, alloc, op(1, 0, 1), op(0, 1, 0), &hops),
+        found: op(0, 0, 0),
+    };
     tells(
         rt,
-        log,
+        "session 1\nbegin\nw x 4\ncommit\nbegin\nw x 5\ncommit\n\
+        session 2\nbegin\nr x 5\nr x 4\ncommit\n",
         alloc,
-        Level::ReadAtomic,
-        &evidence,
-        text,
-        Some("read skew (G-single)"),
+        Level::MonotonicAtomicView,
+        &circle(rt, alloc, first, Edge::Known(earlier(txn(0, 0), txn(0, 1)))),
+        "in short: 2.1 reads two versions of x: that of 1.2, and the older one of 1.1\n\
+        2.1 reads x 5 (line 10), which 1.2 wrote (line 6)\n\
+        2.1 reads x 4 (line 11), which 1.1 wrote (line 3)\n\
+        so the x of 1.2 has to be older than the x of 1.1\n\
+        1.2 comes after 1.1 in session 1\n\
+        so 1.2 comes before 1.1, and 1.1 comes before 1.2\n",
+        Some("non-repeatable read (internal)"),
     );
 }
 

@@ -1,5 +1,6 @@
 -- How evidence against a level is told: in a sentence, and then each edge with its lines.
-use Rattle.std.specs.Prelude.{ℕ, Bool, true, false, List, [], ◌∷◌, ◌++◌, codes, decimal}
+use Rattle.std.specs.Prelude.{ℕ, ◌==◌, ◌&&◌, Bool, true, false, List, [], ◌∷◌, ◌++◌, length}
+use Rattle.std.specs.Prelude.{codes, decimal}
 use Rattle.std.specs.Prelude.{Option, None, Some, if◌then◌else◌}
 use Rattle.session_log.specs.Text.{ClientSession}
 use Rattle.session_log.specs.declared.session.Outcome.{Outcome}
@@ -18,7 +19,7 @@ use Rattle.level_refutations.specs.declared.evidence.Evidence.TheVariants as evi
 use Rattle.level_refutations.specs.Edges.{op_of, edge_from, edge_to}
 use Rattle.tell_evidence.specs.Rows.{end_of, outcome_at, line_of, key_at, wid_at}
 use Rattle.tell_evidence.specs.Sentences.{name_text, in_line, version_text, does_text, wrote_text}
-use Rattle.tell_evidence.specs.Sentences.{hop_line, path_lines, stands_behind}
+use Rattle.tell_evidence.specs.Sentences.{hop_line, path_lines, stands_behind, reads_it}
 
 -- ---- reads that overlook a write
 
@@ -26,20 +27,36 @@ abbrev pub sight_lines : Table → List ClientSession → Overlooked → List �
 sight_lines table ss o = path_lines table ss o.write o.path.items
 
 -- by which path a read sees the other write, what it names, and which of the two is the earlier:
--- `so the x of 1.3 is older than the x of 1.2`
+-- `so the x of 1.3 has to be older than the x of 1.2`
 unfoldable pub forced_text : Table → List ClientSession → Overlooked → OpAt → List ℕ
 forced_text table ss o found =
     sight_lines table ss o ++ (does_text table ss (codes " reads ") o.read
     ++ (wrote_text table ss found ++ (codes "\nso " ++ (version_text table ss o.write
-    ++ (codes " is older than " ++ (version_text table ss found ++ codes "\n"))))))
+    ++ (codes " has to be older than " ++ (version_text table ss found ++ codes "\n"))))))
 
--- `in short: 2.7 sees 1.3, which wrote x too and comes after 1.2, but reads the x of 1.2`
-unfoldable pub short_forced : Table → List ClientSession → Overlooked → OpAt → List ℕ
-short_forced table ss o found =
+-- a read overlooks a write that its own transaction reads too
+abbrev pub is_read_too : Overlooked → Bool
+is_read_too o = (length o.path.items == 1) && reads_it o.write o.path.items
+
+-- `in short: 2.7 reads two versions of x: that of 1.3, and the older one of 1.2`
+unfoldable pub short_twice : Table → List ClientSession → Overlooked → OpAt → List ℕ
+short_twice table ss o found =
+    codes "in short: " ++ (name_text table ss o.read.txn ++ (codes " reads two versions of "
+    ++ (key_at ss o.read ++ (codes ": that of " ++ (name_text table ss o.write.txn
+    ++ (codes ", and the older one of " ++ (name_text table ss found.txn ++ codes "\n")))))))
+
+-- `in short: 2.7 sees 1.3, which wrote x, but reads the older x of 1.2`
+unfoldable pub short_sight : Table → List ClientSession → Overlooked → OpAt → List ℕ
+short_sight table ss o found =
     codes "in short: " ++ (name_text table ss o.read.txn ++ (stands_behind o.path.items
     ++ (name_text table ss o.write.txn ++ (codes ", which wrote " ++ (key_at ss o.write
-    ++ (codes " too and comes after " ++ (name_text table ss found.txn ++ (codes ", but reads "
-    ++ (version_text table ss found ++ codes "\n")))))))))
+    ++ (codes ", but reads the older " ++ (key_at ss found ++ (codes " of "
+    ++ (name_text table ss found.txn ++ codes "\n")))))))))
+
+-- one of these
+abbrev pub short_forced : Table → List ClientSession → Overlooked → OpAt → List ℕ
+short_forced table ss o found = if is_read_too o then short_twice table ss o found
+    else short_sight table ss o found
 
 -- ---- a read of the initial value that overlooks a write
 
@@ -129,7 +146,7 @@ short_why (why.MissesOwn write) = codes " does not read its own last write\n"
 short_why why.Unwritten = codes " reads what nobody wrote\n"
 short_why (why.Aborted write) = codes " reads what a transaction wrote that did not commit\n"
 short_why (why.Overwritten write later) =
-    codes " reads what its writer wrote over before it committed\n"
+    codes " reads a version that its writer overwrote before committing\n"
 short_why (why.OwnLater write) = codes " reads what it writes itself only later\n"
 
 -- `, but wrote x 7 before (line 8)`

@@ -4,13 +4,14 @@ ghost use Rattle.std.specs.Prelude.{◌≡◌, ◌++◌, map, Some, None, OnOk, 
 ghost use Rattle.session_log.specs.Text.{view};
 ghost use Rattle.log_lines.specs.Rows.{rows_of};
 ghost use Rattle.level_refutations.specs.Edges.{edge_from, edge_to};
-ghost use Rattle.tell_evidence.specs.Evidence.{forced_text, short_forced, short_initial};
+ghost use Rattle.tell_evidence.specs.Evidence.{forced_text, is_read_too, short_twice, short_sight};
+ghost use Rattle.tell_evidence.specs.Evidence.{short_forced, short_initial};
 ghost use Rattle.tell_evidence.specs.Evidence.{lines_initial, initial_text, edge_text, edges_text};
 ghost use Rattle.tell_evidence.specs.Evidence.{before_text, behind_and, clash_text, short_hops};
 ghost use Rattle.tell_evidence.specs.Evidence.{short_known, is_forced_edge, first_forced};
 ghost use Rattle.tell_evidence.specs.Evidence.{short_edge, short_circle, circle_text};
 
-use crate::paths::{put_hop, stands_behind};
+use crate::paths::{put_hop, reads_it, stands_behind};
 use crate::phrases::{Log, put};
 use crate::tell;
 use level_refutations::{Edge, OpAt, Overlooked, TxnAt};
@@ -29,11 +30,51 @@ fn put_forced(
 {
     tell!(out, log;
         Path(it), Does(b" reads ", it.read), Wrote(found), Text(b"\nso "),
-        Version(it.write), Text(b" is older than "), Version(found), Text(b"\n"))
+        Version(it.write), Text(b" has to be older than "), Version(found), Text(b"\n"))
+}
+
+/// Whether a read overlooks a write that its own transaction reads too.
+fn is_read_too(it: &Overlooked) -> bool
+    ensures { result ≡ is_read_too it.now }
+{
+    it.path.len() == 1 && reads_it(it.write, &it.path)
+}
+
+/// Appends two reads of one key in a sentence.
+#[tactic(auto, unfolding(crate::specs::Evidence::short_twice))]
+fn put_short_twice(
+    out: &mut Vec<u8>,
+    log: &Log<'_>,
+    it: &Overlooked,
+    found: OpAt,
+) -> Result<(), AllocError>
+    ensures put { OnOk result (out.new.items ≡ out.old.items ++ short_twice
+        (rows_of log.now.places.now) (map view log.now.sessions.now) it.now found) }
+{
+    tell!(out, log;
+        Text(b"in short: "), Name(it.read.txn), Text(b" reads two versions of "), Key(it.read),
+        Text(b": that of "), Name(it.write.txn), Text(b", and the older one of "),
+        Name(found.txn), Text(b"\n"))
+}
+
+/// Appends a read that overlooks a write which it sees in a sentence.
+#[tactic(auto, unfolding(crate::specs::Evidence::short_sight))]
+fn put_short_sight(
+    out: &mut Vec<u8>,
+    log: &Log<'_>,
+    it: &Overlooked,
+    found: OpAt,
+) -> Result<(), AllocError>
+    ensures put { OnOk result (out.new.items ≡ out.old.items ++ short_sight
+        (rows_of log.now.places.now) (map view log.now.sessions.now) it.now found) }
+{
+    tell!(out, log;
+        Text(b"in short: "), Name(it.read.txn), Text(stands_behind(&it.path)), Name(it.write.txn),
+        Text(b", which wrote "), Key(it.write), Text(b", but reads the older "), Key(found),
+        Text(b" of "), Name(found.txn), Text(b"\n"))
 }
 
 /// Appends a forced edge of a circle in a sentence.
-#[tactic(auto, unfolding(crate::specs::Evidence::short_forced))]
 fn put_short_forced(
     out: &mut Vec<u8>,
     log: &Log<'_>,
@@ -43,10 +84,11 @@ fn put_short_forced(
     ensures put { OnOk result (out.new.items ≡ out.old.items ++ short_forced
         (rows_of log.now.places.now) (map view log.now.sessions.now) it.now found) }
 {
-    tell!(out, log;
-        Text(b"in short: "), Name(it.read.txn), Text(stands_behind(&it.path)), Name(it.write.txn),
-        Text(b", which wrote "), Key(it.write), Text(b" too and comes after "), Name(found.txn),
-        Text(b", but reads "), Version(found), Text(b"\n"))
+    if is_read_too(it) {
+        put_short_twice(out, log, it, found)
+    } else {
+        put_short_sight(out, log, it, found)
+    }
 }
 
 /// Appends a read of the initial value in a sentence.

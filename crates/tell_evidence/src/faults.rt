@@ -23,7 +23,8 @@ fn short_why(why: Why) -> &'static [u8]
         Why::MissesOwn { .. } => b" does not read its own last write\n",
         Why::Unwritten => b" reads what nobody wrote\n",
         Why::Aborted { .. } => b" reads what a transaction wrote that did not commit\n",
-        Why::Overwritten { .. } => b" reads what its writer wrote over before it committed\n",
+        Why::Overwritten { .. } =>
+            b" reads a version that its writer overwrote before committing\n",
         Why::OwnLater { .. } => b" reads what it writes itself only later\n",
     }
 }
