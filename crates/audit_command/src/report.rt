@@ -496,7 +496,6 @@ fn put_lowest(
     }
 }
 
-/// Appends what holds without moments and at weaker levels, where that is told.
 /// Whether a level below snapshot isolation was kept.
 fn is_lower_kept(lower: &Lower) -> bool
     ensures { result ≡ is_lower_kept lower.now }
