@@ -4,7 +4,7 @@ mod Parts
 mod Doubles
 mod Points
 mod Resolved
-mod Weaker
+mod WeakerLevels
 mod Lowest
 mod Searched
 mod Singles

@@ -5,7 +5,7 @@ use Rattle.log_laws.specs.Logs.{IsLog}
 use Rattle.level_laws.specs.Without.{without_moments}
 use Rattle.level_laws.proofs.Without.{legal_without, sound_without, log_without, resolved_without}
 use Rattle.audit_command.specs.Audited.{asks_strict, asks_plain, at_snapshot, states_moments, IsWordWhere}
-use Rattle.audit_command.proofs.Weaker.{plain_where_kept}
+use Rattle.audit_command.proofs.WeakerLevels.{plain_where_kept}
 use Rattle.audit_command.proofs.weaker.judge_weaker.Goals as goal
 
 pub word_where-requires-2-clause-log : goal.word_where-requires-2-clause-log
