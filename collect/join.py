@@ -12,8 +12,9 @@ Statuses: 0, the log was written; 65, the logs do not fit together; 70, a file c
 import argparse, os, re, sys, tempfile
 from recorder import holds_something
 
-# How files begin that were compressed, and by what.
-COMPRESSED = {b'\xfd7zXZ\0': 'xz', b'\x1f\x8b': 'gzip', b'\x28\xb5\x2f\xfd': 'zstd', b'BZh': 'bzip2'}
+# How files begin that were compressed, by what, and what writes them as they were.
+COMPRESSED = {b'\xfd7zXZ\0': ('xz', 'xz -dc'), b'\x1f\x8b': ('gzip', 'gzip -dc'), b'\x28\xb5\x2f\xfd': ('zstd', 'zstd -dc'), b'BZh': ('bzip2', 'bzip2 -dc'),
+              b'PK\x03\x04': ('zip', 'unzip -p')}
 DOES_NOT_FIT, AROUND, MOST = 65, 70, 2 ** 64 - 1
 ENDS = re.compile(rb'(commit|abort|unknown)\b')
 TWICE = {b'w': ('the identity', 'have all processes the same N, and each a K of its own?'),
@@ -55,8 +56,8 @@ def kept_apart(path):
 
 
 def compressed_by(line):
-    """The program that compressed what begins with this line, if one did."""
-    return next((program for first, program in COMPRESSED.items() if line.startswith(first)), None)
+    """The program that compressed what begins with this line, and what writes that as it was; None where it is not compressed."""
+    return next((by for first, by in COMPRESSED.items() if line.startswith(first)), None)
 
 
 def version_of(path):
@@ -68,7 +69,7 @@ def version_of(path):
     if not line:
         raise Stop('%s: it is empty, and no log' % path)
     if compressed_by(line):
-        raise Stop('%s: it is compressed by %s: %s -dc %s writes it as it was' % (path, *[compressed_by(line)] * 2, path))
+        raise Stop('%s: it is compressed by %s: %s %s writes it as it was' % (path, *compressed_by(line), path))
     if not re.match(rb'log [23]\n|session [0-9]+\n', line):
         raise Stop('%s:1: a log begins with a version, or with a session, and not with %r' % (path, line[:40]))
     return line if line.startswith(b'log ') else b''
@@ -267,7 +268,7 @@ def microseconds(text):
 
 def main():
     about, _, more = __doc__.partition('\n')
-    parser = argparse.ArgumentParser(prog='join.py', description=about.partition(': ')[2] + '\n' + more,
+    parser = argparse.ArgumentParser(description=about.partition(': ')[2] + '\n' + more,
                                      formatter_class=argparse.RawDescriptionHelpFormatter)
     parser.add_argument('logs', metavar='LOG', nargs='+', help='the log of a process')
     parser.add_argument('-o', dest='out', metavar='OUT', required=True, help='the log of all of them')
@@ -276,9 +277,9 @@ def main():
     parser.add_argument('--overwrite', action='store_true', help='replace OUT where it is there already')
     try:
         for doubt in joined(parser.parse_args()):
-            print('join.py: ' + doubt, file=sys.stderr)
+            print('%s: %s' % (os.path.basename(sys.argv[0]), doubt), file=sys.stderr)
     except (Stop, OSError) as fault:
-        print('join.py: %s' % fault, file=sys.stderr)
+        print('%s: %s' % (os.path.basename(sys.argv[0]), fault), file=sys.stderr)
         return getattr(fault, 'status', AROUND)
     return 0
 

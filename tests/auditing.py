@@ -277,6 +277,7 @@ REFUSED = [
     (bz2.compress(b'session 1\n'), 1, 'L1', 'compressed by bzip2'),
     (lzma.compress(b'session 1\n'), 1, 'L1', 'compressed by xz'),
     (b'\x28\xb5\x2f\xfd\x04\x58\x51\x00\x00session 1\n', 1, 'L1', 'compressed by zstd'),
+    (b'PK\x03\x04\x14\x00\x00\x00\x08\x00session 1\n', 1, 'L1', 'compressed by zip: unzip -p FILE | cobra_poly audit - with the same options'),
     (b'session 1\n\n', 2, 'L1', 'empty line'),
     (b'session 1\n# begin\n', 2, 'L1', 'comment'),
     (b'session 1\nbegin\nr\tx 0\n', 3, 'L1', 'tab'),

@@ -563,6 +563,7 @@ class Telling:
         told(start, 'no cycle at %r' % self.rest())
         edges = self.edges('the cycle', decided)
         told(edges[0][0] == start[0] == edges[-1][1], 'the cycle does not close')
+        told(len({edge[0] for edge in edges}) == len(edges), 'the cycle passes a transaction twice')
         if self.what == 'A9':
             self.no_way_around('the cycle', edges)
         grounds = {ground for _, _, ground in edges} - {None}

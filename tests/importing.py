@@ -437,6 +437,8 @@ BAD = [
     ('jepsen', INVOKE + '[' * 100000, '2: op 2: more than 100 brackets within each other'),
     ('jepsen', INVOKE + '{:process \udcff}', '2: op 2: a byte that is no UTF-8'),
     ('jepsen', '\udcfd7zXZ\0\udcff', '1: op 1: it is compressed by xz: xz -dc HISTORY writes it as it was'),
+    ('jepsen', 'PK\3\4\24\0\n', '1: op 1: it is compressed by zip: unzip -p HISTORY writes it as it was'),
+    ('plume', 'PK\3\4\24\0\n', '1: it is compressed by zip: unzip -p HISTORY writes it as it was'),
     ('jepsen', INVOKE + ':ok', '2: op 2: an op is a map, and not :ok'),
     ('jepsen', INVOKE + '{:process 0, :value 1}', '2: op 2: an op has a :process, and as :type one of :invoke, :ok, :fail and :info'),
     ('jepsen', INVOKE + '{:process 0, :type :okay}', '2: op 2: an op has a :process, and as :type one of :invoke, :ok, :fail and :info'),

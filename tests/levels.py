@@ -6,7 +6,8 @@ Each log of examples/ and some hundred made ones are asked for each level: first
 not kept, the file of `--order`, which must be an order of that level, and that of `--part`, which must be of the log and have none, as the
 part must below `why LEVEL was not kept:`. With --cases N so many more made logs are asked once, without a level: what is told of the levels
 must be so. Larger logs, which brute force does not take, must keep each level that is implied by one that they keep. The table of
-examples/README.md must have what is so. A fault of an example has one name at all levels. Last line: 'levels: N passed, M failed'."""
+examples/README.md must have what is so. A fault of an example, or of a small log that is written out here, has one name at all levels; of
+the same transactions of a made log two levels tell two names only if these are two faults. Last line: 'levels: N passed, M failed'."""
 import argparse, collections, concurrent.futures, json, os, re, sys, tempfile
 
 HERE = os.path.dirname(os.path.abspath(__file__))
@@ -27,10 +28,25 @@ LINE = re.compile('^(%s): (kept|not kept|unknown)(?:, as .+)?$' % '|'.join(WEAKE
 WITHOUT = re.compile(r'^(?:without real time: (.+)|only real time was broken: the whole log has a serial order, but none in the order of its moments)$', re.M)
 CASES, SEED, SHOWN, LARGER, SAMPLE = 600, 1, 20, 40, 100
 TABLE = os.path.join(generate.EXAMPLES, 'README.md')
-# Examples of which one level tells another cycle than others do.
-OTHER_CYCLES = {'dirty_write.log', 'needless_step.log', 'crossed_readers.log'}
-# A read skew of which the two versions stand in the order of a session.
-BY_SESSION = b'session 1\nbegin\nw k 1\ncommit\nbegin\nw k 2\nw j 3\ncommit\nsession 2\nbegin\nr j 3\nr k 1\ncommit\n'
+# An example of which one level tells no name: a search alone shows it there.
+BY_SEARCH = {'crossed_readers.log'}
+# Small logs of which each level that is not kept has one fault: a read skew of which the two versions stand in the order of a session; an
+# update, and a write of another transaction that it missed, of which a third one sees too little; two versions of which neither can be the
+# first; a step by a read or by a session; circles of reads within a session; a long fork over an update.
+ONE_FAULT = [
+    'session 1,begin,w k 1,commit,begin,w k 2,w j 3,commit,session 2,begin,r j 3,r k 1,commit',
+    'session 1,begin,w x 1,commit,begin,r x 2,w x 3,commit,session 2,begin,r x 0,w x 2,commit',
+    'session 3,begin,r x 0,w x 3,commit,begin,r x 3,r y 1,commit,session 6,begin,w y 1,w x 2,commit',
+    'session 1,begin,w k 8,r j 0,w j 9,commit,session 2,begin,w j 3,w k 4,commit,session 3,begin,r k 4,r j 9,commit',
+    'session 1,begin,r k 0,w j 6,commit,begin,r i 4,r j 6,commit,session 2,begin,w k 2,commit,begin,w i 4,w j 5,commit',
+    'session 1,begin,w y 1,commit,begin,w x 2,r y 1,commit,session 2,begin,r x 2,r y 0,commit',
+    'session 8,begin,r x 4,commit,begin,w x 4,commit',
+    'session 3,begin,r x 4,w x 3,commit,begin,r x 3,w x 4,commit',
+    'session 1,begin,w k 1,commit,session 2,begin,w j 7,commit,begin,r j 7,r k 1,commit,session 4,begin,r j 0,w j 5,commit,begin,r j 5,r k 8,commit,session 5,begin,r k 1,w k 8,commit']
+# What a stronger level may find in transactions of which a weaker one tells something else: what weaker levels allow; a read or writes that
+# break each level by themselves; and of moments, or of a session, what one of the levels does not have.
+OTHER_FAULTS = re.compile(r'lost update|.*\(G2-|.*\(internal|.*\(G1|.*\(G0|.*real ?time')
+SHOWN_BY = re.compile(r'^shown by \d+ transactions?: (.+), (?:A\d|%s)\n(transactions .+)$' % '|'.join(map(re.escape, certificates.SHORT.values())), re.M)
 ROW = re.compile(r'\| `(\w+\.log)` \| [^|]+ \|((?: (?:yes|no|-) \|){%d})\n' % len(LEVELS))
 
 
@@ -60,12 +76,20 @@ def is_order(sessions, level, said):
     return holds and snapshots.is_order(nodes, [(kind, number[name]) for name, kind in points], locked=level != 'prefix')
 
 
+def may_differ(name, weaker):
+    """Whether these may be names of two faults of the same transactions, of which a stronger level tells the first. Of a session's order one
+    level may take a step that another one does not need."""
+    words = [re.sub(' by way of sessions| and sessions|-process', '', it) for it in (name, weaker)]
+    return words[0] == words[1] or any(OTHER_FAULTS.match(it) for it in (name, weaker))
+
+
 class Log:
     """A log, and what is said of it at each level."""
 
     def __init__(self, program, at, text):
         self.program, self.at, self.text, self.sessions = program, at, text, reference.read_log(text)
         self.kept, self.silent = kept_levels(self.sessions), silent_levels(self.sessions)
+        self.names = collections.defaultdict(list)  # of the transactions of a first part what each level calls its fault
 
     def audit(self, *words):
         return call(self.program, 'audit', '--at-least', '0', *words, text=self.text)
@@ -75,6 +99,9 @@ class Log:
         for level in LEVELS:
             self.judged_at(level)
         self.judged_below()
+        for names in self.names.values():
+            wrong = [name for name in names if name != names[0] and not may_differ(names[0], name)]
+            must(not wrong, 'of the same transactions levels tell %r' % names)
 
     def asked(self, level):
         """The weaker levels of which something is said behind one that is not kept."""
@@ -122,6 +149,8 @@ class Log:
             wanted = ANSWERS[answer][0], '%s: %s' % (LEVELS[level], ANSWERS[answer][1]), ''
             must((status, first, error) == wanted, '%s: %r, wanted %r' % (level, (status, first, error), wanted))
             self.check_weaker(level, rest)
+            if answer == 'no' and (shown := SHOWN_BY.search(rest)):
+                self.names[shown[2]].append(shown[1])
             files = [os.path.exists(path) for path in (order, part)]
             must(files == [answer == 'yes', answer == 'no'], '%s: an order and a part are written: %r' % (level, files))
             if answer == 'yes':
@@ -234,14 +263,14 @@ def wrong_rows():
 
 
 def wrong_names(program):
-    """The examples that have several names, of the levels at which they are not kept; and the first levels of those that have none."""
-    for name, text in [*generate.examples((1, 2, 3)), ('a read skew by a session', BY_SESSION)]:
+    """The logs that have several names, each with the first level that tells it."""
+    for name, text in [*generate.examples((1, 2, 3)), *((it, (it + ',').replace(',', '\n').encode()) for it in ONE_FAULT)]:
         found = {}
         for level in LEVELS:
             status, said, _ = call(program, 'audit', '--only', '--level', level, '--format', 'json', text=text)
             if status == 1:
                 found.setdefault(json.loads(said)['known_as'], level)
-        if len(found) > 1 and name not in OTHER_CYCLES:
+        if len(found) > 1 and name not in BY_SEARCH:
             yield '%s has several names: %r' % (name, found)
 
 

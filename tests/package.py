@@ -14,6 +14,7 @@ TOP = os.path.dirname(os.path.dirname(os.path.abspath(__file__)))
 AROUND, LATE = 70, 300
 STAMP = re.compile(rb'(?<=\(commit )[^()\0]{20}(?=\))')
 KIT = 'rattle-kit-0 logic 0123456789abcdef'
+SCRIPTS = 'import', 'picture', 'told', 'follow', 'mend', 'join'
 
 
 class Checks:
@@ -125,6 +126,7 @@ class Checks:
         with gzip.open(os.path.join(at, 'share', 'man', 'man1', 'cobra_poly.1.gz')) as page:
             self.expect(page.read() == content(os.path.join(TOP, 'docs', 'cobra_poly.1')), '%s: the manual page' % what)
         got = call('cobra_poly-import', '--from', 'jepsen', example('list_append.edn'), says='log 3')
+        self.expect(got[2].startswith('cobra_poly-import: 4 transactions'), '%s: what import says: %r' % (what, got[2]))
         with open(os.path.join(work, 'imported.log'), 'w') as out:
             out.write(got[1])
         call('cobra_poly', 'check', 'imported.log', status=1, says='A8')
@@ -142,8 +144,13 @@ class Checks:
         call('cobra_poly-mend', 'cut.log', says='cut.mended.log: ')
         call(os.path.join(home, 'collect', 'sqlite.py'), '--transactions', '50', '--rounds', '20', 'rounds')
         call('cobra_poly-follow', 'rounds', '--level', 'serializable', says='000001: serializable')
-        for script in ('cobra_poly-import', 'cobra_poly-picture', 'cobra_poly-join', 'cobra_poly-told'):
-            call(script, '--help')
+        for script in SCRIPTS:
+            got = call('cobra_poly-' + script, '--help', says='usage: cobra_poly-%s ' % script)
+            self.expect('.py' not in got[1], '%s: %s --help: %s' % (what, script, got[1]))
+        for words in (['join', 'none', '-o', 'out.log'], ['mend', 'none'], ['told', 'none'], ['picture', 'none'], ['import', '--from', 'plume', 'none']):
+            script = 'cobra_poly-' + words[0]
+            got = call(script, *words[1:], status=AROUND)
+            self.expect(got[2].startswith(script + ': '), '%s: what %s says: %r' % (what, script, got[2]))
 
     def page(self, at):
         """Pages for those who have a package speak of what it has, and the commands of README.md do what it says."""
@@ -153,6 +160,7 @@ class Checks:
         readme.stand_ins(tools)
         text = content(os.path.join(work, 'README.md')).decode()
         of_repository = './run', './check', './prove', './install', './solve', './package', 'toolchain', 'clone', '<!--', 'tools/'
+        of_repository += tuple(it + '.py' for it in SCRIPTS)
         for name in ('README.md', 'examples/README.md', 'examples/EXPLAINED.md', *('docs/%s.md' % it for it in 'COLLECTING FORMATS SCALE CI IMPORTING JEPSEN STORES SOLVERS'.split())):
             strange = [word for word in of_repository if word in content(os.path.join(work, name)).decode()]
             self.expect(not strange, '%s speaks of %s' % (name, strange))

@@ -416,6 +416,13 @@ class Checks:
             self.expect(ran.returncode == 0 and re.sub(r' \((transfer, <b>thread</b> 4|audit of 1\.1)\)', '', got) == said, 'told %r: %r' % (at, got))
             named, keys = re.compile('1[.]1 .transfer'), re.compile(r"(?:reads|wrote|writes|write|version of|update of|see 2[.]1's|\]) 1[.]1 \(tr")
             self.expect(all(named.search(line) for line in got.split('\n') if re.search('which 1[.]1|1[.]1 and|1[.]1 before|by 1[.]1', line)) and not keys.search(got), 'told %r: %r' % (at, got))
+        for more in ([], ['--level', 'snapshot']):
+            graph = subprocess.run([self.program, 'explain', '--format', 'dot', *more, path], stdout=subprocess.PIPE).stdout.decode()
+            ran = subprocess.run([sys.executable, TOLD, path], input=graph.encode(), stdout=subprocess.PIPE, stderr=subprocess.PIPE)
+            got = ran.stdout.decode()
+            quoted = r'transfer, \\<b\\>thread\\</b\\> 4' if more else 'transfer, <b>thread</b> 4'
+            self.expect(ran.returncode == 0 and re.sub(r' \((transfer, (\\?)<b\2>thread\2</b\2> 4|audit of 1\.1)\)', '', got) == graph, 'a graph %r: %r' % (more, got))
+            self.expect(re.search(r'\n"(?:1[.]1|anomaly)" \[.*["| ]1[.]1 \(%s\)' % quoted, got) and 'r 1.1 (' not in got and 'w 1.1 (' not in got, 'a graph %r: %r' % (more, got))
         reader, writer = os.pipe()
         os.close(reader)
         ran = subprocess.run([sys.executable, TOLD, path], input=said.encode(), stdout=writer, stderr=subprocess.PIPE)

@@ -256,8 +256,8 @@ class Follower:
             while waiting:
                 self.tell(*waiting.popleft(), len(waiting))
         if self.has_died() and not self.given.once and not os.path.exists(self.path('end')):
-            raise Stop('the recorder of %s died or gave up, and this is judged up to round %06d: mend.py makes a log of what is behind it' % (
-                self.given.folder, self.judged))
+            raise Stop('the recorder of %s died or gave up, and this is judged up to round %06d: %s makes a log of what is behind it' % (
+                self.given.folder, self.judged, scripts.called('mend')))
         if not self.judged:
             raise Stop('there is no round in %s' % self.given.folder)
         return UNKNOWN if self.unknown else 0
@@ -314,7 +314,7 @@ class Follower:
 
 def parse():
     about, _, more = __doc__.partition('\n')
-    parser = argparse.ArgumentParser(prog='follow.py', description=about.partition(': ')[2] + '\n' + more,
+    parser = argparse.ArgumentParser(description=about.partition(': ')[2] + '\n' + more,
                                      formatter_class=argparse.RawDescriptionHelpFormatter,
                                      usage='%(prog)s DIR --level LEVEL [OPTIONS] [-- WORDS]')
     parser.add_argument('folder', metavar='DIR', help='the folder of the rounds')

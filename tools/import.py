@@ -7,10 +7,11 @@ r(KEY,VALUE,SESSION,TXN) and w(KEY,VALUE,SESSION,TXN), as Plume and PolySI have 
 
 What was left out, and why, stands on standard error. docs/IMPORTING.md says what becomes of each line, and why a log of lists says the same
 as the history. Nothing of this is proved: what `check` says of the log is."""
-import argparse, json, re, sys
+import argparse, json, os, re, sys
 
-# How files begin that were compressed, and by what.
-COMPRESSED = {b'\xfd7zXZ\0': 'xz', b'\x1f\x8b': 'gzip', b'\x28\xb5\x2f\xfd': 'zstd', b'BZh': 'bzip2'}
+# How files begin that were compressed, by what, and what writes them as they were.
+COMPRESSED = {b'\xfd7zXZ\0': ('xz', 'xz -dc'), b'\x1f\x8b': ('gzip', 'gzip -dc'), b'\x28\xb5\x2f\xfd': ('zstd', 'zstd -dc'), b'BZh': ('bzip2', 'bzip2 -dc'),
+              b'PK\x03\x04': ('zip', 'unzip -p')}
 USAGE, UNREADABLE, AROUND = 2, 65, 70
 MAX_SESSIONS, MAX_MOMENT, MAX_DEPTH, MAX_TOLD = 65535, 2 ** 64 - 1, 100, 400
 STATUSES = '''Status 0 where the log was written, and 1 with --lists where it was and the lists contradict each other; %d for a usage fault;
@@ -133,13 +134,20 @@ def closed(stack, mark, line):
     return opened
 
 
+def see_packed(number, line):
+    """Refuses what is compressed, by its first line."""
+    packed = next((by for first, by in COMPRESSED.items() if number == 1 and line.startswith(first)), None)
+    if packed:
+        raise Unreadable(number, 'it is compressed by %s: %s HISTORY writes it as it was' % packed)
+
+
 def decoded(lines):
     for number, line in enumerate(lines, 1):
+        see_packed(number, line)
         try:
             yield number, line.decode()
         except UnicodeDecodeError:
-            program = next((program for first, program in COMPRESSED.items() if number == 1 and line.startswith(first)), None)
-            raise Unreadable(number, 'it is compressed by %s: %s -dc HISTORY writes it as it was' % (program, program) if program else 'a byte that is no UTF-8')
+            raise Unreadable(number, 'a byte that is no UTF-8')
 
 
 def tokens(lines):
@@ -563,6 +571,7 @@ class Plume:
         for line, text in enumerate(lines, 1):
             if not text.strip():
                 continue
+            see_packed(line, text)
             found = OPERATION.match(text)
             if not found:
                 raise Unreadable(line, 'a line is r(KEY,VALUE,SESSION,TXN) or w(KEY,VALUE,SESSION,TXN), with integers')
@@ -588,7 +597,7 @@ def say(text):
     """Tells something on standard error, where that is open, in a line that is not too long."""
     if sys.stderr:
         shown = re.sub(r'[\x00-\x1f\x7f-\x9f]', '?', text)
-        sys.stderr.write('import.py: %s\n' % (shown if len(shown) <= MAX_TOLD else shown[:MAX_TOLD] + ' ..'))
+        sys.stderr.write('%s: %s\n' % (os.path.basename(sys.argv[0]), shown if len(shown) <= MAX_TOLD else shown[:MAX_TOLD] + ' ..'))
 
 
 def write_out(text):

@@ -15,7 +15,7 @@ import join
 
 def main():
     about, _, more = __doc__.partition('\n')
-    parser = argparse.ArgumentParser(prog='mend.py', description=about.partition(': ')[2] + '\n' + more,
+    parser = argparse.ArgumentParser(description=about.partition(': ')[2] + '\n' + more,
                                      formatter_class=argparse.RawDescriptionHelpFormatter)
     parser.add_argument('log', metavar='LOG', help='the log, or the folder of a recorder')
     parser.add_argument('-o', dest='out', metavar='OUT', help='the mended log')
@@ -26,7 +26,7 @@ def main():
         for line in join.joined(argparse.Namespace(logs=[given.log], out=out, slack=0, died=True, overwrite=given.overwrite)):
             print('%s: %s' % (out, line))
     except (join.Stop, OSError) as fault:
-        print('mend.py: %s' % fault, file=sys.stderr)
+        print('%s: %s' % (os.path.basename(sys.argv[0]), fault), file=sys.stderr)
         return getattr(fault, 'status', join.AROUND)
     return 0
 

@@ -119,6 +119,7 @@ def of_package(page, at, known):
     page = CALLED.sub('cobra_poly ', OF_PACKAGE.sub(r'\1', OF_REPOSITORY.sub('', page)))
     for name, leads in COMMANDS.items():
         page = page.replace(leads, name)
+        page = re.sub(r'(?<![\w./-])' + re.escape(os.path.basename(leads)), name, page)
     return LINKED.sub(lambda link: link[0] if os.path.normpath(os.path.join(at, link[2])) in known else link[1], re.sub('\n{3,}', '\n\n', page))
 
 

@@ -22,6 +22,12 @@ class Stop(Exception):
         self.status = status
 
 
+def called(script):
+    """How a script beside this one is called: as a command of a package, where this one is."""
+    is_command = os.path.basename(sys.argv[0]).startswith('cobra_poly-')
+    return 'cobra_poly-' + script if is_command else script + '.py'
+
+
 def say(words):
     print('%s: %s' % (os.path.basename(sys.argv[0]), words), file=sys.stderr, flush=True)
 

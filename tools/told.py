@@ -1,6 +1,6 @@
 #!/usr/bin/env python3
 """told.py LOG < SAID: what `explain` or `audit --explain` said of a log, from standard input, with the labels of LOG.labels behind the names of
-transactions, as `3.1268 (transfer, thread 4)`; each once in a line.
+transactions, as `3.1268 (transfer, thread 4)`; each once in a line. So it is of a graph too, in the texts of its boxes and arrows.
 
 As a module it reads what they say by its grammar (docs/FORMATS.md, 'What `explain` says' and 'Snapshots and commits'). Nothing is judged here: a
 reader of a text gets its parts, each with the number of its line in that text, counted from 1."""
@@ -43,6 +43,10 @@ TELLS = re.compile('(?:^|, which |; )%s (?=reads |then reads |wrote |writes |ove
 # What is no name though it may look like one: a key behind what it stands behind; and a name.
 NO_NAME = r"(?:\b(?:reads|writes|wrote|wrote to|write|[rw]|version of|update of)|'s) {key}|\band {key}(?= [0-9]+ \(line)|(?:\[[0-9]+\]|\bsuppose) {key}(?=: [0-9]+, which)"
 NAMES = re.compile(r'%s|(?<![\w.:/-])%s(?![\w/-]|[.:]\w)' % (NO_NAME.format(key=KEY[1:-1]), NODE))
+# Where a graph of --format dot begins, and the text of a box or of an arrow there. What has a meaning in such a text, and
+# what besides in a record.
+GRAPH, DOT_TEXT = re.compile('(?:strict )?digraph explanation {\n'), re.compile(r'(?<=\blabel=")(?:[^"\\]|\\.)*(?=")')
+DOT_MEANT, RECORD_MEANT = '"\\', '{}|<>'
 # The kinds of what is said of an edge, by its form; the first that fits.
 KINDS = [('session', re.compile('session %s' % NUMBER)), ('first committer', re.compile(r'by \[([0-9]+)\]')),
          ('forced', re.compile(KEPT % r'by \[([0-9]+)\] comes')),
@@ -438,15 +442,23 @@ def labelled(line, labels):
     return NAMES.sub(of_name, line) if labels else line
 
 
+def labelled_graph(line, labels):
+    """The same for a line of a graph: in the text of a box or of an arrow alone, whose lines end in backslash and n."""
+    meant = DOT_MEANT + RECORD_MEANT * ('shape=record' in line)
+    quoted = {name: re.sub('[%s]' % re.escape(meant), r'\\\g<0>', label) for name, label in labels.items()}
+    return DOT_TEXT.sub(lambda text: r'\n'.join(labelled(it, quoted) for it in text[0].split(r'\n')), line)
+
+
 def main():
     import scripts
     words = argparse.ArgumentParser(description='Puts the labels of a log behind the names of its transactions in what explain said. Unproved.')
     words.add_argument('log', help='the log; its labels stand in LOG.labels')
-    labels = scripts.labels_of(words.parse_args().log, is_needed=True)
+    labels, is_graph = scripts.labels_of(words.parse_args().log, is_needed=True), False
     for line in sys.stdin:
         if line.startswith('{"'):
             raise scripts.Stop('standard input is an object of --format json, and names in it stay as they are: give the text')
-        sys.stdout.write(labelled(line, labels))
+        is_graph = is_graph or GRAPH.fullmatch(line) is not None
+        sys.stdout.write((labelled_graph if is_graph else labelled)(line, labels))
 
 
 if __name__ == '__main__':

@@ -1,6 +1,6 @@
 //! The anomaly that rules out every serial order of a history, where there is one.
 //!
-//! Called by `reduction` and `cobra_formulas`. It knows no graph and no text.
+//! Called by `reduction`, `cobra_formulas`, `judging` and `part_reasons`. It knows no graph and no text.
 //!
 //! Reads are looked at in log order, each once, beside what its transaction did to the key before
 //! it. Where no read is an anomaly, the writers of each key are looked at once, with the node that

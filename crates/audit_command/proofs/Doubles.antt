@@ -1,32 +1,20 @@
--- Parts of different transactions, the least first.
+-- Parts of which none holds another one, the least first.
 use Rattle.std.proofs.Common.{◌≡◌, ◌<◌, length, length-append, arith, true, false, List, [], ◌∷◌, ◌++◌, remove, refl, ap, subst}
 use Rattle.std.proofs.lemmas.List.Quantifiers.{all_pairs_remove}
-use Rattle.std.proofs.lemmas.Cmp.{nat_eq_equiv}
-use Rattle.std.specs.Cmp.Lexicographic.{pointwise}
 use Rattle.std.proofs.lemmas.Bool.{or_parts}
 use Rattle.session_log.proofs.Adding.{all_more}
-use Rattle.audit_command.specs.declared.told.ToldTxn.{ToldTxn}
-use Rattle.audit_command.specs.declared.told.ToldPart.{ToldPart}
-use Rattle.audit_command.specs.Distinct.{AreDistinct, IsOther, IsNoLarger, AreLeastFirst, same_txn, has_txns, is_told}
+use Rattle.audit_report.specs.declared.told.ToldPart.{ToldPart}
+use Rattle.audit_command.specs.Distinct.{AreDistinct, IsOther, IsNoLarger, AreLeastFirst, holds_txns, holds_one}
 
-same_itself : (xs : List ToldTxn) → pointwise same_txn xs xs ≡ true
-same_itself [] = refl
-same_itself (x ∷ xs) = rw (nat_eq_equiv.refl x.session, nat_eq_equiv.refl x.place, nat_eq_equiv.refl x.first, nat_eq_equiv.refl x.last) (same_itself xs)
-
-other : (p q : ToldPart) → has_txns p.txns.items q ≡ false → IsOther q.txns.items p
-other p q e same =
-    let one : pointwise same_txn q.txns.items q.txns.items ≡ false = subst (λ l. pointwise same_txn q.txns.items l ≡ false) same e in
-    cc (one, same_itself q.txns.items)
-
-pub one_more : (ps : List ToldPart) (p : ToldPart) → AreDistinct ps → is_told p.txns.items ps ≡ false → AreDistinct (ps ++ p ∷ [])
+pub one_more : (ps : List ToldPart) (p : ToldPart) → AreDistinct ps → holds_one ps p ≡ false → AreDistinct (ps ++ p ∷ [])
 one_more [] p h e = (tt, tt)
 one_more (q ∷ ps) p h e =
-    let apart = or_parts (has_txns p.txns.items q) (is_told p.txns.items ps) e in
-    (all_more (IsOther q.txns.items) ps p h.0 (other p q apart.0), one_more ps p h.1 apart.1)
+    let apart = or_parts (holds_txns q.txns.items p) (holds_one ps p) e in
+    (all_more (IsOther q.txns.items) ps p h.0 apart.0, one_more ps p h.1 apart.1)
 
-pub some_told : (txns : List ToldTxn) (ps : List ToldPart) → is_told txns ps ≡ true → 0 < length ps
-some_told txns [] e = cc
-some_told txns (p ∷ ps) e = omega arith
+pub some_told : (ps : List ToldPart) (p : ToldPart) → holds_one ps p ≡ true → 0 < length ps
+some_told [] p e = cc
+some_told (q ∷ ps) p e = omega arith
 
 pub empty : (ps : List ToldPart) → length ps ≡ 0 → ps ≡ []
 empty [] e = refl

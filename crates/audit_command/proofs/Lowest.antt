@@ -11,15 +11,15 @@ use Rattle.judging.specs.declared.judged.RefutedPart.{RefutedPart}
 use Rattle.judging.specs.declared.judged.Verdict.{Verdict}
 use Rattle.judging.specs.declared.judged.Verdict.TheVariants as verdict
 use Rattle.audit_command.specs.Levels.{judged_of}
-use Rattle.audit_command.specs.Lower.{or_above}
+use Rattle.audit_report.specs.Lower.{or_above}
 use Rattle.audit_command.specs.Resolved.{IsPartOf, IsPartOfVerdict}
 use Rattle.audit_command.specs.Audited.{IsPartTold, verdict_word, refuted_of, IsRefutedWhere, IsWeakest, asked_at, unless_shown, IsLowest, IsLowestAt}
-use Rattle.audit_command.specs.Objects.{parts_of}
+use Rattle.audit_report.specs.Objects.{parts_of}
 use Rattle.audit_command.specs.declared.options.AuditOptions.{AuditOptions}
-use Rattle.audit_command.specs.declared.told.Answer.{Answer}
-use Rattle.audit_command.specs.declared.told.ToldPart.{ToldPart}
-use Rattle.audit_command.specs.declared.told.Word.{Word}
-use Rattle.audit_command.specs.declared.told.Word.TheVariants as word
+use Rattle.audit_report.specs.declared.told.Answer.{Answer}
+use Rattle.audit_report.specs.declared.told.ToldPart.{ToldPart}
+use Rattle.audit_report.specs.declared.told.Word.{Word}
+use Rattle.audit_report.specs.declared.told.Word.TheVariants as word
 
 -- ---- a verdict
 pub refuted_where : (m : JudgeMeans) (ss : List ClientSession) (v : Verdict) → IsVerdict m ss v → IsMade (resolved ss) v → IsRefutedWhere m.level ss (Some (verdict_word v)) (refuted_of v)

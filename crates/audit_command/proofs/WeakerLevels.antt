@@ -17,11 +17,11 @@ use Rattle.judging.specs.declared.level.Level.TheVariants as level
 use Rattle.judging.specs.Levels.{HasOrderAt}
 use Rattle.judging.proofs.Resolved.{serial_resolved}
 use Rattle.audit_command.specs.declared.options.AuditOptions.{AuditOptions}
-use Rattle.audit_command.specs.declared.told.Word.{Word}
-use Rattle.audit_command.specs.declared.told.Word.TheVariants as word
-use Rattle.audit_command.specs.declared.told.Answer.{Answer}
+use Rattle.audit_report.specs.declared.told.Word.{Word}
+use Rattle.audit_report.specs.declared.told.Word.TheVariants as word
+use Rattle.audit_report.specs.declared.told.Answer.{Answer}
 use Rattle.audit_command.specs.Audited.{is_serial, asks_levels, asks_strict, asks_plain, at_snapshot, states_moments, IsWordWhere}
-use Rattle.audit_command.specs.Words.{is_kept}
+use Rattle.audit_report.specs.Words.{is_kept}
 
 -- ---- what is asked
 each_of : (x y z : Bool) → (x && y && z) ≡ true → ((x && (y || z)) ≡ true) × (y ≡ true)

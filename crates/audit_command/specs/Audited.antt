@@ -31,37 +31,37 @@ use Rattle.judging.specs.declared.judged.Tried.{Tried}
 use Rattle.judging.specs.declared.judged.Verdict.{Verdict}
 use Rattle.judging.specs.declared.judged.Verdict.TheVariants as verdict
 use Rattle.judging.specs.declared.means.JudgeMeans.{JudgeMeans}
-use Rattle.audit_command.specs.Apart.{IsSerialApartWhere}
-use Rattle.audit_command.specs.Counts.{AreCounts}
+use Rattle.part_reasons.specs.Apart.{IsSerialApartWhere}
+use Rattle.audit_report.specs.Counts.{AreCounts}
 use Rattle.audit_command.specs.Distinct.{AreDistinct, AreLeastFirst, adds_nothing, is_told_by}
 use Rattle.isolation.specs.declared.level.Isolation.{Isolation}
 use Rattle.isolation.specs.declared.level.Isolation.TheVariants as isolation
 use Rattle.judging.specs.declared.judged.RefutedPart.{RefutedPart}
 use Rattle.audit_command.specs.Levels.{judged_of, is_above, asks_moments}
-use Rattle.audit_command.specs.Lower.{weakest_of}
-use Rattle.audit_command.specs.declared.told.Lower.{Lower}
-use Rattle.audit_command.specs.Words.{status_of, is_kept}
+use Rattle.audit_report.specs.Lower.{weakest_of}
+use Rattle.audit_report.specs.declared.told.Lower.{Lower}
+use Rattle.audit_report.specs.Words.{status_of, is_kept}
 use Rattle.audit_command.specs.Places.{told_by}
-use Rattle.audit_command.specs.Report.{report_text}
-use Rattle.audit_command.specs.Said.{IsSaid}
-use Rattle.audit_command.specs.Drawn.{IsDrawnWhere}
-use Rattle.audit_command.specs.Graph.{graph_text}
-use Rattle.audit_command.specs.Why.{told_where}
+use Rattle.audit_report.specs.Report.{report_text}
+use Rattle.part_reasons.specs.Said.{IsSaid}
+use Rattle.part_reasons.specs.Drawn.{IsDrawnWhere}
+use Rattle.audit_report.specs.Graph.{graph_text}
+use Rattle.part_reasons.specs.Why.{told_where}
 use Rattle.audit_command.specs.Printed.{IsLine, AreLines}
-use Rattle.audit_command.specs.Objects.{report_object, refusal_object, parts_of}
+use Rattle.audit_report.specs.Objects.{report_object, refusal_object, parts_of}
 use Rattle.audit_command.specs.declared.options.AuditOptions.{AuditOptions}
-use Rattle.audit_command.specs.declared.told.ToldPart.{ToldPart}
-use Rattle.audit_command.specs.declared.told.Word.{Word}
-use Rattle.audit_command.specs.declared.told.Word.TheVariants as word
-use Rattle.audit_command.specs.declared.told.Answer.{Answer}
-use Rattle.audit_command.specs.declared.told.Answer.TheVariants as answer
-use Rattle.audit_command.specs.declared.told.Totals.{Totals}
-use Rattle.audit_command.specs.declared.told.Told.{Told}
+use Rattle.audit_report.specs.declared.told.ToldPart.{ToldPart}
+use Rattle.audit_report.specs.declared.told.Word.{Word}
+use Rattle.audit_report.specs.declared.told.Word.TheVariants as word
+use Rattle.audit_report.specs.declared.told.Answer.{Answer}
+use Rattle.audit_report.specs.declared.told.Answer.TheVariants as answer
+use Rattle.audit_report.specs.declared.told.Totals.{Totals}
+use Rattle.audit_report.specs.declared.told.Told.{Told}
 use Rattle.audit_command.specs.declared.weaker.Side.{Side}
 use Rattle.audit_command.specs.declared.weaker.Side.TheVariants as side
 use Rattle.audit_command.specs.declared.weaker.Weaker.{Weaker}
 use Rattle.audit_command.specs.declared.telling.Answered.{Answered}
-use Rattle.audit_command.specs.declared.files.PartFile.{PartFile}
+use Rattle.audit_report.specs.declared.files.PartFile.{PartFile}
 use Rattle.audit_command.specs.declared.known.Known.{Known}
 use Rattle.audit_command.specs.declared.outcome.Audited.{Audited}
 use Rattle.audit_command.specs.declared.outcome.Refusal.{Refusal}

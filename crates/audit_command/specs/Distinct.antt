@@ -1,18 +1,30 @@
--- Parts of different transactions, the least first.
-use Rattle.std.specs.Prelude.{◌&&◌, Bool, true, false, nat_eq, ℕ, ◌≤◌, ◌≢◌, List, [], ◌∷◌, length}
+-- Parts of which none holds another one, the least first.
+use Rattle.std.specs.Prelude.{◌≡◌, ◌&&◌, Bool, true, false, nat_eq, ℕ, ◌≤◌, List, [], ◌∷◌, length}
 use Rattle.std.specs.Prelude.{AllPairs, Option, Some, None, String, string_bytes}
-use Rattle.std.specs.List.{AllByRecursion, list_any}
+use Rattle.std.specs.List.{AllByRecursion, list_all, list_any}
 use Rattle.std.specs.Cmp.Lexicographic.{pointwise}
 use Rattle.std.specs.Str.{bytes_eq}
 use Rattle.std.specs.declared.alloc.Global.{Global}
-use Rattle.audit_command.specs.declared.told.ToldTxn.{ToldTxn}
-use Rattle.audit_command.specs.declared.told.ToldPart.{ToldPart}
+use Rattle.audit_report.specs.declared.told.ToldTxn.{ToldTxn}
+use Rattle.audit_report.specs.declared.told.ToldPart.{ToldPart}
 
--- the part has other transactions than these
+-- the same session, place and lines
+abbrev pub same_txn : ToldTxn → ToldTxn → Bool
+same_txn a b = nat_eq a.session b.session && (nat_eq a.place b.place
+    && (nat_eq a.first b.first && nat_eq a.last b.last))
+
+-- this is one of the part's transactions; and so is each of these
+abbrev pub is_among : ToldTxn → ToldPart → Bool
+is_among t p = list_any (λ own. same_txn own t) p.txns.items
+
+abbrev pub holds_txns : List ToldTxn → ToldPart → Bool
+holds_txns txns p = list_all (λ t. is_among t p) txns
+
+-- it lacks one of these transactions
 abbrev pub IsOther : List ToldTxn → ToldPart → Type 0
-IsOther txns p = p.txns.items ≢ txns
+IsOther txns p = holds_txns txns p ≡ false
 
--- no two parts have the same transactions
+-- no part holds all transactions of an earlier one
 abbrev pub AreDistinct : List ToldPart → Type 0
 AreDistinct [] = Unit {0}
 AreDistinct (p ∷ ps) = AllByRecursion (IsOther p.txns.items) ps × AreDistinct ps
@@ -26,18 +38,13 @@ AreLeastFirst parts = AllPairs IsNoLarger parts
 
 -- ---- looked for
 
--- the same session, place and lines
-abbrev pub same_txn : ToldTxn → ToldTxn → Bool
-same_txn a b = nat_eq a.session b.session && (nat_eq a.place b.place
-    && (nat_eq a.first b.first && nat_eq a.last b.last))
+-- it holds all transactions of one of the parts
+abbrev pub holds_one : List ToldPart → ToldPart → Bool
+holds_one parts p = list_any (λ q. holds_txns q.txns.items p) parts
 
 -- these are the transactions of the part
 abbrev pub has_txns : List ToldTxn → ToldPart → Bool
 has_txns txns p = pointwise same_txn p.txns.items txns
-
--- and those of one of the parts
-abbrev pub is_told : List ToldTxn → List ToldPart → Bool
-is_told txns parts = list_any (has_txns txns) parts
 
 -- this is the name; and a name that is this one, or is missing, adds nothing
 abbrev pub has_name : List ℕ → Option (String Global) → Bool

@@ -4,7 +4,7 @@ use Rattle.std.specs.Prelude.{Option, Some, None, Vec, slice_index_or}
 use Rattle.std.specs.declared.alloc.Global.{Global}
 use Rattle.session_log.specs.Text.{ClientSession, Transaction, txn_lines, session_lines}
 use Rattle.log_parts.specs.Picked.{flag_of, flags_view}
-use Rattle.audit_command.specs.declared.told.ToldTxn.{ToldTxn}
+use Rattle.audit_report.specs.declared.told.ToldTxn.{ToldTxn}
 
 -- a transaction at this place of a session of this number, which begins at this line: its operations
 -- have a line each, and one ends it

@@ -1,27 +1,41 @@
-//! Parts of different transactions, and parts that add nothing to others.
+//! Parts of which none holds another one, and parts that add nothing to others.
 
 ghost use Rattle.std.specs.Prelude.{◌≡◌, ◌+◌, ◌-◌, ◌≤◌, ◌<◌, ℕ, List, length, IfOk};
 ghost use Rattle.session_log.specs.Text.{ClientSession};
 ghost use Rattle.audit_command.specs.declared.options.AuditOptions.{AuditOptions};
 ghost use Rattle.audit_command.specs.Audited.{AreToldParts, AreParts};
-ghost use Rattle.audit_command.specs.Distinct.{AreLeastFirst, has_txns, is_told, has_name, adds_no_name};
-ghost use Rattle.audit_command.specs.Distinct.{adds_nothing, is_told_by};
+ghost use Rattle.audit_command.specs.Distinct.{AreLeastFirst, has_txns, has_name, adds_no_name};
+ghost use Rattle.audit_command.specs.Distinct.{is_among, holds_txns, holds_one, adds_nothing, is_told_by};
 
-use crate::told::{ToldPart, ToldTxn};
+use audit_report::{ToldPart, ToldTxn};
 use std::alloc::{AllocError, Global};
 
 /// Whether these are the transactions of the part.
-pub fn has_txns(part: &ToldPart, txns: &[ToldTxn]) -> bool
+fn has_txns(part: &ToldPart, txns: &[ToldTxn]) -> bool
     ensures has { result ≡ has_txns txns.now part.now }
 {
     part.txns.as_slice() == txns
 }
 
-/// Whether one of the parts has these transactions.
-pub fn is_told(parts: &[ToldPart], txns: &[ToldTxn]) -> bool
-    ensures told { result ≡ is_told txns.now parts.now }
+/// Whether this is one of the part's transactions.
+fn is_among(part: &ToldPart, txn: ToldTxn) -> bool
+    ensures among { result ≡ is_among txn part.now }
 {
-    parts.iter().any(|part| has_txns(part, txns))
+    part.txns.iter().any(|own| *own == txn)
+}
+
+/// Whether the part has all these transactions.
+fn holds_txns(part: &ToldPart, txns: &[ToldTxn]) -> bool
+    ensures holds { result ≡ holds_txns txns.now part.now }
+{
+    txns.iter().all(|txn| is_among(part, *txn))
+}
+
+/// Whether the part has all transactions of one of these.
+fn holds_one(parts: &[ToldPart], part: &ToldPart) -> bool
+    ensures holds { result ≡ holds_one parts.now part.now }
+{
+    parts.iter().any(|told| holds_txns(part, &told.txns))
 }
 
 /// Whether this is the name.
@@ -58,7 +72,7 @@ pub fn is_told_by(part: &ToldPart, parts: &[ToldPart]) -> bool
     parts.iter().any(|told| adds_nothing(part, told))
 }
 
-/// The parts, but for each that has the transactions of one before it.
+/// The parts, but for each that has all transactions of one before it.
 pub fn without_doubles(alloc: Global, parts: Vec<ToldPart>) -> Result<Vec<ToldPart>, AllocError>
     ensures parts { (o : AuditOptions) (n : ℕ) (ss : List ClientSession)
         → 0 < length parts.items → length parts.items ≤ 1 + (o.faults - 1)
@@ -67,7 +81,8 @@ pub fn without_doubles(alloc: Global, parts: Vec<ToldPart>) -> Result<Vec<ToldPa
 {
     let mut kept = Vec::new(alloc);
     for part in parts {
-        if !is_told(&kept, &part.txns) {
+        let holds = holds_one(&kept, &part);
+        if !holds {
             kept.push(part)?;
         }
     }

@@ -7,12 +7,10 @@ ghost use Rattle.session_log.specs.Version.{first_line};
 ghost use Rattle.log_laws.specs.Logs.{IsSoundLog};
 ghost use Rattle.audit_command.specs.Audited.{first_part, part_asked, IsPartFile, IsKnown};
 
-use crate::counts::counts_of;
-use crate::files::{PartFile, part_file};
 use crate::options::AuditOptions;
 use crate::telling::{Answered, JudgedLog, answer_of};
-use crate::told::{Answer, ToldPart, Totals};
 use crate::totals::totals_of;
+use audit_report::{Answer, PartFile, ToldPart, Totals, counts_of, part_file};
 use judging::{Judged, judge_whole};
 use progress::Progress;
 use session_history::Tally;

@@ -12,37 +12,21 @@
 //! part's map are tested.
 #![tactic(auto)]
 
-mod apart;
-mod codes;
 mod command;
-mod counts;
 mod distinct;
-mod drawing;
-mod explaining;
-mod files;
-mod graph;
 mod known;
 mod levels;
-mod lines;
 mod lower;
-mod object;
 mod options;
 mod outcome;
-mod overlooked;
 mod places;
 mod printed;
 mod refusals;
-mod report;
-mod snapshots;
 mod telling;
-mod told;
 mod totals;
 mod undecided;
 mod weaker;
-mod whys;
 
 pub use command::audit;
-pub use files::PartFile;
 pub use options::AuditOptions;
 pub use outcome::{Audited, Refusal};
-pub use refusals::failure_object;

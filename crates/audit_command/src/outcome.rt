@@ -1,6 +1,6 @@
 //! What an audit comes to.
 
-use crate::files::PartFile;
+use audit_report::PartFile;
 use cobra_answers::Reply;
 use session_log::LogFault;
 

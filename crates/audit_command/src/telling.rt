@@ -15,20 +15,16 @@ ghost use Rattle.audit_command.specs.Audited.{IsAnswered, IsOrderText, IsOrderFi
 ghost use Rattle.audit_command.specs.Distinct.{AreLeastFirst};
 ghost use Rattle.audit_command.specs.Resolved.{IsResolved, IsPartOf, IsPartOfVerdict};
 
-use crate::apart::is_serial_apart;
 use crate::distinct::without_doubles;
-use crate::drawing::draw_where;
-use crate::explaining::Explained;
-use crate::files::order_file;
 use crate::levels::asks_moments;
 use crate::options::AuditOptions;
 use crate::places::told_txns;
 use crate::printed::{only_line, only_lines};
-use crate::told::{Answer, ToldPart};
 use crate::undecided::{advice_lines, reason_text};
 use crate::weaker::state_moments;
-use crate::whys::explain_part;
+use audit_report::{Answer, ToldPart, order_file};
 use judging::{LevelLog, RefutedPart, Tried, Verdict, Why, more_parts};
+use part_reasons::{Explained, draw_where, explain_part, is_serial_apart};
 use point_orders::points_text;
 use progress::Progress;
 use proposals::Proposal;

@@ -3,11 +3,10 @@
 ghost use Rattle.std.specs.Prelude.{◌≡◌, List, map, count_by, IfOk};
 ghost use Rattle.session_log.specs.Text.{ClientSession, view, view_txn};
 ghost use Rattle.log_definitions.specs.Unknown.{is_committed, resolved};
-ghost use Rattle.audit_command.specs.Counts.{AreCounts};
+ghost use Rattle.audit_report.specs.Counts.{AreCounts};
 ghost use Rattle.audit_command.specs.Audited.{nodes_in, AreTotals};
 
-use crate::counts::LogCounts;
-use crate::told::Totals;
+use audit_report::{LogCounts, Totals};
 use session_log::{Session, Txn};
 use std::alloc::AllocError;
 

@@ -1,7 +1,7 @@
 //! Why a log is not decided, and what may help. No contract speaks of these words.
 
 use crate::places::told_txns;
-use crate::told::ToldTxn;
+use audit_report::ToldTxn;
 use judging::{Tried, Why};
 use proposals::{Flags, MAX_ENTRIES, MAX_LANES, NotTried, Proposal, Stuck};
 use session_log::{Limit, Session, Version};

@@ -13,17 +13,16 @@ ghost use Rattle.judging.specs.declared.means.JudgeMeans.{JudgeMeans};
 ghost use Rattle.audit_command.specs.Audited.{states_moment, some_state, one_states, states_moments};
 ghost use Rattle.audit_command.specs.Audited.{IsWord, IsWordWhere, IsWeaker};
 ghost use Rattle.audit_command.specs.Audited.{asks_levels, is_serial, asks_strict, asks_plain};
-ghost use Rattle.audit_command.specs.Words.{is_kept};
+ghost use Rattle.audit_report.specs.Words.{is_kept};
 ghost use Rattle.audit_command.specs.Audited.{at_snapshot, asked_at_snapshot, verdict_word};
 ghost use Rattle.audit_command.specs.Audited.{unless_told, IsShownBy};
 ghost use Rattle.audit_command.specs.Resolved.{IsPartOfVerdict};
-ghost use Rattle.audit_command.specs.declared.told.Word.TheVariants as word;
+ghost use Rattle.audit_report.specs.declared.told.Word.TheVariants as word;
 
 use crate::distinct::is_told_by;
-use crate::object::parts_of;
 use crate::options::AuditOptions;
 use crate::telling::told_part;
-use crate::told::{Answer, ToldPart, Word};
+use audit_report::{Answer, ToldPart, Word, is_kept, parts_of};
 use judging::{JudgeMeans, Level, Verdict, judge_known_log, leave_out_moments};
 use progress::Progress;
 use proposals::Flags;
@@ -147,13 +146,6 @@ fn asks_plain(options: &AuditOptions<'_>, answer: &Answer, states: bool) -> bool
         → result ≡ asks_plain options.now ss answer.now }
 {
     asks_levels(options, answer) && (is_serial(options.means.level) || states)
-}
-
-/// Whether it is told that a level was kept.
-pub fn is_kept(word: Option<Word>) -> bool
-    ensures kept { result ≡ is_kept word }
-{
-    matches!(word, Some(Word::Serializable))
 }
 
 /// Whether it is told of one of two levels that it was kept.

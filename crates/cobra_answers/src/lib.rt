@@ -1,7 +1,7 @@
 //! How a command ends: its status, why it is refused, and what it has to write. Here are also the
 //! texts of `check`, and where bytes come from.
 //!
-//! Called by `cobra_cli`, `audit_command`, `refute_command`, `solve_command` and `cobra_poly`. It
+//! Called by `cobra_cli`, `audit_command`, `audit_report`, `refute_command`, `solve_command` and `cobra_poly`. It
 //! knows no formula of a history, no search and no file.
 #![tactic(auto)]
 

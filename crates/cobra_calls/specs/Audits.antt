@@ -15,7 +15,7 @@ use Rattle.audit_command.specs.declared.options.AuditOptions.{AuditOptions}
 use Rattle.audit_command.specs.declared.outcome.Audited.{Audited}
 use Rattle.audit_command.specs.declared.outcome.Refusal.{Refusal}
 use Rattle.audit_command.specs.declared.outcome.Refusal.TheVariants as refusal
-use Rattle.audit_command.specs.declared.files.PartFile.{PartFile}
+use Rattle.audit_report.specs.declared.files.PartFile.{PartFile}
 use Rattle.cobra_calls.specs.Files.{File, Disk, Adds, FailsAt}
 use Rattle.cobra_answers.specs.declared.status.Status.{Status}
 use Rattle.cobra_answers.specs.declared.stop.Stop.TheVariants as stop

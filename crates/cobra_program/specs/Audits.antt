@@ -4,7 +4,7 @@ use Rattle.std.specs.declared.time.Instant.{Instant}
 use Rattle.output.specs.Sinks.{one_more}
 use Rattle.call_options.specs.declared.report_form.ReportForm.{ReportForm}
 use Rattle.call_options.specs.declared.report_form.ReportForm.TheVariants as report
-use Rattle.audit_command.specs.Objects.{failure_object}
+use Rattle.audit_report.specs.Objects.{failure_object}
 use Rattle.cobra_answers.specs.Failures.{code_of}
 use Rattle.cobra_answers.specs.declared.status.Status.{Status}
 use Rattle.cobra_words.specs.declared.request.Request.{Request}

@@ -2,12 +2,12 @@
 
 ghost use Rattle.std.specs.Prelude.{◌≡◌, option_map};
 ghost use Rattle.output.specs.Sinks.{one_more};
-ghost use Rattle.audit_command.specs.Objects as objects;
+ghost use Rattle.audit_report.specs.Objects as objects;
 ghost use Rattle.cobra_program.specs.Audits.{failure_line, IsSaid, IsFailureSaid};
 ghost use Rattle.cobra_program.specs.Audits.{IsAuditAnswered};
 
 use crate::stages::EachSecond;
-use audit_command::failure_object;
+use audit_report::failure_object;
 use call_options::ReportForm;
 use cobra_calls::{
     Ending, Errors, Inputs, NewFiles, Outlet, World, audit_log, hand_on, read_log, tell_ending,

@@ -1,7 +1,7 @@
 //! What is decided of a history: a serial order, or why there is none, or that the budget was
 //! spent.
 //!
-//! Called by `cobra_cli` and `judging`, and by `audit_command` of a part that is told;
+//! Called by `cobra_cli` and `judging`, and by `part_reasons` of a part that is told;
 //! `tell_decision` reads its decisions. It knows no text and no part.
 #![tactic(auto)]
 

@@ -105,6 +105,40 @@ fn faults_of_writers(rt: HostRuntime) {
     );
 }
 
+/// A log, and evidence of a read that no level allows, whose reason is false.
+fn refuses(rt: &impl Abort, log: &str, alloc: Global, read: OpAt, why: Why) {
+    let sessions = sessions_of(rt, alloc, log);
+    let evidence = fault(read, why);
+    assert!(rt;
+        !refutes(Level::ReadCommitted, &sessions, &evidence),
+        "{log}"
+    );
+}
+
+#[test]
+fn false_reasons(rt: HostRuntime) {
+    let (rt, alloc) = (&rt, rt.alloc());
+    let log = "session 1\nbegin\nw x 7\nw x 8\nr x 7\ncommit\n";
+    let (read, write) = (op(0, 0, 2), op(0, 0, 0));
+    refuses(rt, log, alloc, read, Why::MissesOwn { write: 0 });
+    refuses(rt, log, alloc, read, Why::Overwritten { write, later: 1 });
+    tells(
+        rt,
+        log,
+        alloc,
+        Level::ReadCommitted,
+        &fault(read, Why::MissesOwn { write: 1 }),
+        "in short: 1.1 does not read its own last write\n\
+        1.1 reads x 7 (line 5), but wrote x 8 before (line 4)\n",
+        Some("own write missed (internal)"),
+    );
+    let log = "session 1\nbegin\nw y 4\nr y 0\ncommit\n";
+    refuses(rt, log, alloc, op(0, 0, 1), Why::Unwritten);
+    let log = "session 1\nbegin\nr y 4\nw y 4\nw y 5\ncommit\n";
+    let (read, write) = (op(0, 0, 0), op(0, 0, 1));
+    refuses(rt, log, alloc, read, Why::Overwritten { write, later: 2 });
+}
+
 #[test]
 fn circles_of_known_hops(rt: HostRuntime) {
     let (rt, alloc) = (&rt, rt.alloc());
@@ -137,7 +171,7 @@ fn circles_of_known_hops(rt: HostRuntime) {
         1.2 comes after 1.1 in session 1\n\
         1.1 reads x 1 (line 3), which 1.2 wrote (line 6)\n\
         so 1.1 comes before 1.2, and 1.2 comes before 1.1\n",
-        Some("circular information flow (G1c-process)"),
+        Some("a read from the future (G1c-process)"),
     );
 }
 

@@ -9,8 +9,11 @@ use session_log::{Version, index_of, number_of};
 pub enum Wrong {
     ByteOrderMark,
     WideCharacters,
-    /// The log is compressed by this program.
-    Compressed(&'static str),
+    /// The log is compressed by this program; this call writes it as it was.
+    Compressed {
+        program: &'static str,
+        back: &'static str,
+    },
     CarriageReturn,
     Empty,
     NoLineFeed,
@@ -65,20 +68,22 @@ fn is_key_byte(byte: u8) -> bool {
     byte.is_ascii_alphanumeric() || matches!(byte, b'_' | b'.' | b':' | b'/' | b'-')
 }
 
-/// The program that compressed a file of these first bytes, and writes it as it was if it is asked by
-/// `-dc`.
-fn compressed_by(bytes: &[u8]) -> Option<&'static str> {
-    if bytes.starts_with(b"\xfd7zXZ") {
-        Some("xz")
+/// That a file of these first bytes is compressed.
+fn compressed_by(bytes: &[u8]) -> Option<Wrong> {
+    let (program, back) = if bytes.starts_with(b"\xfd7zXZ") {
+        ("xz", "xz -dc")
     } else if bytes.starts_with(b"\x1f\x8b") {
-        Some("gzip")
+        ("gzip", "gzip -dc")
     } else if bytes.starts_with(b"\x28\xb5\x2f\xfd") {
-        Some("zstd")
+        ("zstd", "zstd -dc")
     } else if bytes.starts_with(b"BZh") {
-        Some("bzip2")
+        ("bzip2", "bzip2 -dc")
+    } else if bytes.starts_with(b"PK\x03\x04") {
+        ("zip", "unzip -p")
     } else {
-        None
-    }
+        return None;
+    };
+    Some(Wrong::Compressed { program, back })
 }
 
 /// What the whole file looks like by its first line.
@@ -89,7 +94,7 @@ fn wrong_as_a_file(bytes: &[u8]) -> Option<Wrong> {
     if bytes.starts_with(b"\xff\xfe") || bytes.starts_with(b"\xfe\xff") {
         return Some(Wrong::WideCharacters);
     }
-    Some(Wrong::Compressed(compressed_by(bytes)?))
+    compressed_by(bytes)
 }
 
 /// What the whole line looks like, whatever its words.

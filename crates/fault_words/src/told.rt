@@ -35,9 +35,9 @@ fn form_words(alloc: Global, wrong: Wrong, line: LogLine<'_>) -> Result<String, 
     let words = match wrong {
         Wrong::ByteOrderMark => "the log begins with a byte order mark, which it may not have",
         Wrong::WideCharacters => "the log is in UTF-16: it has to be in ASCII",
-        Wrong::Compressed(program) => {
+        Wrong::Compressed { program, back } => {
             return format!(in alloc;
-                "the log is compressed by {program}: {program} -dc FILE | cobra_poly audit -"
+                "the log is compressed by {program}: {back} FILE | cobra_poly audit - with the same options"
             );
         }
         Wrong::CarriageReturn => "the line ends in CR LF: lines end in LF alone",

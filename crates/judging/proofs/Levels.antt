@@ -1,9 +1,12 @@
 -- What is judged at a level, and what it says of a log whose outcomes are known, and of the sessions that this comes from.
-use Rattle.std.proofs.Common.{◌≡◌, ℕ, List, [], map, sym, ap, ◌∙◌, subst, true}
+use Rattle.std.proofs.Common.{◌≡◌, ◌⊎◌, inl, inr, ℕ, List, [], map, Some, refl, sym, ap, ◌∙◌, subst, true}
 use Rattle.std.specs.List.{AllByRecursion}
 use Rattle.session_log.specs.Text.{ClientSession, IsLegal, key_of}
 use Rattle.session_log.specs.declared.session.Op.{Op}
 use Rattle.log_definitions.specs.Unknown.{resolved}
+use Rattle.log_definitions.specs.Numbers.{log_of}
+use Rattle.serializability.specs.Anomalies.{anomaly_of}
+use Rattle.serializability.specs.declared.anomaly.Anomaly.{Anomaly as Reported}
 use Rattle.log_definitions.specs.WellFormed.{keys_in, first_seen}
 use Rattle.log_definitions.specs.Serial.{IsSerialOrder}
 use Rattle.log_definitions.proofs.Settled.{ops_resolved}
@@ -37,9 +40,9 @@ use Rattle.judging.specs.declared.found.Found.{Found}
 use Rattle.judging.specs.declared.found.Found.TheVariants as found
 use Rattle.judging.specs.Limits.{IsOver}
 use Rattle.judging.specs.declared.judged.Finding.{Finding}
-use Rattle.judging.specs.declared.judged.Finding.TheVariants.{Overlooked}
+use Rattle.judging.specs.declared.judged.Finding.TheVariants.{Anomaly, Overlooked}
 use Rattle.judging.specs.Levels.{is_split, judged_at, HasNoOrderAt, HasRoomAt, IsOrderAt, IsJudgedAt}
-use Rattle.judging.specs.Judges.{Finds, FindsAt, IsRefutedLog, IsUndecidedBy}
+use Rattle.judging.specs.Judges.{Finds, FindsAt, FindsIn, IsOwnOf, IsRefutedLog, IsUndecidedBy}
 use Rattle.judging.specs.Finds.{IsFound, of_serial}
 use Rattle.judging.proofs.Resolved.{twice, known, serial_of_resolved}
 use Rattle.judging.proofs.Parts.{none_of_part}
@@ -159,10 +162,27 @@ split_is Serializable ss judged is log h = cc
 split_is (Below below) ss judged is log h = cc
 
 finds_split : (level : Level) (ss : List ClientSession) (finding : Finding) → is_split level ≡ true → Finds (judged_at level ss) finding → FindsAt level ss finding
-finds_split Snapshot ss finding is h = h
-finds_split Prefix ss finding is h = h
+finds_split Snapshot ss finding is h = record { first = finding; finds = h; told = inl refl }
+finds_split Prefix ss finding is h = record { first = finding; finds = h; told = inl refl }
 finds_split Serializable ss finding is h = cc
 finds_split (Below below) ss finding is h = cc
+
+-- an anomaly of the log itself stands in place of one of its split log
+own_from : (ss : List ClientSession) (first : Finding) (a b : Reported) → anomaly_of (log_of ss) ≡ Some b → (Anomaly a ≡ first) ⊎ IsOwnOf ss first (Anomaly a) → IsOwnOf ss first (Anomaly b)
+own_from ss first a b e (inl same) = record { of_split = a; own = b; was = sym same; told = refl; reported = e }
+own_from ss first a b e (inr was) = record { of_split = was.of_split; own = b; was = was.was; told = refl; reported = e }
+
+own_in : (judged ss : List ClientSession) (a b : Reported) → anomaly_of (log_of ss) ≡ Some b → FindsIn judged ss (Anomaly a) → FindsIn judged ss (Anomaly b)
+own_in judged ss a b e h = record { first = h.first; finds = h.finds; told = inr (own_from ss h.first a b e h.told) }
+
+own_at : (level : Level) (ss : List ClientSession) (a b : Reported) → is_split level ≡ true → anomaly_of (log_of ss) ≡ Some b → FindsAt level ss (Anomaly a) → FindsAt level ss (Anomaly b)
+own_at Snapshot ss a b at e h = own_in (judged_at Snapshot ss) ss a b e h
+own_at Prefix ss a b at e h = own_in (judged_at Prefix ss) ss a b e h
+own_at Serializable ss a b at e h = cc
+own_at (Below below) ss a b at e h = cc
+
+pub own_found : (m : JudgeMeans) (ss : List ClientSession) (a b : Reported) → is_split m.level ≡ true → anomaly_of (log_of ss) ≡ Some b → IsFound m ss (found.Refuted (Anomaly a)) → IsFound m ss (found.Refuted (Anomaly b))
+own_found m ss a b at e is = record { none = is.none; room = is.room; found = own_at m.level ss a b at e is.found }
 
 pub not_snapshot : Serializable ≡ Snapshot → ⊥
 not_snapshot e = cc

@@ -1,7 +1,8 @@
 -- What is said of a log of any length.
-use Rattle.std.specs.Prelude.{◌≡◌, ◌≢◌, ℕ, true, false, List, map, Some, None}
+use Rattle.std.specs.Prelude.{◌≡◌, ◌≢◌, ◌⊎◌, ℕ, true, false, List, map, Some, None}
 use Rattle.session_log.specs.Text.{ClientSession, view}
 use Rattle.serializability.specs.Anomalies.{anomaly_of}
+use Rattle.serializability.specs.declared.anomaly.Anomaly.{Anomaly as Reported}
 use Rattle.log_definitions.specs.Unknown.{resolved}
 use Rattle.log_definitions.specs.Numbers.{log_of}
 use Rattle.part_laws.specs.Parts.{IsPart}
@@ -57,11 +58,25 @@ abbrev pub FindsBelow : BelowLevel → List ClientSession → Finding → Type 0
 FindsBelow below ss Overlooked = (evidence : Evidence) × (is_refuted below ss evidence ≡ true)
 FindsBelow below ss _ = ⊥
 
+-- an anomaly of these sessions themselves, in place of one of their split log
+pub record IsOwnOf (ss : List ClientSession) (first finding : Finding) : Type 0 where
+  pub of_split : Reported
+  pub own : Reported
+  pub was : first ≡ Anomaly of_split
+  pub told : finding ≡ Anomaly own
+  pub reported : anomaly_of (log_of ss) ≡ Some own
+
+-- what stands against the split log of these sessions; or, of an anomaly there, their own
+pub record FindsIn (judged ss : List ClientSession) (finding : Finding) : Type 0 where
+  pub first : Finding
+  pub finds : Finds judged first
+  pub told : (finding ≡ first) ⊎ IsOwnOf ss first finding
+
 -- what stands against a log at a level, in the log that is judged for it
 abbrev pub FindsAt : Level → List ClientSession → Finding → Type 0
 FindsAt Serializable ss finding = Finds ss finding
-FindsAt Snapshot ss finding = Finds (judged_at Snapshot ss) finding
-FindsAt Prefix ss finding = Finds (judged_at Prefix ss) finding
+FindsAt Snapshot ss finding = FindsIn (judged_at Snapshot ss) ss finding
+FindsAt Prefix ss finding = FindsIn (judged_at Prefix ss) ss finding
 FindsAt (Below below) ss finding = FindsBelow below ss finding
 
 -- no order of the level explains the log's committed and any unknown transactions, and why: in the

@@ -1,13 +1,16 @@
 //! What is found of a log that is judged by itself.
 
-ghost use Rattle.std.specs.Prelude.{◌≡◌, true, List, IfOk, IfSome, map};
+ghost use Rattle.std.specs.Prelude.{◌≡◌, true, List, Some, IfOk, IfSome, map};
 ghost use Rattle.session_log.specs.Text.{ClientSession, view};
 ghost use Rattle.session_log.specs.declared.fault.LogFault.TheVariants.{OverLimit};
+ghost use Rattle.serializability.specs.Anomalies.{anomaly_of};
+ghost use Rattle.log_definitions.specs.Numbers.{log_of};
 ghost use Rattle.log_laws.specs.Logs.{IsLog};
 ghost use Rattle.deciding.specs.Decides.{Decides};
 ghost use Rattle.judging.specs.Judges.{IsLeftOpen};
 ghost use Rattle.judging.specs.Finds.{IsFound, IsLimitOrMemory, is_spent, of_serial};
 ghost use Rattle.judging.specs.Levels.{is_split};
+ghost use Rattle.judging.specs.declared.judged.Finding.TheVariants as finding;
 ghost use Rattle.judging.specs.declared.means.JudgeMeans.{JudgeMeans};
 
 use crate::below::see_below;
@@ -16,12 +19,13 @@ use crate::judged::{Finding, Why};
 use crate::level::{Level, LevelLog, log_at};
 use crate::limits::size_limit;
 use crate::means::JudgeMeans;
+use anomalies::classify;
 use deciding::{Decision, decide};
 use desk::gate::OpenGate;
 use log_parts::copy_log;
 use order_cnf::CnfFault;
 use polygraph::PolyFault;
-use session_history::{History, NodeIx, NodeLine};
+use session_history::{Anomaly, History, NodeIx, NodeLine};
 use session_log::{Limit, LogFault, Session, Version};
 use solving::{Solution, solve_nodes};
 use std::alloc::{AllocError, Global};
@@ -243,6 +247,67 @@ fn see_points<R: Threads + Wait + Clock + Sync>(
     }
 }
 
+/// The anomaly that is found, where one is.
+fn anomaly_in(found: &Found) -> Option<Anomaly>
+    ensures found { IfSome result (λ a. found.now ≡ Found.Refuted (finding.Anomaly a)) }
+{
+    match found {
+        Found::Refuted(Finding::Anomaly(anomaly)) => Some(*anomaly),
+        _ => None,
+    }
+}
+
+/// The anomaly of a log itself, where it has one, and can be judged by itself.
+fn own_anomaly(alloc: Global, log: &[Session]) -> Result<Option<Anomaly>, AllocError>
+    requires log { IsLog (map view log.now) }
+    ensures own { IfOk result (λ own. IfSome own (λ a.
+        anomaly_of (log_of (map view log.now)) ≡ Some a)) }
+{
+    if size_limit(log).is_some() {
+        return Ok(None);
+    }
+    match History::build(alloc, Version::One, copy_log(alloc, log)?) {
+        Ok(history) => classify(alloc, &history),
+        Err(fault) => match fault {
+            LogFault::Memory => Err(AllocError),
+            _ => Ok(None),
+        },
+    }
+}
+
+/// What is found of a log at a level of points; of an anomaly of its split log its own, which is what
+/// is told.
+fn with_own(alloc: Global, log: &[Session], found: Found) -> Result<Found, AllocError>
+    requires log { IsLog (map view log.now) }
+    ensures own { IfOk result (λ own. (m : JudgeMeans) → is_split m.level ≡ true
+        → IsFound m (map view log.now) found → IsFound m (map view log.now) own) }
+{
+    let Some(_anomaly) = anomaly_in(&found) else {
+        return Ok(found);
+    };
+    let own = own_anomaly(alloc, log)?;
+    match own {
+        Some(own) => Ok(Found::Refuted(Finding::Anomaly(own))),
+        None => Ok(found),
+    }
+}
+
+/// What is found of a log at a level of points, by its split log and by itself.
+fn see_both<R: Threads + Wait + Clock + Sync>(
+    rt: &R,
+    alloc: Global,
+    log: &[Session],
+    means: &JudgeMeans,
+) -> Result<Seen, AllocError>
+    requires log { IsLog (map view log.now) }
+    requires level { is_split means.now.level ≡ true }
+    ensures { IfOk result (λ seen. IsFound means.now (map view log.now) seen.found) }
+{
+    let Seen { found, nodes } = see_points(rt, alloc, log, means)?;
+    let found = with_own(alloc, log, found)?;
+    Ok(Seen { found, nodes })
+}
+
 /// What is found of a log that can be judged by itself, and the nodes that show it.
 pub fn see_log<R: Threads + Wait + Clock + Sync>(
     rt: &R,
@@ -255,7 +320,7 @@ pub fn see_log<R: Threads + Wait + Clock + Sync>(
 {
     match means.level {
         Level::Serializable => see_serial(rt, alloc, log, means),
-        Level::Snapshot | Level::Prefix => see_points(rt, alloc, log, means),
+        Level::Snapshot | Level::Prefix => see_both(rt, alloc, log, means),
         Level::Below(below) => see_below(rt, alloc, below, log, means),
     }
 }

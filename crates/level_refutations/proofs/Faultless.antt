@@ -80,7 +80,7 @@ left_in own key wid i (s ∷ ss) e = elim (or_cases (is_left_by (eqb i own.sessi
       record { index = suc r.index; session = r.session; stands = r.stands; left = ap (λ n. is_left_by (eqb n own.session) own.txn key wid 0 r.session.txns) (sym same) ∙ r.left }
 ]
 
-is_wid : (wid : ℕ) (o : Option ℕ) → is_some_wid wid o ≡ true → o ≡ Some wid
+pub is_wid : (wid : ℕ) (o : Option ℕ) → is_some_wid wid o ≡ true → o ≡ Some wid
 is_wid wid None e = absurd (false≢true e)
 is_wid wid (Some w) e = ap Some (eqb-true w wid e)
 

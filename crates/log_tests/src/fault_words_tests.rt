@@ -32,19 +32,23 @@ fn what_is_wrong_with_a_whole_line(rt: HostRuntime) {
         ),
         (
             b"\xfd7zXZ\0\0\x04",
-            "a.log:1: the log is compressed by xz: xz -dc FILE | cobra_poly audit - (L1)",
+            "a.log:1: the log is compressed by xz: xz -dc FILE | cobra_poly audit - with the same options (L1)",
         ),
         (
             b"\x1f\x8b\x08\0\n",
-            "a.log:1: the log is compressed by gzip: gzip -dc FILE | cobra_poly audit - (L1)",
+            "a.log:1: the log is compressed by gzip: gzip -dc FILE | cobra_poly audit - with the same options (L1)",
         ),
         (
             b"\x28\xb5\x2f\xfd\x04",
-            "a.log:1: the log is compressed by zstd: zstd -dc FILE | cobra_poly audit - (L1)",
+            "a.log:1: the log is compressed by zstd: zstd -dc FILE | cobra_poly audit - with the same options (L1)",
         ),
         (
             b"BZh91AY",
-            "a.log:1: the log is compressed by bzip2: bzip2 -dc FILE | cobra_poly audit - (L1)",
+            "a.log:1: the log is compressed by bzip2: bzip2 -dc FILE | cobra_poly audit - with the same options (L1)",
+        ),
+        (
+            b"PK\x03\x04\x14",
+            "a.log:1: the log is compressed by zip: unzip -p FILE | cobra_poly audit - with the same options (L1)",
         ),
         (
             b"session 1\nBZh\n",

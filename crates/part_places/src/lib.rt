@@ -1,6 +1,6 @@
 //! Where the transactions of a part of a log, and their operations, stand in the whole log.
 //!
-//! Called by `audit_command`. It knows no anomaly and not who chooses the part.
+//! Called by `part_reasons`. It knows no anomaly and not who chooses the part.
 #![tactic(auto)]
 
 pub mod laws;

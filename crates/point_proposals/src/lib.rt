@@ -2,7 +2,7 @@
 //! two of which neither can commit first, by steps. Nothing is promised of it; `point_refutations`
 //! checks what it finds.
 //!
-//! Called by `audit_command`. It knows no split log, no lock and no line.
+//! Called by `part_reasons`. It knows no split log, no lock and no line.
 #![tactic(auto)]
 
 mod graph;

@@ -1,3 +1,4 @@
 mod Found
 mod Ways
 mod Orderless
+mod Needed

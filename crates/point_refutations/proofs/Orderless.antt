@@ -29,8 +29,8 @@ use Rattle.point_refutations.specs.declared.refutation.Step.TheVariants as step
 use Rattle.point_refutations.specs.declared.refutation.Ending.{Ending}
 use Rattle.point_refutations.specs.declared.refutation.Ending.TheVariants.{Circle, Neither}
 use Rattle.point_refutations.specs.declared.refutation.Refutation.{Refutation}
-use Rattle.point_refutations.specs.Edges.{edge_from, is_way}
-use Rattle.point_refutations.specs.Refuted.{write_same, is_both, is_overwritten, is_against_by, is_against, is_some_way, is_step, are_steps, is_circle, is_neither, is_ending, is_refuted}
+use Rattle.point_refutations.specs.Edges.{edge_from, is_way, is_simple, is_simple_way}
+use Rattle.point_refutations.specs.Refuted.{write_same, is_both, are_writers, is_overwritten, is_against_by, is_against, is_some_way, is_step, are_steps, is_circle, is_neither, is_ending, are_needed, is_refuted}
 use Rattle.point_refutations.proofs.Found.{Given, begins, finds_write, reader, writer, writer_of_key}
 use Rattle.point_refutations.proofs.Ways.{Comes, between, StepComes, way_comes, way_leads}
 
@@ -83,27 +83,31 @@ one_first ss g both locked b =
 -- ---- why the late one cannot be that
 overwrites : (ss : List ClientSession) (g : Given ss) (steps : List Step) → AllByRecursion (StepComes ss g) steps → (late other : TxnAt) (x : Overwritten) (edges : List Edge) (l o : ℕ) → Stands ss late l → Stands ss other o → is_against_by ss steps late other (Some x) edges ≡ true → place g.points (commit l) < place g.points (snapshot o) → ⊥
 overwrites ss g steps known late other x edges l o at_l at_o t lt =
-    let there = is_same x.found.txn late && is_same x.write.txn other in
-    let p = and_parts (is_overwritten ss late other x) (is_way ss steps (Commit other) edges (Snapshot x.read.txn)) t in
+    let apart = not (is_same x.read.txn other) in
+    let there = is_same x.found.txn late && (is_same x.write.txn other && apart) in
+    let p = and_parts (is_overwritten ss late other x) (is_simple_way ss steps (Commit other) edges (Snapshot x.read.txn)) t in
+    let simple = and_parts (is_simple edges) (is_way ss steps (Commit other) edges (Snapshot x.read.txn)) p.1 in
     let q = and_parts (is_external ss x.read && (is_named ss x.found x.read && is_of_key ss x.write x.read)) there p.0 in
     let e = and_parts (is_external ss x.read) (is_named ss x.found x.read && is_of_key ss x.write x.read) q.0 in
     let n = and_parts (is_named ss x.found x.read) (is_of_key ss x.write x.read) e.1 in
-    let k = and_parts (is_same x.found.txn late) (is_same x.write.txn other) q.1 in
+    let k = and_parts (is_same x.found.txn late) (is_same x.write.txn other && apart) q.1 in
+    let m = and_parts (is_same x.write.txn other) apart k.1 in
     let r = reader ss x.read g.learnt e.0 in
     let f = writer ss x.found x.read r.node r.read g.learnt n.0 in
     let w = writer_of_key ss x.write x.read r.node r.read g.learnt n.1 in
     let is_l = one_node ss late f.node l g.sound g.learnt (subst (λ at. Stands ss at f.node) (same_at x.found.txn late k.0) f.stands) at_l in
-    let is_o = one_node ss other w.1.node o g.sound g.learnt (subst (λ at. Stands ss at w.1.node) (same_at x.write.txn other k.1) w.1.stands) at_o in
+    let is_o = one_node ss other w.1.node o g.sound g.learnt (subst (λ at. Stands ss at w.1.node) (same_at x.write.txn other m.0) w.1.stands) at_o in
     let wrote = subst (λ v. Contains (ops_of ss v) (Write r.read.key r.read.wid)) is_l f.wrote in
     let over = subst (λ v. WritesKey ss v r.read.key) is_o (w.0, w.1.wrote) in
     let own = begins ss g o (within ss other o at_o) in
     let missed = (finds_write ss g x.read r.node r.read r.stands l wrote).last o over (omega (arith, lt, own)) in
-    let seen = way_leads ss g steps known (Commit other) edges (Snapshot x.read.txn) o r.node at_o r.stands p.1 in
+    let seen = way_leads ss g steps known (Commit other) edges (Snapshot x.read.txn) o r.node at_o r.stands simple.1 in
     omega (arith, missed, seen)
 
 not_first : (ss : List ClientSession) (g : Given ss) (steps : List Step) → AllByRecursion (StepComes ss g) steps → (late other : TxnAt) (o : Option Overwritten) (edges : List Edge) (u v : ℕ) → Stands ss late u → Stands ss other v → is_against_by ss steps late other o edges ≡ true → place g.points (commit u) < place g.points (snapshot v) → ⊥
 not_first ss g steps known late other None edges u v at_u at_v t lt =
-    let way = way_leads ss g steps known (Snapshot other) edges (Commit late) v u at_v at_u t in
+    let simple = and_parts (is_simple edges) (is_way ss steps (Snapshot other) edges (Commit late)) t in
+    let way = way_leads ss g steps known (Snapshot other) edges (Commit late) v u at_v at_u simple.1 in
     omega (arith, lt, way)
 not_first ss g steps known late other (Some x) edges u v at_u at_v t lt = overwrites ss g steps known late other x edges u v at_u at_v t lt
 
@@ -114,8 +118,13 @@ shown ss g steps known first second (e ∷ edges) some t = way_comes ss g steps 
 
 step_comes : (ss : List ClientSession) (g : Given ss) (steps : List Step) → AllByRecursion (StepComes ss g) steps → (s : Step) → is_step g.locked ss steps s ≡ true → StepComes ss g s
 step_comes ss g steps known (step.Shown first second edges) t =
-    let p = and_parts (is_some_way edges.items) (is_way ss steps (Commit first) edges.items (Snapshot second)) t in
-    shown ss g steps known first second edges.items p.0 p.1
+    let some = is_some_way edges.items in
+    let way = is_simple_way ss steps (Commit first) edges.items (Snapshot second) in
+    let l = and_parts g.locked (are_writers ss first second && (some && way)) t in
+    let w = and_parts (are_writers ss first second) (some && way) l.1 in
+    let p = and_parts some way w.1 in
+    let simple = and_parts (is_simple edges.items) (is_way ss steps (Commit first) edges.items (Snapshot second)) p.1 in
+    shown ss g steps known first second edges.items p.0 simple.1
 step_comes ss g steps known (step.Forced both against) t =
     let p = and_parts g.locked (is_both ss both && is_against ss steps both.other.txn both.one.txn against) t in
     let q = and_parts (is_both ss both) (is_against ss steps both.other.txn both.one.txn against) p.1 in
@@ -136,7 +145,8 @@ all_come ss g earlier (s ∷ steps) known t =
 no_circle : (ss : List ClientSession) (g : Given ss) (steps : List Step) → AllByRecursion (StepComes ss g) steps → (edges : List Edge) → is_circle ss steps edges ≡ true → ⊥
 no_circle ss g steps known [] t = false≢true t
 no_circle ss g steps known (e ∷ edges) t =
-    let c = way_comes ss g steps known (edge_from e) e edges (edge_from e) t in
+    let simple = and_parts (is_simple (e ∷ edges)) (is_way ss steps (edge_from e) (e ∷ edges) (edge_from e)) t in
+    let c = way_comes ss g steps known (edge_from e) e edges (edge_from e) simple.1 in
     let again = between ss g (edge_from e) (edge_from e) c.one c.one c c.at_one c.at_one in
     omega (arith, again)
 
@@ -160,5 +170,7 @@ no_end ss g steps known (Neither both not_one not_other) t = some_first ss g ste
 pub no_order : (locked : Bool) (ss : List ClientSession) (r : Refutation) → is_refuted locked ss r ≡ true → IsSoundLog ss → IsLearntLog ss → HasPointOrder locked ss → ⊥
 no_order locked ss r t sound learnt (points, is) =
     let g : Given ss = record { locked = locked; points = points; is = is; sound = sound; learnt = learnt } in
-    let p = and_parts (are_steps locked ss [] r.steps.items) (is_ending locked ss r.steps.items r.ending) t in
-    no_end ss g r.steps.items (all_come ss g [] r.steps.items tt p.0) r.ending p.1
+    let needed = are_needed r.steps.items r.ending 0 r.steps.items in
+    let p = and_parts (are_steps locked ss [] r.steps.items) (is_ending locked ss r.steps.items r.ending && needed) t in
+    let q = and_parts (is_ending locked ss r.steps.items r.ending) needed p.1 in
+    no_end ss g r.steps.items (all_come ss g [] r.steps.items tt p.0) r.ending q.0

@@ -1,5 +1,5 @@
 -- Edges and ways hold in each order of points.
-use Rattle.std.proofs.Common.{◌≡◌, ℕ, ◌<◌, ◌≤◌, true, false, ◌&&◌, cond, List, [], ◌∷◌, length, eqb, ltb, eqb-true, Option, Some, None, refl, sym, ap, ◌∙◌, subst, inl, inr, arith}
+use Rattle.std.proofs.Common.{◌≡◌, ℕ, ◌<◌, ◌≤◌, true, false, not, ◌&&◌, cond, List, [], ◌∷◌, length, eqb, ltb, eqb-true, Option, Some, None, refl, sym, ap, ◌∙◌, subst, inl, inr, arith}
 use Rattle.std.specs.Prelude.{slice_get, is_some, option_and_then}
 use Rattle.std.specs.List.{AllByRecursion, Contains}
 use Rattle.std.specs.Option.{option_map_or}
@@ -33,7 +33,7 @@ use Rattle.point_refutations.specs.declared.refutation.Why.{Why}
 use Rattle.point_refutations.specs.declared.refutation.Why.TheVariants as why
 use Rattle.point_refutations.specs.declared.refutation.Edge.{Edge}
 use Rattle.point_refutations.specs.declared.refutation.Step.{Step}
-use Rattle.point_refutations.specs.Edges.{first_of, second_of, is_order, is_by_step, is_found_there, is_found, is_same_read, is_since, misses, is_moment_step, is_why, is_edge, is_missed, edge_from, edge_to, leads_on, is_way}
+use Rattle.point_refutations.specs.Edges.{first_of, second_of, is_order, is_by_step, is_found_there, is_found, is_same_read, is_since, misses_by, misses, is_moment_step, is_why, is_edge, is_missed, edge_from, edge_to, leads_on, is_way}
 use Rattle.point_refutations.proofs.Found.{Given, begins, finds, writes_zero, finds_write, some_where, reader, writer, writer_of_key, same_reads}
 
 -- ---- points of places
@@ -168,7 +168,8 @@ by_missed ss g steps known from to m t =
     let read = op_of from m.read in
     let write = op_of to m.write in
     let old = is_since ss steps read m.found to m.since in
-    let p = and_parts (is_external ss read) (is_found ss read m.found && (is_of_key ss write read && old)) t in
+    let d = and_parts (not (is_same from to)) (misses_by ss steps read m.found write m.since) t in
+    let p = and_parts (is_external ss read) (is_found ss read m.found && (is_of_key ss write read && old)) d.1 in
     let q = and_parts (is_found ss read m.found) (is_of_key ss write read && old) p.1 in
     let k = and_parts (is_of_key ss write read) old q.1 in
     let r = reader ss read g.learnt p.0 in

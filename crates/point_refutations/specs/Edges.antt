@@ -1,6 +1,6 @@
 -- Edges between the points of transactions: the commit of one before the snapshot of another, or the
 -- snapshot of one that misses a write before the commit of the other.
-use Rattle.std.specs.Prelude.{ℕ, ◌==◌, ◌&&◌, Bool, true, false, not, is_some, List, [], ◌∷◌}
+use Rattle.std.specs.Prelude.{ℕ, ◌==◌, ◌&&◌, ◌||◌, Bool, true, false, not, is_some, List, [], ◌∷◌}
 use Rattle.std.specs.Prelude.{if◌then◌else◌, slice_get, Option, None, Some, option_and_then}
 use Rattle.std.specs.Option.{option_map_or}
 use Rattle.std.specs.Str.{bytes_eq}
@@ -81,8 +81,10 @@ abbrev pub misses_by : List ClientSession → List Step → OpAt → Option OpAt
 misses_by ss steps read found write since = is_external ss read && (is_found ss read found
     && (is_of_key ss write read && is_since ss steps read found write.txn since))
 
+-- nobody misses his own write
 abbrev pub misses : List ClientSession → List Step → TxnAt → TxnAt → Missed → Bool
-misses ss steps from to m = misses_by ss steps (op_of from m.read) m.found (op_of to m.write) m.since
+misses ss steps from to m = not (is_same from to)
+    && misses_by ss steps (op_of from m.read) m.found (op_of to m.write) m.since
 
 -- ---- edges
 
@@ -126,3 +128,27 @@ abbrev pub is_way : List ClientSession → List Step → PointAt → List Edge �
 is_way ss steps from [] to = leads_on from to
 is_way ss steps from (e ∷ edges) to = (leads_on from (edge_from e) && is_edge ss steps e)
     && is_way ss steps (edge_to e) edges to
+
+-- ---- ways that pass no point twice
+
+abbrev pub is_same_point : PointAt → PointAt → Bool
+is_same_point (Snapshot a) (Snapshot b) = is_same a b
+is_same_point (Snapshot a) (Commit b) = false
+is_same_point (Commit a) (Snapshot b) = false
+is_same_point (Commit a) (Commit b) = is_same a b
+
+-- both begin at one point, or both end at one
+abbrev pub meets : Edge → Edge → Bool
+meets one other = is_same_point (edge_from one) (edge_from other)
+    || is_same_point (edge_to one) (edge_to other)
+
+abbrev pub meets_some : Edge → List Edge → Bool
+meets_some one [] = false
+meets_some one (e ∷ edges) = meets one e || meets_some one edges
+
+abbrev pub is_simple : List Edge → Bool
+is_simple [] = true
+is_simple (e ∷ edges) = not (meets_some e edges) && is_simple edges
+
+abbrev pub is_simple_way : List ClientSession → List Step → PointAt → List Edge → PointAt → Bool
+is_simple_way ss steps from edges to = is_simple edges && is_way ss steps from edges to

@@ -87,7 +87,7 @@ fn is_since(
     }
 }
 
-/// Whether a read of the one transaction misses a write of the other.
+/// Whether a read of the one transaction misses a write of the other, which is not the same.
 fn misses(sessions: &[Session], steps: &[Step], from: TxnAt, to: TxnAt, missed: Missed) -> bool
     ensures { result ≡ spec.misses (map view sessions.now) steps.now from to missed }
 {
@@ -99,7 +99,8 @@ fn misses(sessions: &[Session], steps: &[Step], from: TxnAt, to: TxnAt, missed: 
         txn: to,
         op: missed.write,
     };
-    is_external(sessions, read)
+    !is_same(from, to)
+        && is_external(sessions, read)
         && is_found(sessions, read, missed.found)
         && is_of_key(sessions, write, read)
         && is_since(sessions, steps, read, missed.found, to, missed.since)
@@ -181,13 +182,7 @@ fn leads_on(one: PointAt, other: PointAt) -> bool
 }
 
 /// Whether the edges lead from the one point to the other.
-pub fn is_way(
-    sessions: &[Session],
-    steps: &[Step],
-    from: PointAt,
-    edges: &[Edge],
-    to: PointAt,
-) -> bool
+fn is_way(sessions: &[Session], steps: &[Step], from: PointAt, edges: &[Edge], to: PointAt) -> bool
     ensures { result ≡ spec.is_way (map view sessions.now) steps.now from edges.now to }
 {
     let mut at = from;
@@ -198,4 +193,59 @@ pub fn is_way(
         at = edge_to(*edge);
     }
     leads_on(at, to)
+}
+
+/// Whether these are one point.
+fn is_same_point(one: PointAt, other: PointAt) -> bool
+    ensures { result ≡ spec.is_same_point one other }
+{
+    match (one, other) {
+        (PointAt::Snapshot(a), PointAt::Snapshot(b)) => is_same(a, b),
+        (PointAt::Commit(a), PointAt::Commit(b)) => is_same(a, b),
+        _ => false,
+    }
+}
+
+/// Whether both edges begin at one point, or both end at one.
+fn meets(one: Edge, other: Edge) -> bool
+    ensures { result ≡ spec.meets one other }
+{
+    is_same_point(edge_from(one), edge_from(other)) || is_same_point(edge_to(one), edge_to(other))
+}
+
+/// Whether the edge meets one of these.
+fn meets_some(one: Edge, edges: &[Edge]) -> bool
+    ensures { result ≡ spec.meets_some one edges.now }
+{
+    for edge in edges {
+        if meets(one, *edge) {
+            return true;
+        }
+    }
+    false
+}
+
+/// Whether no two of these edges meet.
+fn is_simple(edges: &[Edge]) -> bool
+    ensures { result ≡ spec.is_simple edges.now }
+{
+    for i in 0..edges.len() {
+        if meets_some(edges[i], &edges[i + 1..]) {
+            return false;
+        }
+    }
+    true
+}
+
+/// Whether the edges lead from the one point to the other, and pass no point twice.
+pub fn is_simple_way(
+    sessions: &[Session],
+    steps: &[Step],
+    from: PointAt,
+    edges: &[Edge],
+    to: PointAt,
+) -> bool
+    ensures { result ≡ spec.is_simple_way (map view sessions.now) steps.now from edges.now to }
+{
+    is_simple(edges) && is_way(sessions, steps, from, edges, to)
 }

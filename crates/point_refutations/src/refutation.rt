@@ -86,7 +86,7 @@ pub struct Against {
     pub edges: Vec<Edge>,
 }
 
-/// One transaction commits before another takes its snapshot.
+/// One transaction commits before another, which writes one of its keys too, takes its snapshot.
 #[derive(Debug, Drop)]
 pub enum Step {
     /// Edges lead from the commit to the snapshot.
@@ -127,7 +127,7 @@ impl Step {
 /// What steps lead to.
 #[derive(Debug, Drop)]
 pub enum Ending {
-    /// Edges lead from a point to itself.
+    /// Edges lead from a point to itself, and pass no point twice.
     Circle(Vec<Edge>),
     /// Two write one key, and neither can commit first.
     Neither {
@@ -138,7 +138,7 @@ pub enum Ending {
 }
 
 /// Why the points of some transactions have no order: steps, each over the ones before it, and what
-/// they lead to.
+/// they lead to. Something rests on each step.
 #[derive(Debug, Drop)]
 pub struct Refutation {
     pub steps: Vec<Step>,

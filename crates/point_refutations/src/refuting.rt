@@ -6,9 +6,10 @@ ghost use Rattle.log_laws.specs.Logs.{IsSoundLog, IsLearntLog};
 ghost use Rattle.level_laws.specs.Snapshot.{HasPointOrder};
 ghost use Rattle.point_refutations.specs.Refuted as spec;
 
-use crate::edges::{edge_from, is_way};
+use crate::edges::{edge_from, is_simple_way};
+use crate::needs::are_needed;
 use crate::refutation::{Against, Both, Edge, Ending, Overwritten, PointAt, Refutation, Step};
-use level_refutations::{OpAt, TxnAt, is_external, is_named, is_of_key, is_same, op_at};
+use level_refutations::{OpAt, TxnAt, is_external, is_named, is_of_key, is_same, op_at, txn_at};
 use session_log::{Op, Session};
 
 /// Whether both are writes of one key.
@@ -37,7 +38,48 @@ fn is_both(sessions: &[Session], both: Both) -> bool
     }
 }
 
-/// Whether a read finds what the late one writes, and the other one writes its key.
+/// Whether the operation and one of these write one key.
+fn writes_too(op: &Op, others: &[Op]) -> bool
+    ensures { result ≡ spec.writes_too op.now others.now }
+{
+    for other in others {
+        if writes_same(op, other) {
+            return true;
+        }
+    }
+    false
+}
+
+/// Whether one of these and one of those do.
+fn write_some(ops: &[Op], others: &[Op]) -> bool
+    ensures { result ≡ spec.write_some ops.now others.now }
+{
+    for op in ops {
+        if writes_too(op, others) {
+            return true;
+        }
+    }
+    false
+}
+
+/// Whether these are two transactions that write some key.
+fn are_writers(sessions: &[Session], one: TxnAt, other: TxnAt) -> bool
+    ensures { result ≡ spec.are_writers (map view sessions.now) one other }
+{
+    if is_same(one, other) {
+        return false;
+    }
+    let Some(first) = txn_at(sessions, one) else {
+        return false;
+    };
+    match txn_at(sessions, other) {
+        Some(second) => write_some(&first.ops, &second.ops),
+        None => false,
+    }
+}
+
+/// Whether a read of another transaction finds what the late one writes, and the other one writes
+/// its key.
 fn is_overwritten(sessions: &[Session], late: TxnAt, other: TxnAt, it: Overwritten) -> bool
     ensures { result ≡ spec.is_overwritten (map view sessions.now) late other it }
 {
@@ -46,6 +88,7 @@ fn is_overwritten(sessions: &[Session], late: TxnAt, other: TxnAt, it: Overwritt
         && is_of_key(sessions, it.write, it.read)
         && is_same(it.found.txn, late)
         && is_same(it.write.txn, other)
+        && !is_same(it.read.txn, other)
 }
 
 /// Whether the late one cannot commit before the other one takes its snapshot.
@@ -62,11 +105,12 @@ fn is_against(
     match against.overwritten {
         None => {
             let (from, to) = (PointAt::Snapshot(other), PointAt::Commit(late));
-            is_way(sessions, steps, from, edges, to)
+            is_simple_way(sessions, steps, from, edges, to)
         }
         Some(it) => {
             let (from, to) = (PointAt::Commit(other), PointAt::Snapshot(it.read.txn));
-            is_overwritten(sessions, late, other, it) && is_way(sessions, steps, from, edges, to)
+            is_overwritten(sessions, late, other, it)
+                && is_simple_way(sessions, steps, from, edges, to)
         }
     }
 }
@@ -82,7 +126,10 @@ fn is_step(is_locked: bool, sessions: &[Session], earlier: &[Step], step: &Step)
             edges,
         } => {
             let (from, to) = (PointAt::Commit(*first), PointAt::Snapshot(*second));
-            !edges.is_empty() && is_way(sessions, earlier, from, edges, to)
+            is_locked
+                && are_writers(sessions, *first, *second)
+                && !edges.is_empty()
+                && is_simple_way(sessions, earlier, from, edges, to)
         }
         Step::Forced { both, against } => {
             is_locked
@@ -104,7 +151,7 @@ fn are_steps(is_locked: bool, sessions: &[Session], steps: &[Step]) -> bool
     true
 }
 
-/// Whether the edges lead from a point to itself.
+/// Whether the edges lead from a point to itself, and pass no point twice.
 fn is_circle(sessions: &[Session], steps: &[Step], edges: &[Edge]) -> bool
     ensures { result ≡ spec.is_circle (map view sessions.now) steps.now edges.now }
 {
@@ -112,7 +159,7 @@ fn is_circle(sessions: &[Session], steps: &[Step], edges: &[Edge]) -> bool
         return false;
     }
     let start = edge_from(edges[0]);
-    is_way(sessions, steps, start, edges, start)
+    is_simple_way(sessions, steps, start, edges, start)
 }
 
 /// Whether steps lead to it.
@@ -135,12 +182,14 @@ fn is_ending(is_locked: bool, sessions: &[Session], steps: &[Step], ending: &End
     }
 }
 
-/// Whether each step is right behind those before it, and they lead to the ending.
+/// Whether each step is right behind those before it, they lead to the ending, and something rests
+/// on each.
 fn is_right(is_locked: bool, sessions: &[Session], refutation: &Refutation) -> bool
     ensures { result ≡ spec.is_refuted is_locked (map view sessions.now) refutation.now }
 {
     are_steps(is_locked, sessions, &refutation.steps)
         && is_ending(is_locked, sessions, &refutation.steps, &refutation.ending)
+        && are_needed(&refutation.steps, &refutation.ending)
 }
 
 /// Whether the refutation is right: then these sessions, whose outcomes are known, have no order of

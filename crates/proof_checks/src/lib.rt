@@ -12,8 +12,6 @@ mod index;
 mod lrat;
 mod plain;
 mod search;
-#[cfg(test)]
-mod tests;
 
 ghost use Rattle.std.specs.Prelude.{OnOk, IfErr};
 ghost use Rattle.refutation.specs.Follows.{Entails, IsRefuted};

@@ -16,8 +16,6 @@ mod form;
 mod lrat;
 mod number;
 mod reading;
-#[cfg(test)]
-mod tests;
 mod words;
 
 pub use drat::{DratAction, DratSteps};

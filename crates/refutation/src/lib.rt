@@ -16,8 +16,6 @@ mod checker;
 mod clauses;
 mod hints;
 pub mod laws;
-#[cfg(test)]
-mod tests;
 
 pub use checker::{Checker, Shown};
 pub use hints::take_step;

@@ -1,20 +1,27 @@
-//! Cycles of known edges.
+//! What is told of cycles, of dead ledgers and of trees.
 
 ghost use Rattle.std.specs.Prelude.{[], IfOk};
 ghost use Rattle.serializability.specs.Reads.{IsClean};
 ghost use Rattle.log_definitions.specs.Numbers.{log_of};
+ghost use Rattle.cube_laws.specs.Trees.{IsRefutationTree};
 ghost use Rattle.reduction.specs.Chained.{IsKnownCycle};
+ghost use Rattle.reduction.specs.Outcome.{IsDeadHistory, IsOpenHistory};
 ghost use Rattle.tell_reasons.specs.declared.why.Why.TheVariants as why;
 ghost use Rattle.tell_steps.specs.Lines.{Stands, LineStands};
-ghost use Rattle.tell_steps.specs.Steps.{IsWhy, IsLineTold};
+ghost use Rattle.tell_steps.specs.Steps.{IsWhy, IsLineTold, IsDeadTold};
+ghost use Rattle.tell_trees.specs.Trees.{IsTreeTold};
 ghost use Rattle.tell_decision.specs.Explained.{IsRoundTold};
 
+use cube_laws::Tree;
+use prune_ledger::{Ledger, Reduced};
 use reasons::{Reason, reason_of, without_runs};
+use reduction::open_chains;
 use serializability::NodeIx;
 use session_history::History;
 use std::alloc::{AllocError, Global};
 use tell_reasons::Why;
-use tell_steps::Item;
+use tell_steps::{Item, tell_dead};
+use tell_trees::tell_tree;
 
 /// Why the log shows that `a` stands before `b`, where it does.
 #[tactic(auto, using(crate::proofs::Known::reason_there))]
@@ -37,13 +44,15 @@ fn tell_line(alloc: Global, history: &History, line: &[NodeIx]) -> Result<Vec<It
     ensures told { IfOk result (λ items. IsLineTold history.now [] [] line.now items.items) }
 {
     let mut items = Vec::with_capacity(alloc, line.len())?;
-    for i in 0..line.len() - 1 {
-        let first = line[i];
-        let second = line[i + 1];
+    let mut place = line.len() - 1;
+    while place > 0 {
+        let (first, second) = (line[place - 1], line[place]);
         let shown = reason(alloc, history, first, second)?;
         let why = Why::Known(shown);
         items.push(Item::Edge { first, second, why })?;
+        place -= 1;
     }
+    items.reverse();
     Ok(items)
 }
 
@@ -59,4 +68,35 @@ pub fn cycle_items(
 {
     let short = without_runs(alloc, history, line)?;
     tell_line(alloc, history, &short)
+}
+
+/// What is told of a dead ledger: the forced steps that its cycle needs, and the cycle.
+pub fn dead_items(
+    alloc: Global,
+    history: &History,
+    ledger: &Ledger,
+) -> Result<Vec<Item>, AllocError>
+    requires clean { IsClean (log_of history.now) }
+    requires dead { IsDeadHistory history.now ledger.now }
+    ensures told { IfOk result (λ items. IsDeadTold history.now items.items) }
+{
+    let chains = open_chains(alloc, history)?;
+    tell_dead(alloc, history, &chains, ledger)
+}
+
+/// What is told of a tree: the forced steps that its cycles need, and the tree.
+pub fn tree_items(
+    alloc: Global,
+    history: &History,
+    reduced: &Reduced,
+    tree: &Tree,
+) -> Result<Vec<Item>, AllocError>
+    requires clean { IsClean (log_of history.now) }
+    requires left { IsOpenHistory history.now reduced.now }
+    requires refutes { IsRefutationTree reduced.now.poly tree.now }
+    ensures told { IfOk result (λ items.
+        IsTreeTold history.now reduced.now.poly.choices tree.now items.items) }
+{
+    let chains = open_chains(alloc, history)?;
+    tell_tree(alloc, history, &chains, reduced, tree)
 }

@@ -9,20 +9,17 @@ ghost use Rattle.tell_reasons.specs.Anomalies.{anomaly_text};
 ghost use Rattle.tell_decision.specs.Explained.{lines_text, IsCycleWritten};
 ghost use Rattle.tell_decision.specs.Explained.{IsDeadWritten, IsTreeWritten};
 
-use crate::cycles::cycle_items;
+use crate::cycles::{cycle_items, dead_items, tree_items};
 use crate::written::{Told, written, written_lines};
 use call_options::Format;
 use cube_laws::Tree;
 use log_lines::PlacedHistory;
 use prune_ledger::{Ledger, Reduced};
 use reasons::crossed_reads;
-use reduction::open_chains;
 use serializability::{Anomaly, NodeIx};
 use session_history::History;
 use std::alloc::{AllocError, Global};
 use tell_reasons::put_anomaly;
-use tell_steps::tell_dead;
-use tell_trees::tell_tree;
 
 /// The operations that show an anomaly.
 pub fn explain_anomaly(
@@ -68,8 +65,7 @@ pub fn explain_dead(
     requires dead { IsDeadHistory log.now.history.now ledger.now }
     ensures written { IfOk result (λ text. IsDeadWritten format log.now text.items) }
 {
-    let chains = open_chains(alloc, log.history)?;
-    let items = tell_dead(alloc, log.history, &chains, ledger)?;
+    let items = dead_items(alloc, log.history, ledger)?;
     let found = crossed_reads(alloc, log.history)?;
     let text = written(alloc, log, format, Told::Dead(found), &items)?;
     Ok(text)
@@ -90,8 +86,7 @@ pub fn explain_tree(
     ensures written { IfOk result (λ text.
         IsTreeWritten reduced.now.poly.choices tree.now format log.now text.items) }
 {
-    let chains = open_chains(alloc, log.history)?;
-    let items = tell_tree(alloc, log.history, &chains, reduced, tree)?;
+    let items = tree_items(alloc, log.history, reduced, tree)?;
     let found = crossed_reads(alloc, log.history)?;
     let text = written(alloc, log, format, Told::Tree(found), &items)?;
     Ok(text)

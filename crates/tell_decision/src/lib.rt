@@ -1,7 +1,7 @@
 //! Why a decision stands, as text or as a graph.
 //!
 //! Called by `cobra_cli`, by `judging`, which makes parts smaller by the nodes on which a decision
-//! rests, and by `audit_command` of a part's log. It knows no part and no status.
+//! rests, and by `part_reasons` of a part's log. It knows no part and no status.
 #![tactic(auto)]
 
 mod cycles;

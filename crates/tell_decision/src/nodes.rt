@@ -1,22 +1,15 @@
 //! The nodes on which it rests that a history has no order: those of an anomaly, of a cycle, of the
 //! forced steps and of the tree of a search. No contract speaks of what is given.
 
-ghost use Rattle.serializability.specs.Reads.{IsClean};
-ghost use Rattle.log_definitions.specs.Numbers.{log_of};
-ghost use Rattle.reduction.specs.Outcome.{IsDeadHistory, IsOpenHistory};
-ghost use Rattle.cube_laws.specs.Trees.{IsRefutationTree};
 ghost use Rattle.deciding.specs.Decides.{IsDecided};
 
-use cube_laws::Tree;
+use crate::cycles::{dead_items, tree_items};
 use deciding::Decision;
-use prune_ledger::{Ledger, Reduced};
-use reduction::open_chains;
 use serializability::{Anomaly, NodeIx};
 use session_history::History;
 use std::alloc::{AllocError, Global};
 use tell_reasons::{ChainOrder, Why};
-use tell_steps::{Item, tell_dead};
-use tell_trees::tell_tree;
+use tell_steps::Item;
 
 /// Adds the nodes of a chain of the key from this one back to its head.
 fn put_chain(
@@ -99,36 +92,6 @@ fn anomaly_nodes(alloc: Global, anomaly: Anomaly) -> Result<Vec<NodeIx>, AllocEr
     Ok(nodes)
 }
 
-/// The nodes of the steps that the cycle of a dead ledger needs, and of the cycle.
-fn dead_nodes(alloc: Global, history: &History, ledger: &Ledger) -> Result<Vec<NodeIx>, AllocError>
-    requires clean { IsClean (log_of history.now) }
-    requires dead { IsDeadHistory history.now ledger.now }
-{
-    let mut nodes = Vec::new(alloc);
-    let chains = open_chains(alloc, history)?;
-    let items = tell_dead(alloc, history, &chains, ledger)?;
-    put_items(&mut nodes, history, &items)?;
-    once_each(alloc, history, &nodes)
-}
-
-/// The nodes of the orders of a tree, of the cycles at its leaves, and of the steps that these need.
-fn tree_nodes(
-    alloc: Global,
-    history: &History,
-    reduced: &Reduced,
-    tree: &Tree,
-) -> Result<Vec<NodeIx>, AllocError>
-    requires clean { IsClean (log_of history.now) }
-    requires left { IsOpenHistory history.now reduced.now }
-    requires refutes { IsRefutationTree reduced.now.poly tree.now }
-{
-    let mut nodes = Vec::new(alloc);
-    let chains = open_chains(alloc, history)?;
-    let items = tell_tree(alloc, history, &chains, reduced, tree)?;
-    put_items(&mut nodes, history, &items)?;
-    once_each(alloc, history, &nodes)
-}
-
 /// These nodes, once each.
 fn once_each(
     alloc: Global,
@@ -158,11 +121,14 @@ pub fn nodes_of(
     requires decided { IsDecided history.now decision.now }
 {
     let _invariant = history.committed();
-    match decision {
-        Decision::Anomalous(anomaly) => anomaly_nodes(alloc, *anomaly),
-        Decision::Cyclic(line) => line.to_vec(alloc),
-        Decision::Dead(ledger) => dead_nodes(alloc, history, ledger),
-        Decision::Refuted { reduced, tree } => tree_nodes(alloc, history, reduced, tree),
-        Decision::Serial(_) | Decision::Spent { .. } => Ok(Vec::new(alloc)),
-    }
+    let items = match decision {
+        Decision::Anomalous(anomaly) => return anomaly_nodes(alloc, *anomaly),
+        Decision::Cyclic(line) => return line.to_vec(alloc),
+        Decision::Dead(ledger) => dead_items(alloc, history, ledger)?,
+        Decision::Refuted { reduced, tree } => tree_items(alloc, history, reduced, tree)?,
+        Decision::Serial(_) | Decision::Spent { .. } => Vec::new(alloc),
+    };
+    let mut nodes = Vec::new(alloc);
+    put_items(&mut nodes, history, &items)?;
+    once_each(alloc, history, &nodes)
 }

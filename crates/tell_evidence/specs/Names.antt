@@ -109,7 +109,7 @@ seen_name Causal far some session other = Some (causal_name far some session oth
 -- of edges of which none is forced
 abbrev pub known_name : List Edge → List ℕ
 known_name edges = if list_any is_known_session edges
-    then codes "circular information flow (G1c-process)"
+    then codes "a read from the future (G1c-process)"
     else codes "circular information flow (G1c)"
 
 -- of edges of which some are forced: that of the read that sees farthest

@@ -244,7 +244,7 @@ fn known_name(edges: &[Edge]) -> &'static str
     ensures { result.now ≡ spec.known_name edges.now }
 {
     if some_known_session(edges) {
-        "circular information flow (G1c-process)"
+        "a read from the future (G1c-process)"
     } else {
         "circular information flow (G1c)"
     }

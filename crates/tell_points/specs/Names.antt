@@ -1,5 +1,6 @@
 -- What the field calls what a refutation by points shows, by what its edges are.
-use Rattle.std.specs.Prelude.{ℕ, ◌==◌, min, max, false, if◌then◌else◌, List, [], ◌∷◌, codes}
+use Rattle.std.specs.Prelude.{ℕ, ◌==◌, ◌&&◌, not, nat_lt, min, max, false, if◌then◌else◌}
+use Rattle.std.specs.Prelude.{List, [], ◌∷◌, codes}
 use Rattle.std.specs.Prelude.{Option, None, Some}
 use Rattle.session_log.specs.Text.{ClientSession}
 use Rattle.tell_reasons.specs.Names.{followed, with_orders, cycle_name}
@@ -33,14 +34,6 @@ shape_after s (e ∷ edges) = shape_after (followed s (shape_of e.why)) edges
 abbrev pub shape_of_way : List Edge → Shape
 shape_of_way edges = shape_after NO_EDGES edges
 
-abbrev pub edges_of : Step → List Edge
-edges_of (step.Shown first second edges) = edges.items
-edges_of (step.Forced both against) = against.edges.items
-
-abbrev pub orders_after : Shape → List Step → Shape
-orders_after s [] = s
-orders_after s (step ∷ steps) = orders_after (followed s (shape_of_way (edges_of step))) steps
-
 abbrev pub closing : Option Overwritten → Shape
 closing None = WRITTEN
 closing (Some o) = MISSED
@@ -49,28 +42,48 @@ closing (Some o) = MISSED
 abbrev pub supposed : Against → Shape
 supposed a = followed (shape_of_way a.edges.items) (closing a.overwritten)
 
--- either of two circles, where as many of their edges miss a write, as names have it: with as many
--- edges as the longer one
-abbrev pub either : Shape → Shape → Option Shape
-either s t = if min s.missed 2 == min t.missed 2
-    then Some (record (followed s t) { missed = s.missed; edges = max s.edges t.edges }) else None
+-- the circle that would close, if the two writers of a step stood the other way round
+abbrev pub refuted : Step → Shape
+refuted (step.Shown first second edges) = followed (shape_of_way edges.items) WRITTEN
+refuted (step.Forced both against) = supposed against
 
-abbrev pub name_with : Shape → Option Shape → Option (List ℕ)
-name_with orders None = None
-name_with orders (Some s) =
-    Some (cycle_name (record (with_orders s orders) { first = false; beside = false }))
+-- the one that misses more writes, where two are as many as more; of equals the first; with the
+-- orders of sessions and of moments of both
+abbrev pub milder : Shape → Shape → Shape
+milder c d = if nat_lt c.missed 2 && nat_lt c.missed d.missed then with_orders d c
+    else with_orders c d
 
--- of one edge alone: a transaction reads what it writes later; of the edges of a longer circle of
--- points no two neighbours miss a write
-abbrev pub circle_name : Shape → List Edge → Option (List ℕ)
-circle_name orders (edge ∷ []) = Some (codes "future read (internal)")
-circle_name orders edges = name_with orders (Some (shape_of_way edges))
+-- The log does not say which order two writers had: that of a step, or the one that it refutes. The
+-- mildest of a circle and of these; of equals the circle, else the first step.
+abbrev pub mildest_after : Shape → List Step → Shape
+mildest_after c [] = c
+mildest_after c (step ∷ steps) = mildest_after (milder c (refuted step)) steps
 
-abbrev pub ending_name : List ClientSession → Shape → Ending → Option (List ℕ)
-ending_name ss orders (Circle edges) = circle_name orders edges.items
-ending_name ss orders (Neither both not_one not_other) = if are_lost ss not_one not_other
-    then Some (codes "lost update (G-single)")
-    else name_with orders (either (supposed not_one) (supposed not_other))
+-- either of two circles, where as many of their edges miss a write: the one without an order of
+-- writes, else what both are, with as many edges as the longer one
+abbrev pub alike : Shape → Shape → Shape
+alike s t = if s.has_written && not t.has_written then with_orders t s
+    else if t.has_written && not s.has_written then with_orders s t
+    else record (followed s t) { missed = s.missed; edges = max s.edges t.edges }
+
+-- either of two circles, of which one closes whichever transaction commits first: the milder one
+abbrev pub either : Shape → Shape → Shape
+either s t = if min s.missed 2 == min t.missed 2 then alike s t else milder s t
+
+-- of a circle of points no two neighbours miss a write
+abbrev pub name_of : Shape → List ℕ
+name_of s = cycle_name (record s { first = false; beside = false })
+
+-- of one edge alone: a transaction reads what it writes later
+abbrev pub circle_name : List Step → List Edge → List ℕ
+circle_name steps (edge ∷ []) = codes "future read (internal)"
+circle_name steps edges = name_of (mildest_after (shape_of_way edges) steps)
+
+abbrev pub ending_name : List ClientSession → List Step → Ending → List ℕ
+ending_name ss steps (Circle edges) = circle_name steps edges.items
+ending_name ss steps (Neither both not_one not_other) = if are_lost ss not_one not_other
+    then codes "lost update (G-single)"
+    else name_of (mildest_after (either (supposed not_one) (supposed not_other)) steps)
 
 abbrev pub refutation_name : List ClientSession → Refutation → Option (List ℕ)
-refutation_name ss r = ending_name ss (orders_after NO_EDGES r.steps.items) r.ending
+refutation_name ss r = Some (ending_name ss r.steps.items r.ending)

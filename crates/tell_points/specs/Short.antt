@@ -2,10 +2,12 @@
 use Rattle.std.specs.Prelude.{ℕ, ◌+◌, ◌&&◌, not, nat_lt, Bool, false}
 use Rattle.std.specs.Prelude.{List, [], ◌∷◌, ◌++◌, length, if◌then◌else◌, codes, decimal}
 use Rattle.std.specs.Prelude.{slice_get, Option, None, Some}
+use Rattle.std.specs.Option.{option_map_or}
 use Rattle.session_log.specs.Text.{ClientSession}
 use Rattle.log_lines.specs.Rows.{Table}
 use Rattle.level_refutations.specs.declared.evidence.TxnAt.{TxnAt}
 use Rattle.level_refutations.specs.declared.evidence.OpAt.{OpAt}
+use Rattle.level_refutations.specs.Places.{is_of_key}
 use Rattle.level_refutations.specs.Edges.{op_of}
 use Rattle.point_refutations.specs.declared.refutation.Since.{Since}
 use Rattle.point_refutations.specs.declared.refutation.Since.TheVariants as since
@@ -153,6 +155,13 @@ abbrev pub are_lost : List ClientSession → Against → Against → Bool
 are_lost ss not_one not_other = are_same_reads ss (only_read not_one.edges.items)
     (only_read not_other.edges.items)
 
+-- and what is told as lost is a version of the key that both write
+abbrev pub is_lost_key : List ClientSession → Both → Against → Bool
+is_lost_key ss b not_one = option_map_or (is_of_key ss b.one) (only_read not_one.edges.items) false
+
+abbrev pub is_lost : List ClientSession → Both → Against → Against → Bool
+is_lost ss b not_one not_other = are_lost ss not_one not_other && is_lost_key ss b not_one
+
 -- what follows from a circle of three edges or more
 abbrev pub conclusion : List Edge → List ℕ
 conclusion edges = if nat_lt 2 (length edges)
@@ -184,7 +193,7 @@ short_both table ss steps b not_one not_other = both_wrote_text table ss b
 
 abbrev pub short_neither : Table → List ClientSession → List Step → Both → Against → Against
     → List ℕ
-short_neither table ss steps b not_one not_other = if are_lost ss not_one not_other
+short_neither table ss steps b not_one not_other = if is_lost ss b not_one not_other
     then short_lost table ss b else (if is_short not_one && is_short not_other
     then short_both table ss steps b not_one not_other else [])
 

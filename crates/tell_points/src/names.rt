@@ -36,27 +36,6 @@ fn shape_of_way(edges: &[Edge]) -> Shape
     shape
 }
 
-/// The edges that a step rests on.
-fn edges_of(step: &Step) -> &[Edge]
-    ensures { result.now ≡ spec.edges_of step.now }
-{
-    match step {
-        Step::Shown { edges, .. } => edges,
-        Step::Forced { against, .. } => &against.edges,
-    }
-}
-
-/// What the edges of steps are.
-fn orders_of(steps: &[Step]) -> Shape
-    ensures { result ≡ spec.orders_after NO_EDGES steps.now }
-{
-    let mut orders = NO_EDGES;
-    for step in steps {
-        orders = followed(orders, shape_of_way(edges_of(step)));
-    }
-    orders
-}
-
 /// The edge that would close a circle.
 fn closing(overwritten: Option<Overwritten>) -> Shape
     ensures { result ≡ spec.closing overwritten }
@@ -74,61 +53,105 @@ fn supposed(against: &Against) -> Shape
     followed(shape_of_way(&against.edges), closing(against.overwritten))
 }
 
-/// Either of two circles, where as many of their edges miss a write, as names have it: with as many
-/// edges as the longer one.
-fn either(one: Shape, other: Shape) -> Option<Shape>
+/// The circle that would close, if the two writers of a step stood the other way round.
+fn refuted(step: &Step) -> Shape
+    ensures { result ≡ spec.refuted step.now }
+{
+    match step {
+        Step::Shown { edges, .. } => followed(shape_of_way(edges), WRITTEN),
+        Step::Forced { against, .. } => supposed(against),
+    }
+}
+
+/// The circle that misses more writes, where two are as many as more; of equals the first. It has
+/// the orders of sessions and of moments that either takes.
+fn milder(circle: Shape, other: Shape) -> Shape
+    ensures { result ≡ spec.milder circle other }
+{
+    if circle.missed < 2 && circle.missed < other.missed {
+        with_orders(other, circle)
+    } else {
+        with_orders(circle, other)
+    }
+}
+
+/// The mildest of a circle and of what each step refutes.
+fn mildest(circle: Shape, steps: &[Step]) -> Shape
+    ensures { result ≡ spec.mildest_after circle steps.now }
+{
+    let mut found = circle;
+    for step in steps {
+        found = milder(found, refuted(step));
+    }
+    found
+}
+
+/// Either of two circles, where as many of their edges miss a write, as names have it: the one
+/// without an order of writes, else what both are, with as many edges as the longer one.
+fn alike(one: Shape, other: Shape) -> Shape
+    ensures { result ≡ spec.alike one other }
+{
+    if one.has_written && !other.has_written {
+        with_orders(other, one)
+    } else if other.has_written && !one.has_written {
+        with_orders(one, other)
+    } else {
+        Shape {
+            missed: one.missed,
+            edges: one.edges.max(other.edges),
+            ..followed(one, other)
+        }
+    }
+}
+
+/// Either of two circles, of which one closes whichever transaction commits first: the milder one.
+fn either(one: Shape, other: Shape) -> Shape
     ensures { result ≡ spec.either one other }
 {
-    if one.missed.min(2) != other.missed.min(2) {
-        return None;
+    if one.missed.min(2) == other.missed.min(2) {
+        alike(one, other)
+    } else {
+        milder(one, other)
     }
-    Some(Shape {
-        missed: one.missed,
-        edges: one.edges.max(other.edges),
-        ..followed(one, other)
+}
+
+/// The name of a circle, no two neighbours of which miss a write.
+fn name_of(circle: Shape) -> &'static str
+    ensures { result.now ≡ spec.name_of circle }
+{
+    cycle_name(Shape {
+        first: false,
+        beside: false,
+        ..circle
     })
 }
 
-/// The name of a circle, with the orders on which its steps rest.
-fn name_with(orders: Shape, circle: Option<Shape>) -> Option<&'static str>
-    ensures { option_copied result ≡ spec.name_with orders circle }
-{
-    match circle {
-        None => None,
-        Some(circle) => Some(cycle_name(Shape {
-            first: false,
-            beside: false,
-            ..with_orders(circle, orders)
-        })),
-    }
-}
-
-/// The name of a circle of these edges. One edge alone leads back to its own transaction, which reads
-/// what it writes later.
-fn circle_name(orders: Shape, edges: &[Edge]) -> Option<&'static str>
-    ensures { option_copied result ≡ spec.circle_name orders edges.now }
+/// The name of a circle of these edges behind steps. One edge alone leads back to its own
+/// transaction, which reads what it writes later.
+fn circle_name(steps: &[Step], edges: &[Edge]) -> &'static str
+    ensures { result.now ≡ spec.circle_name steps.now edges.now }
 {
     match edges {
-        [_] => Some("future read (internal)"),
-        _ => name_with(orders, Some(shape_of_way(edges))),
+        [_] => "future read (internal)",
+        _ => name_of(mildest(shape_of_way(edges), steps)),
     }
 }
 
-/// The name of what steps of these orders lead to.
-fn ending_name(sessions: &[Session], orders: Shape, ending: &Ending) -> Option<&'static str>
-    ensures { option_copied result ≡ spec.ending_name (map view sessions.now) orders ending.now }
+/// The name of what steps lead to.
+fn ending_name(sessions: &[Session], steps: &[Step], ending: &Ending) -> &'static str
+    ensures { result.now ≡ spec.ending_name (map view sessions.now) steps.now ending.now }
 {
     match ending {
-        Ending::Circle(edges) => circle_name(orders, edges),
+        Ending::Circle(edges) => circle_name(steps, edges),
         Ending::Neither {
             not_one,
             not_other,
             ..
         } => {
             if are_lost(sessions, not_one, not_other) {
-                return Some("lost update (G-single)");
+                return "lost update (G-single)";
             }
-            name_with(orders, either(supposed(not_one), supposed(not_other)))
+            name_of(mildest(either(supposed(not_one), supposed(not_other)), steps))
         }
     }
 }
@@ -137,5 +160,5 @@ fn ending_name(sessions: &[Session], orders: Shape, ending: &Ending) -> Option<&
 pub fn refutation_name(sessions: &[Session], refutation: &Refutation) -> Option<&'static str>
     ensures name { option_copied result ≡ spec.refutation_name (map view sessions.now) refutation.now }
 {
-    ending_name(sessions, orders_of(&refutation.steps), &refutation.ending)
+    Some(ending_name(sessions, &refutation.steps, &refutation.ending))
 }

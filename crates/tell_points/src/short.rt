@@ -7,7 +7,7 @@ ghost use Rattle.point_refutations.specs.Edges.{is_missed};
 ghost use Rattle.tell_points.specs.Short as spec;
 
 use crate::whys::number_of;
-use level_refutations::{OpAt, TxnAt};
+use level_refutations::{OpAt, TxnAt, is_of_key};
 use point_refutations::{
     Against, Both, Edge, Ending, Missed, Overwritten, Since, Step, Why, is_same_read,
 };
@@ -291,6 +291,23 @@ pub fn are_lost(sessions: &[Session], not_one: &Against, not_other: &Against) ->
     }
 }
 
+/// Whether they read the key that both are told to write.
+fn is_lost_key(sessions: &[Session], both: Both, not_one: &Against) -> bool
+    ensures { result ≡ spec.is_lost_key (map view sessions.now) both not_one.now }
+{
+    match only_read(&not_one.edges) {
+        Some(read) => is_of_key(sessions, both.one, read),
+        None => false,
+    }
+}
+
+/// Whether that two both wrote a key is told as a lost update of it.
+fn is_lost(sessions: &[Session], both: Both, not_one: &Against, not_other: &Against) -> bool
+    ensures { result ≡ spec.is_lost (map view sessions.now) both not_one.now not_other.now }
+{
+    are_lost(sessions, not_one, not_other) && is_lost_key(sessions, both, not_one)
+}
+
 /// Appends what follows from a circle.
 fn put_conclusion(out: &mut Vec<u8>, log: &Log<'_>, edges: &[Edge]) -> Result<(), AllocError>
     ensures put { OnOk result (out.new.items ≡ out.old.items ++ spec.conclusion edges.now) }
@@ -382,7 +399,7 @@ fn put_short_neither(
         (rows_of log.now.places.now) (map view log.now.sessions.now) steps.now both not_one.now
         not_other.now) }
 {
-    if are_lost(log.sessions, not_one, not_other) {
+    if is_lost(log.sessions, both, not_one, not_other) {
         return put_short_lost(out, log, both);
     }
     if is_short(not_one) && is_short(not_other) {

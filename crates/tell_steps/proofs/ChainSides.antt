@@ -1,8 +1,8 @@
 -- Chains by their heads, and their edges.
-use Rattle.std.proofs.Common.{◌≡◌, ◌≢◌, ℕ, ◌<◌, Some, List, [], ◌∷◌, ◌++◌, length, get_or, refl, sym, ap, ◌∙◌, subst, inl, inr}
+use Rattle.std.proofs.Common.{◌≡◌, ◌≢◌, ℕ, ◌<◌, Some, List, length, get_or, refl, sym, ap, ◌∙◌, subst}
 use Rattle.std.specs.Prelude.{map, slice_get}
 use Rattle.std.specs.List.{All, Contains}
-use Rattle.std.proofs.lemmas.List.Elements.{All-contains, Contains-push_cases}
+use Rattle.std.proofs.lemmas.List.Elements.{All-contains}
 use Rattle.std.proofs.lemmas.Option.{slice_get-get_or}
 use Rattle.list_lemmas.proofs.Elements.{contains_at, item}
 use Rattle.list_lemmas.proofs.Elements as at
@@ -13,7 +13,7 @@ use Rattle.chain_laws.specs.Chains.{heads, readers, tail, edges_to}
 use Rattle.write_chains.specs.Views.{ChainView, chain_view, chain_from, chains_in}
 use Rattle.write_chains.specs.declared.chain.Chain.{Chain}
 use Rattle.tell_reasons.specs.declared.why.ChainOrder.{ChainOrder}
-use Rattle.tell_steps.specs.Steps.{edges_in, NoStepHas}
+use Rattle.tell_steps.specs.Steps.{edges_in}
 use Rattle.tell_steps.proofs.Ledgers.{get_map, to_target}
 
 -- ---- the chain of a head
@@ -38,6 +38,3 @@ pub order_target : (log : Log) (o : ChainOrder) (e : Edge) → Contains (edges_i
 order_target log o e c =
     let t = tail log o.key o.first in
     each_contained (λ (d : Edge). d.1 ≡ o.second) (edges_in log o) e (to_target (λ v. v ≡ o.second) t o.second refl (readers log o.key t)) c
-
-pub none_more : (log : Log) (os : List ChainOrder) (o : ChainOrder) (e : Edge) → NoStepHas log os e → (Contains (edges_in log o) e → ⊥) → NoStepHas log (os ++ o ∷ []) e
-none_more log os o e h never = record { none = λ x c has. elim (Contains-push_cases os o x c) [ inl before ↦ h.none x before has | inr same ↦ never (subst (λ (z : ChainOrder). Contains (edges_in log z) e) (sym same) has) ] }

@@ -21,30 +21,20 @@ use Rattle.tell_steps.specs.declared.item.Item.TheVariants as item
 use Rattle.tell_steps.specs.declared.rounds.Round.{Round}
 use Rattle.tell_steps.specs.Steps.{IsOrder, IsWhy, IsLineTold, ends, goes, AreStepsTold, none, step, IsNamed}
 use Rattle.tell_steps.specs.Lines.{OneHas, Stands, LineStands}
-use Rattle.tell_steps.specs.Ledgers.{edge_against, orders_of, IsStep, AreBuilt}
-use Rattle.tell_steps.specs.Told.{IsPut, IsStepTold, AreWalksTold}
-use Rattle.tell_steps.specs.Rounds.{RoundView, round_view, RoundStands, AllStand, IsLeafTold, IsRoundPut, AreRoundsTold, AreAllTold, is_naming, IsTold}
-use Rattle.tell_steps.proofs.Known.{reason_not_none}
-use Rattle.tell_steps.proofs.Telling.{named_among, named_left, named_right}
+use Rattle.tell_steps.specs.Ledgers.{orders_of, IsStep, AreBuilt}
+use Rattle.tell_steps.specs.Told.{AreWalksTold}
+use Rattle.tell_steps.specs.Rounds.{RoundView, round_view, RoundStands, AllStand, IsLeafTold, AreRoundsTold, AreAllTold, is_naming, IsTold}
+use Rattle.tell_steps.proofs.Telling.{reason_not_none, named_among, named_left, named_right}
 
--- ---- steps that are built
-pub built_push : (ss : List ClientSession) (earlier : List ChainOrder) (steps : List Step) (s : Step) → AreBuilt ss earlier steps → IsStep ss (earlier ++ orders_of steps) s → AreBuilt ss earlier (steps ++ s ∷ [])
-built_push ss earlier [] s b is = (subst (λ os. IsStep ss os s) (append-nil earlier) is, tt)
-built_push ss earlier (x ∷ steps) s b is = (b.0, built_push ss (earlier ++ x.order ∷ []) steps s b.1 (subst (λ os. IsStep ss os s) (sym (append_assoc earlier (x.order ∷ []) (orders_of steps))) is))
-
-pub built_orders : (ss : List ClientSession) (earlier : List ChainOrder) (steps : List Step) → AreBuilt ss earlier steps → All (IsOrder (log_of ss)) (orders_of steps)
-built_orders ss earlier [] b = All-nil (IsOrder (log_of ss))
-built_orders ss earlier (s ∷ steps) b = All-cons (IsOrder (log_of ss)) s.order (orders_of steps) b.0.two_chains (built_orders ss (earlier ++ s.order ∷ []) steps b.1)
-
-pub built_take : (ss : List ClientSession) (earlier : List ChainOrder) (i : ℕ) (steps : List Step) → AreBuilt ss earlier steps → AreBuilt ss earlier (take i steps)
-built_take ss earlier zero steps b = tt
-built_take ss earlier (suc i) [] b = tt
-built_take ss earlier (suc i) (s ∷ steps) b = (b.0, built_take ss (earlier ++ s.order ∷ []) i steps b.1)
-
+-- ---- steps that are built, and steps that are told
 pub built_at : (ss : List ClientSession) (earlier : List ChainOrder) (steps : List Step) (i : ℕ) (x : Step) → AreBuilt ss earlier steps → slice_get steps i ≡ Some x → IsStep ss (earlier ++ orders_of (take i steps)) x
 built_at ss earlier [] i x b at = absurd (cc)
 built_at ss earlier (s ∷ steps) zero x b at = let same : s ≡ x = cc in subst (IsStep ss (earlier ++ [])) same (subst (λ os. IsStep ss os s) (sym (append-nil earlier)) b.0)
 built_at ss earlier (s ∷ steps) (suc i) x b at = subst (λ os. IsStep ss os x) (append_assoc earlier (s.order ∷ []) (orders_of (take i steps))) (built_at ss (earlier ++ s.order ∷ []) steps i x b.1 at)
+
+pub told_orders : (ss : List ClientSession) (earlier : List ChainOrder) (steps : List Step) (items : List Item) → AreWalksTold ss earlier steps items → All (IsOrder (log_of ss)) (orders_of steps)
+told_orders ss earlier [] items t = All-nil (IsOrder (log_of ss))
+told_orders ss earlier (s ∷ steps) items t = All-cons (IsOrder (log_of ss)) s.order (orders_of steps) t.2.right.two_chains (told_orders ss (earlier ++ s.order ∷ []) steps t.1 t.3)
 
 -- ---- whether a step is named
 named_here : (k : ℕ) (x : Item) (items : List Item) → is_naming k x ≡ true → IsNamed (x ∷ items) k
@@ -112,8 +102,9 @@ module _ (ss : List ClientSession) (k : ℕ) where
   walks_without big small [] items lacks unnamed t b = tt
   walks_without big small (s ∷ steps) items lacks unnamed t b =
       let h = t.2 in
-      let edges : IsNamed h.against k → IsNamed t.0 k = named_right (item.Step (length big + 1) s.order (edge_against s.walk.items).0 (edge_against s.walk.items).1 ∷ []) h.against t.0 k h.whole in (
+      let edges : IsNamed h.against k → IsNamed t.0 k = named_right (item.Step (length big + 1) s.order h.edge.0 h.edge.1 ∷ []) h.against t.0 k h.whole in (
         record {
+          edge = b.0.edge;
           two_chains = b.0.two_chains;
           refuted = b.0.refuted;
           ends = b.0.ends;
@@ -159,28 +150,24 @@ dropped ss steps rounds items k lt unnamed t b a = (
 )
 
 -- ---- all of it
-pub all_put : (ss : List ClientSession) (steps : List Step) (rounds : List RoundView) (start mid new : List Item) → start ≡ [] → IsPut start mid (AreWalksTold ss [] steps) → IsPut mid new (AreRoundsTold ss (orders_of steps) rounds) → AreAllTold ss steps rounds new
-all_put ss steps rounds start mid new empty a b = record { before = a.items; after = b.items; walks = a.kind; rounds_told = b.kind; whole = b.appended ∙ ap (λ l. l ++ b.items) (a.appended ∙ ap (λ l. l ++ a.items) empty) }
-
-steps_told : (ss : List ClientSession) (earlier : List ChainOrder) (before : List Item) → AreStepsTold ss earlier before → (steps : List Step) (items : List Item) → AreBuilt ss earlier steps → AreWalksTold ss earlier steps items → AreStepsTold ss (earlier ++ orders_of steps) (before ++ items)
-steps_told ss earlier before told [] items b e = subst (AreStepsTold ss (earlier ++ [])) (sym (ap (λ l. before ++ l) e ∙ append-nil before)) (subst (λ os. AreStepsTold ss os before) (sym (append-nil earlier)) told)
-steps_told ss earlier before told (s ∷ steps) items b t =
+steps_told : (ss : List ClientSession) (earlier : List ChainOrder) (before : List Item) → AreStepsTold ss earlier before → (steps : List Step) (items : List Item) → AreWalksTold ss earlier steps items → AreStepsTold ss (earlier ++ orders_of steps) (before ++ items)
+steps_told ss earlier before told [] items e = subst (AreStepsTold ss (earlier ++ [])) (sym (ap (λ l. before ++ l) e ∙ append-nil before)) (subst (λ os. AreStepsTold ss os before) (sym (append-nil earlier)) told)
+steps_told ss earlier before told (s ∷ steps) items t =
     let h = t.2 in
-    let is = b.0 in
-    let against = edge_against s.walk.items in
-    let one : AreStepsTold ss (earlier ++ s.order ∷ []) (before ++ (item.Step (length earlier + 1) s.order against.0 against.1 ∷ h.against)) =
-    step earlier before told s.order is.two_chains against.0 against.1 is.refuted is.ends.inner h.against (subst (λ l. IsLineTold ss earlier [] l h.against) is.ends.shape h.line) in
+    let is = h.right in
+    let one : AreStepsTold ss (earlier ++ s.order ∷ []) (before ++ (item.Step (length earlier + 1) s.order h.edge.0 h.edge.1 ∷ h.against)) =
+    step earlier before told s.order is.two_chains h.edge.0 h.edge.1 is.refuted is.ends.inner h.against (subst (λ l. IsLineTold ss earlier [] l h.against) is.ends.shape h.line) in
     let own : AreStepsTold ss (earlier ++ s.order ∷ []) (before ++ t.0) = subst (λ l. AreStepsTold ss (earlier ++ s.order ∷ []) (before ++ l)) (sym h.whole) one in
-    let all = steps_told ss (earlier ++ s.order ∷ []) (before ++ t.0) own steps t.1 b.1 t.3 in
+    let all = steps_told ss (earlier ++ s.order ∷ []) (before ++ t.0) own steps t.1 t.3 in
     subst (AreStepsTold ss (earlier ++ (s.order ∷ orders_of steps))) (append_assoc before t.0 t.1 ∙ ap (λ l. before ++ l) (sym t.4))
     (subst (λ os. AreStepsTold ss os ((before ++ t.0) ++ t.1)) (append_assoc earlier (s.order ∷ []) (orders_of steps)) all)
 
-pub all_told : (ss : List ClientSession) (steps : List Step) (rounds : List RoundView) (items : List Item) → AreBuilt ss [] steps → AreAllTold ss steps rounds items → ((k : ℕ) → k < length steps → IsNamed items k) → IsTold ss rounds items
-all_told ss steps rounds items b t named = record {
+pub all_told : (ss : List ClientSession) (steps : List Step) (rounds : List RoundView) (items : List Item) → AreAllTold ss steps rounds items → ((k : ℕ) → k < length steps → IsNamed items k) → IsTold ss rounds items
+all_told ss steps rounds items t named = record {
   steps = orders_of steps;
   before = t.before;
   after = t.after;
-  told = steps_told ss [] [] none steps t.before b t.walks;
+  told = steps_told ss [] [] none steps t.before t.walks;
   rounds_told = t.rounds_told;
   whole = t.whole;
   needed = λ k lt. named k (omega (arith, lt, length-map steps (λ (s : Step). s.order)));

@@ -1,5 +1,5 @@
 -- What a dead ledger of the chains' polygraph keeps, and what its walks and its cycle rest on.
-use Rattle.std.proofs.Common.{◌≡◌, ◌⊎◌, ℕ, zero, suc, ◌+◌, ◌-◌, ◌<◌, true, List, [], ◌∷◌, ◌++◌, length, get_or, Option, None, Some, refl, sym, ap, ◌∙◌, subst, inl, inr, arith, append_assoc}
+use Rattle.std.proofs.Common.{◌≡◌, ◌⊎◌, ℕ, zero, suc, ◌+◌, ◌<◌, true, List, [], ◌∷◌, ◌++◌, length, get_or, Option, None, Some, refl, sym, ap, ◌∙◌, subst, inl, inr, arith, append_assoc}
 use Rattle.std.specs.Prelude.{map, slice_get, unwrap_or}
 use Rattle.std.specs.List.{AllByRecursion, Contains, flat_map}
 use Rattle.std.proofs.lemmas.Option.{slice_get_within, slice_get-get_or}
@@ -30,10 +30,10 @@ use Rattle.prune_ledger.specs.declared.ledger.LedgerEntry.{LedgerEntry}
 use Rattle.prune_ledger.proofs.Sides.{side_is, choice_of_edge, kept_cases, no_kept}
 use Rattle.tell_proposals.specs.declared.proposal.Step.{Step}
 use Rattle.tell_reasons.specs.declared.why.ChainOrder.{ChainOrder}
-use Rattle.tell_steps.specs.Steps.{turned, edges_in, IsOrder, Follows}
+use Rattle.tell_steps.specs.Steps.{turned, edges_in, IsOrder}
 use Rattle.tell_steps.specs.Orders.{choice_of, orders_in, kept_of, kept_order, step_view, shown_by}
-use Rattle.tell_steps.specs.Lines.{HasEnds, IsBetween, OneHas, Stands, LineStands, IsRound}
-use Rattle.tell_steps.specs.Ledgers.{AreEntries, kept_by, edge_against, IsStep, IsClosed, AreBuilt}
+use Rattle.tell_steps.specs.Lines.{IsBetween, OneHas, Stands, LineStands, IsRound}
+use Rattle.tell_steps.specs.Ledgers.{AreEntries, kept_by, IsStep, IsClosed, AreBuilt}
 use Rattle.tell_steps.specs.Ledgers as needed
 use Rattle.tell_steps.proofs.Chosen.{choices_are, all_orders, turned_order}
 
@@ -260,46 +260,23 @@ known_closed ss clean line c = let r = round_stands ss [] [] (chain_polygraph (l
 given_of : (ss : List ClientSession) (entries : List LedgerEntry) → IsClean (log_of ss) → (d : AreEntries ss entries) → Given ss d.poly
 given_of ss entries clean d = record { clean = clean; known = d.known; choices = d.choices }
 
-last_at : (v : ℕ) (inner : List ℕ) (u : ℕ) → get_or (v ∷ (inner ++ u ∷ [])) (length (v ∷ (inner ++ u ∷ [])) - 1) 0 ≡ u
-last_at v [] u = refl
-last_at v (x ∷ inner) u =
-    let e : length (v ∷ x ∷ (inner ++ u ∷ [])) - 1 ≡ suc (length (x ∷ (inner ++ u ∷ [])) - 1) = omega arith in
-    ap (λ i. get_or (v ∷ x ∷ (inner ++ u ∷ [])) i 0) e ∙ last_at x inner u
-
--- a line of two nodes or more has ends
-last_behind : (x : ℕ) (xs : List ℕ) → (inner : List ℕ) × (x ∷ xs ≡ inner ++ get_or (x ∷ xs) (length (x ∷ xs) - 1) 0 ∷ [])
-last_behind x [] = ([], refl)
-last_behind x (y ∷ ys) =
-    let r = last_behind y ys in
-    let e : length (x ∷ y ∷ ys) - 1 ≡ suc (length (y ∷ ys) - 1) = omega arith in
-    (x ∷ r.0, ap (λ l. x ∷ l) r.1 ∙ ap (λ i. x ∷ (r.0 ++ get_or (x ∷ y ∷ ys) i 0 ∷ [])) (sym e))
-
-pub ends_there : (line : List ℕ) → 1 < length line → HasEnds (get_or line 0 0) (get_or line (length line - 1) 0) line
-ends_there [] long = absurd (omega (arith, long))
-ends_there (x ∷ []) long = absurd (omega (arith, long))
-ends_there (x ∷ y ∷ ys) long =
-    let r = last_behind y ys in
-    let e : length (x ∷ y ∷ ys) - 1 ≡ suc (length (y ∷ ys) - 1) = omega arith in
-    record { inner = r.0; shape = ap (λ l. x ∷ l) r.1 ∙ ap (λ i. x ∷ (r.0 ++ get_or (x ∷ y ∷ ys) i 0 ∷ [])) (sym e) }
-
 -- the step that a post shows
 step_of : (ss : List ClientSession) (p : Polygraph) → Given ss p → (kept : List Entry) (earlier : List ChainOrder) → AllRest ss earlier [] (edges_after p kept) → (q : Posted) → IsShown p kept q → (s : Step) → step_view s ≡ shown_by (orders_of ss) q → IsStep ss earlier s
 step_of ss p g kept earlier rest q sh s is =
     let log = log_of ss in
     let o = order_by ss q in
-    let walk = q.edge.1 ∷ (sh.walk.inner ++ q.edge.0 ∷ []) in
     let inside = In-from_Contains (side_of p.choices q.choice q.side) q.edge sh.within in
     let keeps = post_keeps ss p g.choices q q.side q.edge inside in
     let refuted : Contains (edges_in log (turned o)) q.edge = Contains-from_In (edges_in log (turned o)) q.edge (subst (In q.edge) keeps.refuses inside) in
     let start : IsBetween ss q.edge.1 = order_leads ss (turned o) (turned_order log o keeps.two_chains) q.edge refuted in
-    let against : edge_against walk ≡ q.edge = ap (λ (u : ℕ). (u, q.edge.1)) (last_at q.edge.1 sh.walk.inner q.edge.0) in
     let order : o ≡ s.order = sym (ap (λ (v : ChainOrder × List ℕ). v.0) is) in
-    let walk_is : walk ≡ s.walk.items = sym (ap (λ (v : ChainOrder × List ℕ). v.1) is ∙ sh.walk.shape) in
+    let walk_is : s.walk.items ≡ q.edge.1 ∷ (sh.walk.inner ++ q.edge.0 ∷ []) = ap (λ (v : ChainOrder × List ℕ). v.1) is ∙ sh.walk.shape in
     record {
+      edge = q.edge;
       two_chains = subst (IsOrder log) order keeps.two_chains;
-      refuted = subst (λ z. Follows log (turned z) (edge_against s.walk.items)) order (subst (λ l. Follows log (turned o) (edge_against l)) walk_is (subst (Follows log (turned o)) (sym against) (inl refuted)));
-      ends = subst (λ l. HasEnds (edge_against l).1 (edge_against l).0 l) walk_is (subst (λ (e : Edge). HasEnds e.1 e.0 walk) (sym against) (record { inner = sh.walk.inner; shape = refl }));
-      rests = subst (LineStands ss earlier []) walk_is (walk_stands ss earlier [] (edges_after p kept) rest sh.walk.inner q.edge.1 q.edge.0 start sh.walk.steps);
+      refuted = subst (λ z. Contains (edges_in log (turned z)) q.edge) order refuted;
+      ends = record { inner = sh.walk.inner; shape = walk_is };
+      rests = subst (LineStands ss earlier []) (sym walk_is) (walk_stands ss earlier [] (edges_after p kept) rest sh.walk.inner q.edge.1 q.edge.0 start sh.walk.steps);
     }
 
 built_by : (ss : List ClientSession) (p : Polygraph) → Given ss p → (qs : List Posted) (kept : List Entry) (earlier : List ChainOrder) → AllRest ss earlier [] (edges_after p kept) → AreShown p kept qs → (steps : List Step) → map step_view steps ≡ map (shown_by (orders_of ss)) qs

@@ -2,6 +2,5 @@ pub mod Leading
 pub mod ChainSides
 pub mod Chosen
 pub mod Ledgers
-pub mod Known
 pub mod Telling
 pub mod Dropping

@@ -1,18 +1,19 @@
 -- How lines and steps are told.
-use Rattle.std.proofs.Common.{◌≡◌, ℕ, suc, ◌+◌, ◌-◌, ◌<◌, ◌≤◌, true, List, [], ◌∷◌, ◌++◌, length, get_or, take, drop, map, Option, None, Some, is_some, refl, sym, ap, ◌∙◌, subst, inl, inr, arith, append_assoc}
-use Rattle.std.specs.Prelude.{Vec, IfSome}
+use Rattle.std.proofs.Common.{◌≡◌, ℕ, suc, ◌+◌, ◌-◌, ◌<◌, true, List, [], ◌∷◌, ◌++◌, length, get_or, take, drop, Option, Some, None, refl, sym, ap, ◌∙◌, subst, arith, append_assoc}
+use Rattle.std.specs.Prelude.{Vec, IfNone, reverse}
 use Rattle.std.specs.Option.{option_map}
 use Rattle.std.specs.declared.alloc.Global.{Global}
 use Rattle.std.specs.List.{Contains}
-use Rattle.std.proofs.lemmas.List.{append-nil, drop_more, drop_all, length_push}
+use Rattle.std.proofs.lemmas.List.{append-nil, drop_more, drop_all, length_push, take_all, take_more, get_or_push, reverse-append}
 use Rattle.std.proofs.lemmas.List.Elements.{All-nil, All-cons, Contains-append_left, Contains-append_right}
-use Rattle.list_lemmas.proofs.Elements.{contains_at}
-use Rattle.list_lemmas.proofs.Lists.{front_more, mapped_front}
 use Rattle.session_log.specs.Text.{ClientSession}
 use Rattle.log_definitions.specs.Numbers.{log_of}
 use Rattle.reason_laws.specs.Reasons.{IsNode}
 use Rattle.reason_laws.proofs.Numbers.{node_from}
+use Rattle.reasons.specs.Given.{IsReason, HaveNone}
 use Rattle.reasons.specs.Runs.{goes_on, without_runs}
+use Rattle.reasons.specs.declared.reason.Reason.{Reason}
+use Rattle.reasons.specs.declared.reason.Reason.TheVariants as reason
 use Rattle.reasons.proofs.Sessions.{ends_of_session, runs_some, runs_each, runs_ends}
 use Rattle.tell_proposals.specs.declared.proposal.Step.{Step}
 use Rattle.tell_reasons.specs.declared.why.ChainOrder.{ChainOrder}
@@ -21,54 +22,58 @@ use Rattle.tell_reasons.specs.declared.why.Why.TheVariants.{Forced}
 use Rattle.tell_steps.specs.declared.item.Item.{Item}
 use Rattle.tell_steps.specs.declared.item.Item.TheVariants as item
 use Rattle.tell_steps.specs.declared.rounds.Round.{Round}
-use Rattle.tell_steps.specs.Steps.{edges_in, IsOrder, IsWhy, IsLineTold, ends, goes, IsCycleTold, closes, IsNamed, IsDeadTold}
-use Rattle.tell_steps.specs.Lines.{HasEnds, IsBetween, Stands, LineStands, IsRound, IsFound, IsUnshown}
+use Rattle.tell_steps.specs.Steps.{IsOrder, IsWhy, IsLineTold, ends, goes, IsCycleTold, closes, IsNamed, IsDeadTold}
+use Rattle.tell_steps.specs.Lines.{HasEnds, IsBetween, Stands, LineStands, IsRound}
 use Rattle.tell_steps.specs.Ledgers.{orders_of, IsClosed}
-use Rattle.tell_steps.specs.Told.{IsPut, EdgesTold, IsRoundTold, IsStepTold, AreWalksTold}
-use Rattle.tell_steps.specs.Rounds.{RoundView, round_view, RoundStands, AllStand, IsLeafTold, IsRoundPut, AreRoundsTold, IsTold}
+use Rattle.tell_steps.specs.Told.{IsRoundTold, IsStepTold, AreWalksTold}
+use Rattle.tell_steps.specs.Rounds.{RoundView, round_view, RoundStands, AllStand, IsLeafTold, IsRoundPut, AreRoundsTold, AreAllTold, IsTold}
 
--- ---- the edges of a line
-edges_more : (ss : List ClientSession) (steps decided : List ChainOrder) (line : List ℕ) (i : ℕ) (before : List Item) (why : Why) → i + 1 < length line → EdgesTold ss steps decided line i before
-    → IsWhy ss steps decided (get_or line i 0) (get_or line (i + 1) 0) why → EdgesTold ss steps decided line (i + 1) (before ++ item.Edge (get_or line i 0) (get_or line (i + 1) 0) why ∷ [])
-edges_more ss steps decided line i before why lt t w =
-    let a = get_or line i 0 in
-    let b = get_or line (i + 1) 0 in
-    let edge = item.Edge a b why ∷ [] in
-    record {
-      closes = λ rest h.
-          (let Told : List ℕ → List Item → Type 0 = λ l items. IsLineTold ss steps decided l items in
-          let here : drop i line ≡ a ∷ drop (i + 1) line = drop_more line i 0 (omega (arith, lt)) in
-          let there : drop (i + 1) line ≡ b ∷ drop (i + 1 + 1) line = drop_more line (i + 1) 0 lt in
-          let h' : Told (b ∷ drop (i + 1 + 1) line) rest = subst (λ l. Told l rest) there h in
-          let both : Told (a ∷ b ∷ drop (i + 1 + 1) line) (edge ++ rest) = goes a b (drop (i + 1 + 1) line) why rest w h' in
-          let shape : a ∷ b ∷ drop (i + 1 + 1) line ≡ drop i line = ap (λ l. a ∷ l) (sym there) ∙ sym here in
-          subst (λ items. Told line items) (sym (append_assoc before edge rest)) (t.closes (edge ++ rest) (subst (λ l. Told l (edge ++ rest)) shape both)));
-    }
+-- where there is none, and the one thing follows, so does the other
+pub none_then : {X : Type 0} (o : Option X) (P Q : Type 0) → (P → Q) → IfNone o P → IfNone o Q
+none_then None P Q f h = f h
+none_then (Some x) P Q f h = h
 
-edges_all : (ss : List ClientSession) (steps decided : List ChainOrder) (line : List ℕ) (i : ℕ) (items : List Item) → 0 < length line → length line - 1 ≤ i → i + 1 ≤ length line → EdgesTold ss steps decided line i items → IsLineTold ss steps decided line items
-edges_all ss steps decided line i items some le lt t =
-    let here : drop i line ≡ get_or line i 0 ∷ drop (i + 1) line = drop_more line i 0 (omega (arith, lt)) in
-    let none_left : drop (i + 1) line ≡ [] = drop_all (i + 1) line (omega (arith, le, some)) in
-    let shape : get_or line i 0 ∷ [] ≡ drop i line = ap (λ l. get_or line i 0 ∷ l) (sym none_left) ∙ sym here in
-    subst (λ x. IsLineTold ss steps decided line x) (append-nil items)
-    (t.closes [] (subst (λ l. IsLineTold ss steps decided l []) shape (ends (get_or line i 0))))
+-- ---- lines with ends
+pub ends_there : (line : List ℕ) → 1 < length line → HasEnds (get_or line 0 0) (get_or line (length line - 1) 0) line
+ends_there [] long = absurd (omega (arith, long))
+ends_there (x ∷ ys) long =
+    let n = length ys - 1 in
+    let e : n + 1 ≡ length ys = omega (arith, long) in
+    let f : length (x ∷ ys) - 1 ≡ suc n = omega (arith, long) in
+    record { inner = take n ys; shape = ap (λ l. x ∷ l) (sym (take_all (n + 1) ys (omega (arith, e))) ∙ take_more ys n 0 (omega (arith, e))) ∙ ap (λ i. x ∷ (take n ys ++ get_or (x ∷ ys) i 0 ∷ [])) (sym f) }
 
-pub put_none : (ss : List ClientSession) (steps decided : List ChainOrder) (line : List ℕ) (out : List Item) → IsPut out out (EdgesTold ss steps decided line 0)
-put_none ss steps decided line out = record { items = []; appended = sym (append-nil out); kind = record { closes = λ rest h. h } }
+-- a line with ends has two nodes or more, of which they are the first and the last
+pub ends_are : (a b : ℕ) (line : List ℕ) → HasEnds a b line → (1 < length line) × (get_or line 0 0 ≡ a) × (get_or line (length line - 1) 0 ≡ b)
+ends_are a b line h =
+    let n = length h.inner in
+    let long : length line ≡ suc (n + 1) = ap length h.shape ∙ ap suc (length_push h.inner b) in
+    let last : length line - 1 ≡ suc n = omega (arith, long) in
+    (omega (arith, long), ap (λ l. get_or l 0 0) h.shape, (λ i. get_or (h.shape i) (last i) 0) ∙ get_or_push h.inner b 0 n refl)
 
-pub put_more : (ss : List ClientSession) (steps decided : List ChainOrder) (line : List ℕ) (i : ℕ) (why : Why) (out mid new : List Item) → i + 1 < length line → IsPut out mid (EdgesTold ss steps decided line i)
-    → IsWhy ss steps decided (get_or line i 0) (get_or line (i + 1) 0) why → new ≡ mid ++ item.Edge (get_or line i 0) (get_or line (i + 1) 0) why ∷ [] → IsPut out new (EdgesTold ss steps decided line (i + 1))
-put_more ss steps decided line i why out mid new lt h w e =
-    let edge = item.Edge (get_or line i 0) (get_or line (i + 1) 0) why ∷ [] in
-    record {
-      items = h.items ++ edge;
-      appended = e ∙ ap (λ l. l ++ edge) h.appended ∙ append_assoc out h.items edge;
-      kind = edges_more ss steps decided line i h.items why lt h.kind w;
-    }
+-- ---- the edges of a line, from its end to its start
+pub line_end : (ss : List ClientSession) (steps decided : List ChainOrder) (line : List ℕ) (p : ℕ) → p + 1 ≡ length line → IsLineTold ss steps decided (drop p line) []
+line_end ss steps decided line p e =
+    subst (λ l. IsLineTold ss steps decided l []) (ap (λ l. get_or line p 0 ∷ l) (sym (drop_all (p + 1) line (omega (arith, e)))) ∙ sym (drop_more line p 0 (omega (arith, e)))) (ends (get_or line p 0))
 
-pub put_all : (ss : List ClientSession) (steps decided : List ChainOrder) (line : List ℕ) (i : ℕ) (out new : List Item) → 0 < length line → length line - 1 ≤ i → i + 1 ≤ length line → IsPut out new (EdgesTold ss steps decided line i)
-    → IsPut out new (IsLineTold ss steps decided line)
-put_all ss steps decided line i out new some le lt h = record { items = h.items; appended = h.appended; kind = edges_all ss steps decided line i h.items some le lt h.kind }
+pub line_more : (ss : List ClientSession) (steps decided : List ChainOrder) (line : List ℕ) (q p : ℕ) (why : Why) (items new : List Item) → p ≡ q + 1 → p < length line → IsWhy ss steps decided (get_or line q 0) (get_or line p 0) why
+    → new ≡ items ++ item.Edge (get_or line q 0) (get_or line p 0) why ∷ [] → IsLineTold ss steps decided (drop p line) (reverse items) → IsLineTold ss steps decided (drop q line) (reverse new)
+line_more ss steps decided line q p why items new e lt w more told =
+    let a = get_or line q 0 in
+    let b = get_or line p 0 in
+    let edge = item.Edge a b why in
+    let Told : List ℕ → List Item → Type 0 = λ l is. IsLineTold ss steps decided l is in
+    let there : drop p line ≡ b ∷ drop (p + 1) line = drop_more line p 0 lt in
+    let here : drop q line ≡ a ∷ drop p line = drop_more line q 0 (omega (arith, e, lt)) ∙ ap (λ n. a ∷ drop n line) (sym e) in
+    let one : Told (a ∷ b ∷ drop (p + 1) line) (edge ∷ reverse items) = goes a b (drop (p + 1) line) why (reverse items) w (subst (λ l. Told l (reverse items)) there told) in
+    subst (Told (drop q line)) (sym (ap reverse more ∙ reverse-append items (edge ∷ []))) (subst (λ l. Told l (edge ∷ reverse items)) (ap (λ l. a ∷ l) (sym there) ∙ sym here) one)
+
+-- a reason is one
+pub reason_not_none : (ss : List ClientSession) (a b : ℕ) (r : Reason) → IsReason ss a b r → HaveNone ss a b → ⊥
+reason_not_none ss a b reason.Session h none = none.session h
+reason_not_none ss a b (reason.Read i j) h none = none.read i j h
+reason_not_none ss a b (reason.Overwritten i j) h none = none.overwritten i j h
+reason_not_none ss a b (reason.Initial i j) h none = none.initial i j h
+reason_not_none ss a b reason.Moments h none = none.moments h
 
 -- ---- edges among items
 pub named_among : (items new : List Item) (r : ℕ) → ((x : Item) → Contains items x → Contains new x) → IsNamed items r → IsNamed new r
@@ -80,23 +85,8 @@ named_left a b items k e = named_among a items k (λ x c. subst (λ l. Contains 
 pub named_right : (a b items : List Item) (k : ℕ) → items ≡ a ++ b → IsNamed b k → IsNamed items k
 named_right a b items k e = named_among b items k (λ x c. subst (λ l. Contains l x) (sym e) (Contains-append_right a b x c))
 
--- one of the steps has it, or one of the decided orders
-pub found_stands : (ss : List ClientSession) (steps decided : List ChainOrder) (a b k : ℕ) → IsUnshown ss (a, b) → IsFound (log_of ss) steps (a, b) (Some k) → Stands ss steps decided a b
-found_stands ss steps decided a b k u f = record { first = u.first; second = u.second; has = λ none. inl (record { order = f.0; among = contains_at steps k f.0 f.1; has = f.2 }) }
-
-pub decided_stands : (ss : List ClientSession) (steps decided : List ChainOrder) (a b : ℕ) (d : Option ChainOrder) → IsUnshown ss (a, b) → IfSome d (λ o. Contains decided o) → IfSome d (λ o. Contains (edges_in (log_of ss) o) (a, b)) → is_some d ≡ true → Stands ss steps decided a b
-decided_stands ss steps decided a b None u among has t = absurd (cc)
-decided_stands ss steps decided a b (Some o) u among has t = record { first = u.first; second = u.second; has = λ none. inr (record { order = o; among = among; has = has }) }
-
--- a round that stands over some steps, over others on which its line rests
-pub stands_with : (ss : List ClientSession) (kept steps : List ChainOrder) (r : Round) (line : Vec ℕ Global) → r.line ≡ Some line → RoundStands ss kept (round_view r) → LineStands ss steps r.decided.items line.items → RoundStands ss steps (round_view r)
-stands_with ss kept steps r line is h rests = record { decided = h.decided; round = h.round; rests = subst (λ (o : Option (Vec ℕ Global)). IfSome (option_map (λ (l : Vec ℕ Global). l.items) o) (LineStands ss steps r.decided.items)) (sym is) rests }
-
-pub stands_bare : (ss : List ClientSession) (kept steps : List ChainOrder) (r : Round) → r.line ≡ None → RoundStands ss kept (round_view r) → RoundStands ss steps (round_view r)
-stands_bare ss kept steps r is h = record { decided = h.decided; round = h.round; rests = subst (λ (o : Option (Vec ℕ Global)). IfSome (option_map (λ (l : Vec ℕ Global). l.items) o) (LineStands ss steps r.decided.items)) (sym is) tt }
-
 -- ---- items that are appended
-walks_push : (ss : List ClientSession) (earlier : List ChainOrder) (steps : List Step) (s : Step) (a b : List Item) → AreWalksTold ss earlier steps a → IsStepTold ss (earlier ++ orders_of steps) s b → AreWalksTold ss earlier (steps ++ s ∷ []) (a ++ b)
+pub walks_push : (ss : List ClientSession) (earlier : List ChainOrder) (steps : List Step) (s : Step) (a b : List Item) → AreWalksTold ss earlier steps a → IsStepTold ss (earlier ++ orders_of steps) s b → AreWalksTold ss earlier (steps ++ s ∷ []) (a ++ b)
 walks_push ss earlier [] s a b e h = (b, [], subst (λ os. IsStepTold ss os s b) (append-nil earlier) h, refl, ap (λ l. l ++ b) e ∙ sym (append-nil b))
 walks_push ss earlier (x ∷ steps) s a b g h = (
   g.0,
@@ -110,20 +100,14 @@ rounds_push : (ss : List ClientSession) (steps : List ChainOrder) (rounds : List
 rounds_push ss steps [] r a b e h = (b, [], h, refl, ap (λ l. l ++ b) e ∙ sym (append-nil b))
 rounds_push ss steps (x ∷ rounds) r a b g h = (g.0, g.1 ++ b, g.2, rounds_push ss steps rounds r g.1 b g.3 h, ap (λ l. l ++ b) g.4 ∙ append_assoc g.0 g.1 b)
 
--- items of two kinds, one behind the other
-pub both_put : (P Q R : List Item → Type 0) → ((a b : List Item) → P a → Q b → R (a ++ b)) → (old mid new : List Item) → IsPut old mid P → IsPut mid new Q → IsPut old new R
-both_put P Q R join old mid new a b = record { items = a.items ++ b.items; appended = b.appended ∙ ap (λ l. l ++ b.items) a.appended ∙ append_assoc old a.items b.items; kind = join a.items b.items a.kind b.kind }
-
-pub step_put : (ss : List ClientSession) (steps : List Step) (i : ℕ) (x : Step) (old mid new : List Item) → i < length steps → x ≡ get_or steps i x → IsPut old mid (AreWalksTold ss [] (take i steps)) → IsPut mid new (IsStepTold ss (orders_of (take i steps)) x) → IsPut old new (AreWalksTold ss [] (take (i + 1) steps))
-step_put ss steps i x old mid new lt is =
-    both_put (AreWalksTold ss [] (take i steps)) (IsStepTold ss (orders_of (take i steps)) x) (AreWalksTold ss [] (take (i + 1) steps))
-    (λ a b g h. subst (λ l. AreWalksTold ss [] l (a ++ b)) (sym (front_more steps i x lt is)) (walks_push ss [] (take i steps) x a b g h)) old mid new
-
-pub round_put : (ss : List ClientSession) (steps : List ChainOrder) (rounds : List Round) (i : ℕ) (x : Round) (old mid new : List Item) → i < length rounds → x ≡ get_or rounds i x → IsPut old mid (AreRoundsTold ss steps (map round_view (take i rounds))) → IsPut mid new (IsRoundPut ss steps (round_view x))
-    → IsPut old new (AreRoundsTold ss steps (map round_view (take (i + 1) rounds)))
-round_put ss steps rounds i x old mid new lt is =
-    both_put (AreRoundsTold ss steps (map round_view (take i rounds))) (IsRoundPut ss steps (round_view x)) (AreRoundsTold ss steps (map round_view (take (i + 1) rounds)))
-    (λ a b g h. subst (λ l. AreRoundsTold ss steps l (a ++ b)) (sym (mapped_front round_view rounds i x lt is)) (rounds_push ss steps (map round_view (take i rounds)) (round_view x) a b g h)) old mid new
+pub all_push : (ss : List ClientSession) (steps : List Step) (rounds : List RoundView) (r : RoundView) (items own : List Item) → AreAllTold ss steps rounds items → IsRoundPut ss (orders_of steps) r own → AreAllTold ss steps (rounds ++ r ∷ []) (items ++ own)
+all_push ss steps rounds r items own t h = record {
+  before = t.before;
+  after = t.after ++ own;
+  walks = t.walks;
+  rounds_told = rounds_push ss (orders_of steps) rounds r t.after own t.rounds_told h;
+  whole = ap (λ l. l ++ own) t.whole ∙ append_assoc t.before t.after own;
+}
 
 -- ---- all of it: a cycle, told behind the steps
 pub round_cycle : (ss : List ClientSession) (steps decided : List ChainOrder) (line : List ℕ) (items : List Item) → IsRoundTold ss steps decided line items → IsCycleTold ss steps decided items
@@ -150,19 +134,14 @@ runs_lead ss u line h = let r = runs_ends ss u u h.inner in record { inner = r.0
 pub runs_round : (ss : List ClientSession) (line : List ℕ) → IsRound line → IsRound (without_runs ss line)
 runs_round ss line round = record { start = round.start; ends = runs_lead ss round.start line round.ends }
 
-pub round_told : (ss : List ClientSession) (steps decided : List ChainOrder) (line : List ℕ) (old mid new : List Item) (start edges : ℕ) → IsRound line → start ≡ get_or line 0 start → edges ≡ length line - 1 → mid ≡ old ++ item.Cycle start edges ∷ [] → IsPut mid new (IsLineTold ss steps decided line) → IsPut old new (IsRoundTold ss steps decided line)
-round_told ss steps decided line old mid new start edges r first many is put =
-    let shape : line ≡ r.start ∷ (r.ends.inner ++ r.start ∷ []) = r.ends.shape in
-    let start_is : start ≡ r.start = first ∙ ap (λ l. get_or l 0 start) shape in
-    let edges_are : edges ≡ length r.ends.inner + 1 = (let e = ap length shape in let f = length_push r.ends.inner r.start in omega (arith, e, f, many)) in
-    record {
-      items = item.Cycle start edges ∷ put.items;
-      appended = put.appended ∙ ap (λ l. l ++ put.items) is ∙ append_assoc old (item.Cycle start edges ∷ []) put.items;
-      kind = record { round = r; edges = put.items; told = put.kind; whole = ap (λ v. item.Cycle v edges ∷ put.items) start_is ∙ ap (λ n. item.Cycle r.start n ∷ put.items) edges_are };
-    }
-
-pub leaf_put : (ss : List ClientSession) (steps : List ChainOrder) (r : RoundView) (old mid new : List Item) → mid ≡ old ++ r.before → IsPut mid new (IsLeafTold ss steps r.decided r.line) → IsPut old new (IsRoundPut ss steps r)
-leaf_put ss steps r old mid new e p = record { items = r.before ++ p.items; appended = p.appended ∙ ap (λ l. l ++ p.items) e ∙ append_assoc old r.before p.items; kind = record { cycle = p.items; whole = refl; leaf = p.kind } }
+-- a cycle's item is put in, and behind it the edges
+pub round_told : (ss : List ClientSession) (steps decided : List ChainOrder) (line : List ℕ) (told old mid tail items : List Item) (start end edges : ℕ) → HasEnds start end line → start ≡ end → edges ≡ length line - 1 → IsLineTold ss steps decided line told
+    → old ≡ [] → mid ≡ old ++ item.Cycle start edges ∷ [] → tail ≡ told → items ≡ mid ++ tail → IsRoundTold ss steps decided line items
+round_told ss steps decided line told old mid tail items start end edges h same many t empty put behind all =
+    let h' : HasEnds start start line = subst (λ v. HasEnds start v line) (sym same) h in
+    let edges_are : edges ≡ length h'.inner + 1 = (let e = ap length h'.shape in let f = length_push h'.inner start in omega (arith, e, f, many)) in
+    let is : items ≡ item.Cycle start edges ∷ told = all ∙ (λ i. put i ++ behind i) ∙ ap (λ l. (l ++ item.Cycle start edges ∷ []) ++ told) empty in
+    record { round = record { start = start; ends = h' }; edges = told; told = t; whole = is ∙ ap (λ n. item.Cycle start n ∷ told) edges_are }
 
 -- ---- a cycle alone, told behind the steps
 pub cycle_stands : (ss : List ClientSession) (steps : List ChainOrder) (cycle : List ℕ) (r : Round) (line : Vec ℕ Global) → r.decided.items ≡ [] → r.line ≡ Some line → line.items ≡ without_runs ss cycle → IsClosed ss steps cycle → AllStand ss steps (r ∷ [])

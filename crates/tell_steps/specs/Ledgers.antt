@@ -1,5 +1,5 @@
 -- Ledgers of the polygraph of a log's chains that end in a cycle.
-use Rattle.std.specs.Prelude.{◌≡◌, ◌-◌, ℕ, List, [], ◌∷◌, ◌++◌, length, map, slice_index, IsSome, IfSome}
+use Rattle.std.specs.Prelude.{◌≡◌, ℕ, List, [], ◌∷◌, ◌++◌, map, IsSome, IfSome}
 use Rattle.std.specs.List.{Contains}
 use Rattle.session_log.specs.Text.{ClientSession}
 use Rattle.reach_laws.specs.Reach.{IsCycle}
@@ -13,7 +13,7 @@ use Rattle.prune_ledger.specs.declared.ledger.LedgerEntry.{LedgerEntry}
 use Rattle.prune_ledger.specs.declared.ledger.Ledger.{Ledger}
 use Rattle.tell_proposals.specs.declared.proposal.Step.{Step}
 use Rattle.tell_reasons.specs.declared.why.ChainOrder.{ChainOrder}
-use Rattle.tell_steps.specs.Steps.{IsOrder, turned, Follows}
+use Rattle.tell_steps.specs.Steps.{IsOrder, turned, edges_in}
 use Rattle.tell_steps.specs.Orders.{orders_in, kept_order}
 use Rattle.tell_steps.specs.Lines.{HasEnds, IsRound, LineStands}
 
@@ -36,16 +36,13 @@ pub record IsDeadLedger (ss : List ClientSession) (ledger : Ledger) : Type 0 whe
 abbrev pub kept_by : List ClientSession → List LedgerEntry → List ChainOrder
 kept_by ss entries = map (kept_order (orders_in (log_of ss))) (posts_in entries)
 
--- the edge from the last node of the line to the first
-abbrev pub edge_against : List ℕ → Edge
-edge_against line = (slice_index line (length line - 1), slice_index line 0)
-
--- the order is of two chains, an edge follows from the other way round, and the walk leads against it
+-- the order is of two chains, of which the other way round has the edge, and the walk leads against it
 -- and rests on what is before
 pub record IsStep (ss : List ClientSession) (earlier : List ChainOrder) (s : Step) : Type 0 where
+  pub edge : Edge
   pub two_chains : IsOrder (log_of ss) s.order
-  pub refuted : Follows (log_of ss) (turned s.order) (edge_against s.walk.items)
-  pub ends : HasEnds (edge_against s.walk.items).1 (edge_against s.walk.items).0 s.walk.items
+  pub refuted : Contains (edges_in (log_of ss) (turned s.order)) edge
+  pub ends : HasEnds edge.1 edge.0 s.walk.items
   pub rests : LineStands ss earlier [] s.walk.items
 
 -- the orders that steps establish

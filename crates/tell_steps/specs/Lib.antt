@@ -1,7 +1,6 @@
 pub mod Steps
 pub mod Orders
 pub mod Lines
-pub mod Held
 pub mod Ledgers
 pub mod Told
 pub mod Rounds

@@ -1,29 +1,25 @@
 //! Which orders have an edge.
 
-ghost use Rattle.std.specs.Prelude.{ℕ, IsTrue, IfSome, IfNone, not};
-ghost use Rattle.std.specs.List.{All, Contains};
+ghost use Rattle.std.specs.Prelude.{ℕ, IsTrue, not};
+ghost use Rattle.std.specs.List.{Contains};
 ghost use Rattle.chain_laws.specs.Chains.{edges_to};
 ghost use Rattle.log_definitions.specs.Numbers.{log_of};
 ghost use Rattle.tell_steps.specs.Orders.{IsChainOf};
-ghost use Rattle.tell_steps.specs.Steps.{IsOrder, edges_in, Follows, NoStepHas};
+ghost use Rattle.tell_steps.specs.Steps.{IsOrder, edges_in, Follows};
 ghost use Rattle.tell_steps.specs.Lines.{IsFound};
-ghost use Rattle.tell_steps.specs.Ledgers.{orders_of};
 
-use crate::shown::Shown;
 use serializability::NodeIx;
-use tell_proposals::Step;
 use tell_reasons::ChainOrder;
-use write_chains::Chain;
+use write_chains::{Chain, Chains};
 
 /// The chain of the key with this head, where there is one.
-fn chain_of<'a>(shown: &Shown<'a>, key: usize, head: NodeIx) -> Option<&'a Chain>
-    ensures chain { IsChainOf (log_of shown.now) key head result }
+fn chain_of<'a>(chains: &'a Chains<'_>, key: usize, head: NodeIx) -> Option<&'a Chain>
+    ensures chain { IsChainOf (log_of chains.now) key head result }
 {
-    let all = shown.chains();
-    if all.history().keys() <= key {
+    if chains.history().keys() <= key {
         return None;
     }
-    let others = all.chains_of(key);
+    let others = chains.chains_of(key);
     for chain in others {
         if chain.head == head {
             return Some(chain);
@@ -33,18 +29,19 @@ fn chain_of<'a>(shown: &Shown<'a>, key: usize, head: NodeIx) -> Option<&'a Chain
 }
 
 /// Whether the order is one of two chains of the key.
-pub fn is_order(shown: &Shown<'_>, order: ChainOrder) -> bool
-    ensures order { IsTrue result → IsOrder (log_of shown.now) order }
+pub fn is_order(chains: &Chains<'_>, order: ChainOrder) -> bool
+    ensures yes { IsTrue result → IsOrder (log_of chains.now) order }
+    ensures no { IsTrue (not result) → IsOrder (log_of chains.now) order → ⊥ }
 {
-    if order.first == order.second || chain_of(shown, order.key, order.first).is_none() {
+    if order.first == order.second || chain_of(chains, order.key, order.first).is_none() {
         return false;
     }
-    chain_of(shown, order.key, order.second).is_some()
+    chain_of(chains, order.key, order.second).is_some()
 }
 
 /// Who reads the last version of the order's first chain.
-pub fn readers_behind<'a>(shown: &Shown<'a>, order: ChainOrder) -> &'a [NodeIx] {
-    match chain_of(shown, order.key, order.first) {
+pub fn readers_behind<'a>(chains: &'a Chains<'_>, order: ChainOrder) -> &'a [NodeIx] {
+    match chain_of(chains, order.key, order.first) {
         Some(chain) => &chain.readers,
         None => &[],
     }
@@ -65,63 +62,50 @@ fn leads_from(chain: &Chain, node: NodeIx) -> bool
 }
 
 /// Whether the order has the edge.
-pub fn has_edge(shown: &Shown<'_>, order: ChainOrder, a: NodeIx, b: NodeIx) -> bool
-    ensures yes { IsTrue result → Contains (edges_in (log_of shown.now) order) (a, b) }
-    ensures no { IsTrue (not result) → IsOrder (log_of shown.now) order
-        → Contains (edges_in (log_of shown.now) order) (a, b) → ⊥ }
+pub fn has_edge(chains: &Chains<'_>, order: ChainOrder, a: NodeIx, b: NodeIx) -> bool
+    ensures yes { IsTrue result → Contains (edges_in (log_of chains.now) order) (a, b) }
+    ensures no { IsTrue (not result) → IsOrder (log_of chains.now) order
+        → Contains (edges_in (log_of chains.now) order) (a, b) → ⊥ }
 {
     if order.second.get() != b.get() {
         return false;
     }
-    match chain_of(shown, order.key, order.first) {
+    match chain_of(chains, order.key, order.first) {
         Some(chain) => leads_from(chain, a),
         None => false,
     }
 }
 
 /// Whether the edge follows from the order.
-pub fn follows(shown: &Shown<'_>, order: &ChainOrder, a: NodeIx, b: NodeIx) -> bool
-    ensures follows { IsTrue result → Follows (log_of shown.now) order.now (a, b) }
+pub fn follows(chains: &Chains<'_>, order: &ChainOrder, a: NodeIx, b: NodeIx) -> bool
+    ensures yes { IsTrue result → Follows (log_of chains.now) order.now (a, b) }
+    ensures no { IsTrue (not result) → IsOrder (log_of chains.now) order.now
+        → Contains (edges_in (log_of chains.now) order.now) (a, b) → ⊥ }
 {
-    if has_edge(shown, *order, a, b) {
+    if has_edge(chains, *order, a, b) {
         return true;
     }
     if b.get() != order.second.get() {
         return false;
     }
-    match chain_of(shown, order.key, order.first) {
+    match chain_of(chains, order.key, order.first) {
         Some(chain) => chain.tail.get() == a.get(),
         None => false,
     }
 }
 
-/// The first of the steps that has the edge, by its place.
-pub fn first_with(shown: &Shown<'_>, steps: &[Step], a: NodeIx, b: NodeIx) -> Option<usize>
-    ensures found { IsFound (log_of shown.now) (orders_of steps.now) (a, b) result }
-{
-    for (place, step) in steps.iter().enumerate() {
-        if has_edge(shown, step.order, a, b) {
-            return Some(place);
-        }
-    }
-    None
-}
-
-/// The first of the decided orders that has the edge.
-pub fn decided_with(
-    shown: &Shown<'_>,
-    decided: &[ChainOrder],
+/// The first of the orders that has the edge, and its number from 1.
+pub fn first_with(
+    chains: &Chains<'_>,
+    orders: &[ChainOrder],
     a: NodeIx,
     b: NodeIx,
-) -> Option<ChainOrder>
-    ensures among { IfSome result (λ o. Contains decided.now o) }
-    ensures has { IfSome result (λ o. Contains (edges_in (log_of shown.now) o) (a, b)) }
-    ensures none { IfNone result (All (IsOrder (log_of shown.now)) decided.now
-        → NoStepHas (log_of shown.now) decided.now (a, b)) }
+) -> Option<(usize, ChainOrder)>
+    ensures found { IsFound (log_of chains.now) orders.now (a, b) result }
 {
-    for order in decided {
-        if has_edge(shown, *order, a, b) {
-            return Some(*order);
+    for (place, order) in orders.iter().enumerate() {
+        if has_edge(chains, *order, a, b) {
+            return Some((place + 1, *order));
         }
     }
     None

@@ -1,7 +1,4 @@
-//! The steps that some rounds seem to need. Nothing is promised of them: they are taken only where
-//! they are shown to be right.
-
-ghost use Rattle.std.specs.Prelude.{◌≡◌};
+//! The steps that some rounds seem to need.
 
 use crate::decided::{first_with, has_edge};
 use crate::rounds::Round;
@@ -11,15 +8,14 @@ use serializability::NodeIx;
 use std::alloc::AllocError;
 use tell_proposals::Step;
 use tell_reasons::ChainOrder;
+use write_chains::Chains;
 
 /// Adds the edges of a line of which the log shows no reason.
 fn put_wants(
     wants: &mut Vec<(NodeIx, NodeIx)>,
     shown: &mut Shown<'_>,
     line: &[NodeIx],
-) -> Result<(), AllocError>
-    ensures same { shown.new ≡ shown.old }
-{
+) -> Result<(), AllocError> {
     for i in 1..line.len() {
         if shown.shows(line[i - 1], line[i])? == Some(false) {
             wants.push((line[i - 1], line[i]))?;
@@ -28,37 +24,30 @@ fn put_wants(
     Ok(())
 }
 
-/// The edges of the rounds' lines of which the log shows no reason.
-fn wants_of(shown: &mut Shown<'_>, rounds: &[Round]) -> Result<Vec<(NodeIx, NodeIx)>, AllocError>
-    ensures same { shown.new ≡ shown.old }
-{
-    let mut wants = Vec::new(shown.alloc());
-    for round in rounds {
-        if let Some(line) = &round.line {
-            put_wants(&mut wants, shown, line)?;
-        }
-    }
-    Ok(wants)
-}
-
-/// Whether the order is the first to have the edge, behind these steps.
-fn is_first(shown: &Shown<'_>, earlier: &[Step], order: ChainOrder, a: NodeIx, b: NodeIx) -> bool {
-    if !has_edge(shown, order, a, b) {
+/// Whether the order is the first to have the edge, behind these orders.
+fn is_first(
+    chains: &Chains<'_>,
+    earlier: &[ChainOrder],
+    order: ChainOrder,
+    a: NodeIx,
+    b: NodeIx,
+) -> bool {
+    if !has_edge(chains, order, a, b) {
         return false;
     }
-    first_with(shown, earlier, a, b).is_none()
+    first_with(chains, earlier, a, b).is_none()
 }
 
-/// Whether the order is the first to have one of these edges, behind these steps.
+/// Whether the order is the first to have one of these edges, behind these orders.
 fn is_wanted(
-    shown: &Shown<'_>,
-    earlier: &[Step],
+    chains: &Chains<'_>,
+    earlier: &[ChainOrder],
     order: &ChainOrder,
     wants: &[(NodeIx, NodeIx)],
 ) -> bool {
     for edge in wants {
         let (a, b) = *edge;
-        if is_first(shown, earlier, *order, a, b) {
+        if is_first(chains, earlier, *order, a, b) {
             return true;
         }
     }
@@ -72,17 +61,23 @@ pub fn needed_steps(
     steps: &[Step],
     rounds: &[Round],
     walks: Walks,
-) -> Result<Vec<Step>, AllocError>
-    ensures same { shown.new ≡ shown.old }
-{
-    let mut wants = wants_of(shown, rounds)?;
-    let mut needed = Vec::new(shown.alloc());
-    for done in 0..steps.len() {
-        let place = steps.len() - 1 - done;
-        let earlier = &steps[..place];
-        let step = &steps[place];
-        if is_wanted(shown, earlier, &step.order, &wants) {
-            let made = shorter_step(shown, earlier, step, walks)?;
+) -> Result<Vec<Step>, AllocError> {
+    let chains = shown.chains;
+    let mut wants = Vec::new(shown.alloc);
+    for round in rounds {
+        if let Some(line) = &round.line {
+            put_wants(&mut wants, shown, line)?;
+        }
+    }
+    let mut earlier = Vec::new(shown.alloc);
+    for step in steps {
+        earlier.push(step.order)?;
+    }
+    let mut needed = Vec::new(shown.alloc);
+    for step in steps.iter().rev() {
+        let _own = earlier.pop();
+        if is_wanted(chains, &earlier, &step.order, &wants) {
+            let made = shorter_step(shown, step, walks)?;
             put_wants(&mut wants, shown, &made.walk)?;
             needed.push(made)?;
         }

@@ -1,20 +1,21 @@
 //! What is told behind steps.
 
-ghost use Rattle.std.specs.Prelude.{◌≡◌, map, OnOk};
+ghost use Rattle.std.specs.Prelude.{IfOk, IfSome, IfNone};
 ghost use Rattle.std.specs.List.{All};
+ghost use Rattle.serializability.specs.Reads.{IsClean};
 ghost use Rattle.log_definitions.specs.Numbers.{log_of};
 ghost use Rattle.tell_steps.specs.Steps.{IsOrder};
-ghost use Rattle.tell_steps.specs.Ledgers.{orders_of};
-ghost use Rattle.tell_steps.specs.Told.{IsPut};
-ghost use Rattle.tell_steps.specs.Rounds.{round_view, AllStand, RoundStands, IsRoundPut, AreRoundsTold};
+ghost use Rattle.tell_steps.specs.Told.{IsRoundTold};
+ghost use Rattle.tell_steps.specs.Lines.{LineStands, IsRound};
+ghost use Rattle.tell_steps.specs.Rounds.{round_view, RoundStands, IsRoundPut};
 
 use crate::item::Item;
-use crate::lines::put_cycle;
-use crate::shown::Shown;
+use crate::lines::tell_line;
+use crate::steps::ends_of;
 use serializability::NodeIx;
-use std::alloc::AllocError;
-use tell_proposals::Step;
+use std::alloc::{AllocError, Global};
 use tell_reasons::ChainOrder;
+use write_chains::Chains;
 
 /// Items, and where there is a line, the cycle that it makes, among steps and these decided orders.
 #[derive(Drop)]
@@ -24,41 +25,60 @@ pub struct Round {
     pub line: Option<Vec<NodeIx>>,
 }
 
-/// Appends what is told of a round.
-fn put_round(
-    items: &mut Vec<Item>,
-    shown: &mut Shown<'_>,
-    steps: &[Step],
-    round: &Round,
-) -> Result<(), AllocError>
-    requires steps { All (IsOrder (log_of shown.old)) (orders_of steps.now) }
-    requires stands { RoundStands shown.old (orders_of steps.now) (round_view round.now) }
-    ensures same { shown.new ≡ shown.old }
-    ensures put { OnOk result (IsPut items.old.items items.new.items
-        (IsRoundPut shown.old (orders_of steps.now) (round_view round.now))) }
+/// The cycle that a line makes, and its edges, each with why it stands among these steps; none,
+/// where it does not close, or one does not stand.
+fn tell_cycle(
+    alloc: Global,
+    chains: &Chains<'_>,
+    steps: &[ChainOrder],
+    decided: &[ChainOrder],
+    line: &[NodeIx],
+) -> Result<Option<Vec<Item>>, AllocError>
+    requires clean { IsClean (log_of chains.now) }
+    requires steps { All (IsOrder (log_of chains.now)) steps.now }
+    ensures told { IfOk result (λ told. IfSome told (λ items.
+        IsRoundTold chains.now steps.now decided.now line.now items.items)) }
+    ensures none { IfOk result (λ told. IfNone told (All (IsOrder (log_of chains.now)) decided.now
+        → IsRound line.now → LineStands chains.now steps.now decided.now line.now → ⊥)) }
 {
-    items.extend_from_slice(&round.before)?;
-    match &round.line {
-        Some(line) => put_cycle(items, shown, steps, &round.decided, line),
-        None => Ok(()),
+    let Some(ends) = ends_of(line) else {
+        return Ok(None);
+    };
+    if ends.0.get() != ends.1.get() {
+        return Ok(None);
     }
+    let Some(told) = tell_line(alloc, chains, steps, decided, line)? else {
+        return Ok(None);
+    };
+    let mut items = Vec::new(alloc);
+    items.push(Item::Cycle {
+        start: ends.0,
+        edges: line.len() - 1,
+    })?;
+    items.extend_from_slice(&told)?;
+    Ok(Some(items))
 }
 
-/// Appends what is told of rounds, one behind the other.
-pub fn put_rounds(
-    items: &mut Vec<Item>,
-    shown: &mut Shown<'_>,
-    steps: &[Step],
-    rounds: &[Round],
-) -> Result<(), AllocError>
-    requires steps { All (IsOrder (log_of shown.old)) (orders_of steps.now) }
-    requires stand { AllStand shown.old (orders_of steps.now) rounds.now }
-    ensures same { shown.new ≡ shown.old }
-    ensures put { OnOk result (IsPut items.old.items items.new.items
-        (AreRoundsTold shown.old (orders_of steps.now) (map round_view rounds.now))) }
+/// What is told of a round behind steps; none, where its line does not close, or does not stand.
+pub fn tell_round(
+    alloc: Global,
+    chains: &Chains<'_>,
+    steps: &[ChainOrder],
+    round: &Round,
+) -> Result<Option<Vec<Item>>, AllocError>
+    requires clean { IsClean (log_of chains.now) }
+    requires steps { All (IsOrder (log_of chains.now)) steps.now }
+    ensures told { IfOk result (λ told. IfSome told (λ items.
+        IsRoundPut chains.now steps.now (round_view round.now) items.items)) }
+    ensures none { IfOk result (λ told. IfNone told
+        (RoundStands chains.now steps.now (round_view round.now) → ⊥)) }
 {
-    for round in rounds {
-        put_round(items, shown, steps, round)?;
+    let mut items = Vec::from_slice(alloc, &round.before)?;
+    if let Some(line) = &round.line {
+        let Some(cycle) = tell_cycle(alloc, chains, steps, &round.decided, line)? else {
+            return Ok(None);
+        };
+        items.extend_from_slice(&cycle)?;
     }
-    Ok(())
+    Ok(Some(items))
 }

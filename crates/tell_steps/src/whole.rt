@@ -10,14 +10,13 @@ ghost use Rattle.tell_steps.specs.Ledgers.{orders_of, AreBuilt};
 ghost use Rattle.tell_steps.specs.Rounds as spec;
 ghost use Rattle.tell_steps.specs.Rounds.{round_view, AllStand, AreAllTold, IsTold};
 
-use crate::checks::{are_steps, do_stand};
 use crate::dead::steps_in;
 use crate::item::Item;
 use crate::needed::needed_steps;
-use crate::rounds::{Round, put_rounds};
+use crate::rounds::{Round, tell_round};
 use crate::shorter::Walks;
 use crate::shown::Shown;
-use crate::steps::put_steps;
+use crate::steps::tell_step;
 use prune_ledger::LedgerEntry;
 use session_history::History;
 use std::alloc::{AllocError, Global};
@@ -25,47 +24,35 @@ use tell_proposals::Step;
 use tell_reasons::Why;
 use write_chains::Chains;
 
-/// The few of these steps that the rounds seem to need, where they are right, and else all.
-fn few_of(
-    shown: &mut Shown<'_>,
-    steps: Vec<Step>,
-    rounds: &[Round],
-    walks: Walks,
-) -> Result<Vec<Step>, AllocError>
-    requires built { AreBuilt shown.old [] steps.items }
-    requires stand { AllStand shown.old (orders_of steps.items) rounds.now }
-    ensures same { shown.new ≡ shown.old }
-    ensures built { IfOk result (λ few. AreBuilt shown.old [] few.items) }
-    ensures stand { IfOk result (λ few. AllStand shown.old (orders_of few.items) rounds.now) }
-{
-    let few = needed_steps(shown, &steps, rounds, walks)?;
-    let right = are_steps(shown, &few)?;
-    if !right {
-        return Ok(steps);
-    }
-    let stand = do_stand(shown, &few, rounds)?;
-    if !stand {
-        return Ok(steps);
-    }
-    Ok(few)
-}
-
-/// These steps and rounds, told one behind the other.
+/// These steps and rounds, told one behind the other; none, where one is not right.
 fn told_with(
-    shown: &mut Shown<'_>,
+    alloc: Global,
+    chains: &Chains<'_>,
     steps: &[Step],
     rounds: &[Round],
-) -> Result<Vec<Item>, AllocError>
-    requires built { AreBuilt shown.old [] steps.now }
-    requires stand { AllStand shown.old (orders_of steps.now) rounds.now }
-    ensures same { shown.new ≡ shown.old }
-    ensures told { IfOk result (λ items. AreAllTold shown.old steps.now
-        (map round_view rounds.now) items.items) }
+) -> Result<Option<Vec<Item>>, AllocError>
+    requires clean { IsClean (log_of chains.now) }
+    ensures told { IfOk result (λ told. IfSome told (λ items.
+        AreAllTold chains.now steps.now (map round_view rounds.now) items.items)) }
+    ensures none { IfOk result (λ told. IfNone told (AreBuilt chains.now [] steps.now
+        → AllStand chains.now (orders_of steps.now) rounds.now → ⊥)) }
 {
-    let mut items = Vec::new(shown.alloc());
-    put_steps(&mut items, shown, steps)?;
-    put_rounds(&mut items, shown, steps, rounds)?;
-    Ok(items)
+    let mut items = Vec::new(alloc);
+    let mut earlier = Vec::new(alloc);
+    for step in steps {
+        let Some(own) = tell_step(alloc, chains, &earlier, step)? else {
+            return Ok(None);
+        };
+        items.extend_from_slice(&own)?;
+        earlier.push(step.order)?;
+    }
+    for round in rounds {
+        let Some(own) = tell_round(alloc, chains, &earlier, round)? else {
+            return Ok(None);
+        };
+        items.extend_from_slice(&own)?;
+    }
+    Ok(Some(items))
 }
 
 /// Whether an item is an edge that stands by this step, which counts from 0.
@@ -110,29 +97,59 @@ fn first_unnamed(items: &[Item], steps: usize) -> Option<usize>
     None
 }
 
-/// The steps that these rounds need, and the rounds: a step by which no told edge stands is left out.
+/// These steps and the rounds: a step by which no told edge stands is left out. None, where one is
+/// not right.
+fn tell_needed(
+    alloc: Global,
+    chains: &Chains<'_>,
+    steps: Vec<Step>,
+    rounds: &[Round],
+) -> Result<Option<Vec<Item>>, AllocError>
+    requires clean { IsClean (log_of chains.now) }
+    ensures told { IfOk result (λ told. IfSome told (λ items.
+        IsTold chains.now (map round_view rounds.now) items.items)) }
+    ensures none { IfOk result (λ told. IfNone told (AreBuilt chains.now [] steps.items
+        → AllStand chains.now (orders_of steps.items) rounds.now → ⊥)) }
+{
+    let mut left = steps;
+    let Some(mut items) = told_with(alloc, chains, &left, rounds)? else {
+        return Ok(None);
+    };
+    while let Some(step) = first_unnamed(&items, left.len()) {
+        let _unnamed = left.remove(step);
+        let rest = left.as_slice();
+        let Some(fewer) = told_with(alloc, chains, rest, rounds)? else {
+            return Ok(None);
+        };
+        items = fewer;
+    }
+    Ok(Some(items))
+}
+
+/// The few of these steps that the rounds seem to need, where they are right, or else all of these,
+/// and the rounds. None, where these are not right.
 pub fn tell(
-    shown: &mut Shown<'_>,
+    alloc: Global,
+    chains: &Chains<'_>,
     steps: Vec<Step>,
     rounds: &[Round],
     walks: Walks,
-) -> Result<Vec<Item>, AllocError>
-    requires built { AreBuilt shown.old [] steps.items }
-    requires stand { AllStand shown.old (orders_of steps.items) rounds.now }
-    ensures same { shown.new ≡ shown.old }
-    ensures told { IfOk result (λ items. IsTold shown.old (map round_view rounds.now) items.items) }
+) -> Result<Option<Vec<Item>>, AllocError>
+    requires clean { IsClean (log_of chains.now) }
+    ensures told { IfOk result (λ told. IfSome told (λ items.
+        IsTold chains.now (map round_view rounds.now) items.items)) }
+    ensures none { IfOk result (λ told. IfNone told (AreBuilt chains.now [] steps.items
+        → AllStand chains.now (orders_of steps.items) rounds.now → ⊥)) }
 {
-    let mut left = few_of(shown, steps, rounds, walks)?;
-    let mut items = told_with(shown, &left, rounds)?;
-    while let Some(step) = first_unnamed(&items, left.len()) {
-        let _unnamed = left.remove(step);
-        items = told_with(shown, &left, rounds)?;
+    let few = needed_steps(&mut Shown::of(alloc, chains), &steps, rounds, walks)?;
+    if let Some(items) = tell_needed(alloc, chains, few, rounds)? {
+        return Ok(Some(items));
     }
-    Ok(items)
+    tell_needed(alloc, chains, steps, rounds)
 }
 
 /// The forced steps of a ledger that these rounds need, each of which rests on what the log shows
-/// and on earlier steps, and then the rounds. What the log shows of an edge is looked up once.
+/// and on earlier steps, and then the rounds.
 pub fn tell_rounds(
     alloc: Global,
     history: &History,
@@ -146,7 +163,9 @@ pub fn tell_rounds(
     requires stand { AllStand history.now (ledgers.kept_by history.now entries.now) rounds.now }
     ensures told { IfOk result (λ items. IsTold history.now (map round_view rounds.now) items.items) }
 {
-    let all = steps_in(alloc, chains, entries)?;
-    let mut shown = Shown::of(alloc, chains);
-    tell(&mut shown, all, rounds, Walks::Shorter)
+    let steps = steps_in(alloc, chains, entries)?;
+    match tell(alloc, chains, steps, rounds, Walks::Shorter)? {
+        Some(items) => Ok(items),
+        None => unreachable!(),
+    }
 }

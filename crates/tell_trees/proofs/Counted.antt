@@ -1,5 +1,5 @@
 -- How a tree is visited, depth first, and that its leaves are told, up to the greatest number.
-use Rattle.std.proofs.Common.{◌≡◌, ℕ, zero, suc, ◌+◌, ◌<◌, ◌≤◌, Bool, cond, eqb, List, [], ◌∷◌, length, min, Option, None, Some, refl, sym, ap, ◌∙◌, subst, inl, inr, arith, true, ◌++◌, get_or, append_assoc, Bor}
+use Rattle.std.proofs.Common.{◌≡◌, ℕ, zero, suc, ◌+◌, ◌<◌, ◌≤◌, Bool, cond, eqb, List, [], ◌∷◌, length, map, min, Option, None, Some, refl, sym, ap, ◌∙◌, subst, inl, inr, arith, true, ◌++◌, get_or, append_assoc}
 use Rattle.std.specs.Prelude.{slice_get, is_some, count_by, reverse}
 use Rattle.std.specs.Option.{option_map_or}
 use Rattle.std.proofs.lemmas.Bool.{cases_eq}
@@ -15,13 +15,19 @@ use Rattle.cube_laws.specs.declared.tree.Growth.{Growth}
 use Rattle.cube_laws.specs.declared.tree.Growth.TheVariants.{Leaf, Inner}
 use Rattle.cube_laws.specs.declared.tree.TreeNode.{TreeNode}
 use Rattle.cube_laws.specs.Trees.{IsChild, IsRefutationTree}
-use Rattle.tell_trees.specs.declared.visits.Visit.{Visit}
+use Rattle.session_log.specs.Text.{ClientSession}
+use Rattle.reasons.specs.Runs.{without_runs}
+use Rattle.tell_reasons.specs.declared.why.ChainOrder.{ChainOrder}
+use Rattle.tell_steps.specs.declared.rounds.Round.{Round}
+use Rattle.tell_steps.specs.Rounds.{RoundView, round_view}
+use Rattle.tell_trees.specs.declared.visits.Waiting.{Waiting}
 use Rattle.tell_trees.specs.declared.TheConstants.{MAX_LEAVES}
-use Rattle.tell_trees.specs.Trees.{told_leaves}
-use Rattle.tell_trees.specs.Visits.{cycle_in, leaf_count, IsGrown, IsVisited, IsTreeOver, visit_of}
+use Rattle.tell_trees.specs.Orders.{order_at}
+use Rattle.tell_trees.specs.Trees.{told_leaves, leaves_round}
+use Rattle.tell_trees.specs.Visits.{cycle_in, leaf_count, IsGrown, IsVisited, IsTreeOver, round_at}
 use Rattle.tell_trees.specs.Visits as visited
 use Rattle.std.specs.List.{All, sum_by}
-use Rattle.std.proofs.lemmas.List.{reverse-append}
+use Rattle.std.proofs.lemmas.List.{reverse-append, map-append}
 use Rattle.std.proofs.lemmas.List.Elements.{All-push, All-pop}
 
 -- the sum over the children
@@ -147,77 +153,90 @@ module _ (nodes : List TreeNode) where
     leaves_are : (i : ℕ) (g : Growth) (h : IsGrown nodes i g) → leaves i ≡ cond (is_some (cycle_in g)) 1 0 + over_children g leaves
     leaves_are i g h = under_is (λ (x : TreeNode). is_some (cycle_in x.growth)) i g h ∙ ap (λ (z : Growth). cond (is_some (cycle_in z)) 1 0 + over_children g leaves) h.is
 
-    told_below : {i n k : ℕ} {vs : List Visit} → IsVisited nodes i n k vs → n ≤ MAX_LEAVES → k ≡ min MAX_LEAVES (n + leaves i)
-    told_below (visited.leaf i n line lt h) le = omega (arith, lt, leaves_are i (Leaf line.now) h)
-    told_below (visited.split i n m k c first second one two h a b) le =
-        let front = told_below a le in
-        omega (arith, front, told_below b (omega (arith, front)), leaves_are i (Inner c first second) h)
-    told_below (visited.left_out i) le = omega arith
+    module _ {ss : List ClientSession} {orders : List ChainOrder} where
+      told_below : {decided : List ChainOrder} {i n k : ℕ} {rs : List RoundView} → IsVisited ss orders nodes i decided n k rs → n ≤ MAX_LEAVES → k ≡ min MAX_LEAVES (n + leaves i)
+      told_below (visited.leaf i decided n line lt h) le = omega (arith, lt, leaves_are i (Leaf line) h)
+      told_below (visited.split i decided n m k c first second one two h a b) le =
+          let front = told_below a le in
+          omega (arith, front, told_below b (omega (arith, front)), leaves_are i (Inner c first second) h)
+      told_below (visited.left_out i decided) le = omega arith
 
-    pub told_count : (last : ℕ) (vs : List Visit) → IsVisited nodes 0 0 last vs → last ≡ told_leaves (leaf_count nodes)
-    told_count last vs v = grind (arith, nat_tests, told_below v (omega arith), root_under (λ (x : TreeNode). is_some (cycle_in x.growth)))
+      pub told_count : {last : ℕ} {rs : List RoundView} → IsVisited ss orders nodes 0 [] 0 last rs → last ≡ told_leaves (leaf_count nodes)
+      told_count v = grind (arith, nat_tests, told_below v (omega arith), root_under (λ (x : TreeNode). is_some (cycle_in x.growth)))
 
 -- how many nodes are left to visit, where these wait
-abbrev pub load : List TreeNode → List ℕ → ℕ
-load nodes waiting = sum_by (count_under nodes (λ x. true)) waiting
+abbrev pub load : List TreeNode → List Waiting → ℕ
+load nodes waiting = sum_by (λ w. count_under nodes (λ x. true) w.node) waiting
 
--- the visits so far, and then those of these nodes and of all below them, are the whole tree's
-abbrev pub Finishes : List TreeNode → List ℕ → ℕ → List Visit → Type 0
-Finishes nodes [] n visits = IsVisited nodes 0 0 n visits
-Finishes nodes (i ∷ is) n visits = (m : ℕ) (own : List Visit) → IsVisited nodes i n m own → Finishes nodes is m (visits ++ own)
+module _ (ss : List ClientSession) (orders : List ChainOrder) (nodes : List TreeNode) where
+  -- the nodes told so far, and then those of these nodes and of all below them, are the whole tree's
+  abbrev pub Finishes : List Waiting → ℕ → List RoundView → Type 0
+  Finishes [] n rs = IsVisited ss orders nodes 0 [] 0 n rs
+  Finishes (w ∷ ws) n rs = (m : ℕ) (own : List RoundView) → IsVisited ss orders nodes w.node w.decided.items n m own → Finishes ws m (rs ++ own)
 
--- where the walk stands: of the waiting nodes the last one is visited first
-pub record IsUnderway (nodes : List TreeNode) (waiting : List ℕ) (leaves : ℕ) (visits : List Visit) : Type 0 where
-  pub within : All (λ i. i < length nodes) waiting
-  pub few : leaves ≤ MAX_LEAVES
-  pub whole : Finishes nodes (reverse waiting) leaves visits
+  -- where the walk stands: of the waiting nodes the last one is visited first
+  pub record IsUnderway (waiting : List Waiting) (leaves : ℕ) (rounds : List Round) : Type 0 where
+    pub within : All (λ w. w.node < length nodes) waiting
+    pub few : leaves ≤ MAX_LEAVES
+    pub told : List RoundView
+    pub rounds_are : map round_view rounds ≡ leaves_round (leaf_count nodes) ∷ told
+    pub whole : Finishes (reverse waiting) leaves told
 
-module _ (nodes : List TreeNode) {choices : ℕ} (t : IsTreeOver choices nodes) where
-  -- a node is taken
-  module _ {waiting : List ℕ} (rest : List ℕ) (i : ℕ) {n : ℕ} {visits : List Visit} (popped : waiting ≡ rest ++ i ∷ []) (u : IsUnderway nodes waiting n visits) where
-    parts : All (λ j. j < length nodes) rest × (i < length nodes)
-    parts = All-pop (λ j. j < length nodes) waiting rest (Some i) popped u.within
+  -- a node is taken, and what is told of it is put behind
+  module _ {choices : ℕ} (t : IsTreeOver choices nodes) {waiting : List Waiting} (rest : List Waiting) (w : Waiting) {n : ℕ} {rounds : List Round} (popped : waiting ≡ rest ++ w ∷ []) (u : IsUnderway waiting n rounds) where
+    parts : All (λ v. v.node < length nodes) rest × (w.node < length nodes)
+    parts = All-pop (λ v. v.node < length nodes) waiting rest (Some w) popped u.within
 
-    pub grown_at : (x : TreeNode) (growth : Growth) → (get_or nodes i x).growth ≡ growth → IsGrown nodes i growth
-    grown_at x growth e = record { node = get_or nodes i x; here = slice_get-get_or nodes i x parts.1; is = e }
+    pub grown_at : (x : TreeNode) (growth : Growth) → (get_or nodes w.node x).growth ≡ growth → IsGrown nodes w.node growth
+    grown_at x growth e = record { node = get_or nodes w.node x; here = slice_get-get_or nodes w.node x parts.1; is = e }
 
-    under : Finishes nodes (i ∷ reverse rest) n visits
-    under = subst (λ is. Finishes nodes is n visits) (ap reverse popped ∙ reverse-append rest (i ∷ [])) u.whole
+    under : Finishes (w ∷ reverse rest) n u.told
+    under = subst (λ ws. Finishes ws n u.told) (ap reverse popped ∙ reverse-append rest (w ∷ [])) u.whole
 
-    pub left_next : MAX_LEAVES ≤ n → IsUnderway nodes rest n (visits ++ visit_of i None ∷ [])
-    left_next le =
-        let few = u.few in
-        let all : MAX_LEAVES ≡ n = omega (arith, few, le) in
-        record { within = parts.0; few = few; whole = under n (visit_of i None ∷ []) (subst (λ k. IsVisited nodes i k k (visit_of i None ∷ [])) all (visited.left_out i)) }
+    module _ (r : Round) (line : Option (List ℕ)) (is : round_view r ≡ round_at w.decided.items line) where
+      pushed : map round_view (rounds ++ r ∷ []) ≡ leaves_round (leaf_count nodes) ∷ (u.told ++ round_at w.decided.items line ∷ [])
+      pushed = map-append round_view rounds (r ∷ []) ∙ (λ z. u.rounds_are z ++ is z ∷ [])
 
-    pub leaf_next : (line : Bor (List ℕ)) → n < MAX_LEAVES → IsGrown nodes i (Leaf line.now) → IsUnderway nodes rest (n + 1) (visits ++ visit_of i (Some line) ∷ [])
-    leaf_next line lt g = record { within = parts.0; few = omega (arith, lt); whole = under (n + 1) (visit_of i (Some line) ∷ []) (visited.leaf i n line lt g) }
+      pub left_next : line ≡ None → MAX_LEAVES ≤ n → IsUnderway rest n (rounds ++ r ∷ [])
+      left_next none le =
+          let few = u.few in
+          let all : MAX_LEAVES ≡ n = omega (arith, few, le) in
+          let own : IsVisited ss orders nodes w.node w.decided.items n n (round_at w.decided.items line ∷ []) = subst (λ l. IsVisited ss orders nodes w.node w.decided.items n n (round_at w.decided.items l ∷ [])) (sym none) (subst (λ k. IsVisited ss orders nodes w.node w.decided.items k k (round_at w.decided.items None ∷ [])) all (visited.left_out w.node w.decided.items)) in
+          record { within = parts.0; few = few; told = _; rounds_are = pushed; whole = under n _ own }
 
-    pub split_next : (c first second : ℕ) → IsGrown nodes i (Inner c first second) → IsUnderway nodes ((rest ++ second ∷ []) ++ first ∷ []) n (visits ++ visit_of i None ∷ [])
-    split_next c first second g =
-        let s = t.shown.inner i g.node c first second g.here g.is in
-        let Within : ℕ → Type 0 = λ j. j < length nodes in
-        let one = slice_get_within nodes first s.one.node s.one.here in
-        let two = slice_get_within nodes second s.two.node s.two.here in
-        let waits : first ∷ second ∷ reverse rest ≡ reverse ((rest ++ second ∷ []) ++ first ∷ []) = sym (reverse-append (rest ++ second ∷ []) (first ∷ []) ∙ ap (λ is. first ∷ is) (reverse-append rest (second ∷ []))) in
-        let whole : Finishes nodes (first ∷ second ∷ reverse rest) n (visits ++ visit_of i None ∷ []) = λ m front a k back b.
-        subst (λ vs. Finishes nodes (reverse rest) k vs) (sym (append_assoc (visits ++ visit_of i None ∷ []) front back ∙ append_assoc visits (visit_of i None ∷ []) (front ++ back)))
-        (under k (visit_of i None ∷ (front ++ back)) (visited.split i n m k c first second front back g a b)) in
-        record {
-          within = All-push Within (rest ++ second ∷ []) first (All-push Within rest second parts.0 two) one;
-          few = u.few;
-          whole = subst (λ is. Finishes nodes is n (visits ++ visit_of i None ∷ [])) waits whole;
-        }
+      pub leaf_next : (cycle : List ℕ) → line ≡ Some (without_runs ss cycle) → n < MAX_LEAVES → IsGrown nodes w.node (Leaf cycle) → IsUnderway rest (n + 1) (rounds ++ r ∷ [])
+      leaf_next cycle told lt g =
+          let own = subst (λ l. IsVisited ss orders nodes w.node w.decided.items n (n + 1) (round_at w.decided.items l ∷ [])) (sym told) (visited.leaf w.node w.decided.items n cycle lt g) in
+          record { within = parts.0; few = omega (arith, lt); told = _; rounds_are = pushed; whole = under (n + 1) _ own }
+
+      pub split_next : (c : ℕ) (one two : Waiting) → line ≡ None → one.decided.items ≡ order_at orders (c, One) ∷ w.decided.items → two.decided.items ≡ order_at orders (c, Two) ∷ w.decided.items → IsGrown nodes w.node (Inner c one.node two.node) → IsUnderway ((rest ++ two ∷ []) ++ one ∷ []) n (rounds ++ r ∷ [])
+      split_next c one two none first second g =
+          let s = t.shown.inner w.node g.node c one.node two.node g.here g.is in
+          let Within : Waiting → Type 0 = λ v. v.node < length nodes in
+          let waits : one ∷ two ∷ reverse rest ≡ reverse ((rest ++ two ∷ []) ++ one ∷ []) = sym (reverse-append (rest ++ two ∷ []) (one ∷ []) ∙ ap (λ ws. one ∷ ws) (reverse-append rest (two ∷ []))) in
+          let here = round_at w.decided.items line in
+          let whole : Finishes (one ∷ two ∷ reverse rest) n (u.told ++ here ∷ []) = λ m front a k back b.
+          subst (λ rs. Finishes (reverse rest) k rs) (sym (append_assoc (u.told ++ here ∷ []) front back ∙ append_assoc u.told (here ∷ []) (front ++ back)))
+          (under k (here ∷ (front ++ back)) (subst (λ l. IsVisited ss orders nodes w.node w.decided.items n k (round_at w.decided.items l ∷ (front ++ back))) (sym none) (visited.split w.node w.decided.items n m k c one.node two.node front back g (subst (λ os. IsVisited ss orders nodes one.node os n m front) first a) (subst (λ os. IsVisited ss orders nodes two.node os m k back) second b)))) in
+          record {
+            within = All-push Within (rest ++ two ∷ []) one (All-push Within rest two parts.0 (slice_get_within nodes two.node s.two.node s.two.here)) (slice_get_within nodes one.node s.one.node s.one.here);
+            few = u.few;
+            told = _;
+            rounds_are = pushed;
+            whole = subst (λ ws. Finishes ws n (u.told ++ here ∷ [])) waits whole;
+          }
 
     -- less is left to do
-    load_is : (g : Growth) → IsGrown nodes i g → load nodes waiting ≡ load nodes rest + (1 + over_children g (count_under nodes (λ x. true)))
+    load_is : (g : Growth) → IsGrown nodes w.node g → load nodes waiting ≡ load nodes rest + (1 + over_children g (count_under nodes (λ x. true)))
     load_is g h =
         ap (load nodes) popped
-        ∙ sum_by_push (count_under nodes (λ x. true)) rest i
-        ∙ ap (λ k. load nodes rest + k) (under_is nodes t.poly t.shown (λ x. true) i g h)
+        ∙ sum_by_push (λ (v : Waiting). count_under nodes (λ x. true) v.node) rest w
+        ∙ ap (λ k. load nodes rest + k) (under_is nodes t.poly t.shown (λ x. true) w.node g h)
 
     pub less_left : load nodes rest < load nodes waiting
-    less_left = let r = some_at nodes i parts.1 in omega (arith, load_is r.0.growth (record { node = r.0; here = r.1; is = refl }))
+    less_left = let r = some_at nodes w.node parts.1 in omega (arith, load_is r.0.growth (record { node = r.0; here = r.1; is = refl }))
 
-    pub less_split : (c first second : ℕ) → IsGrown nodes i (Inner c first second) → load nodes ((rest ++ second ∷ []) ++ first ∷ []) < load nodes waiting
-    less_split c first second g = omega (arith, load_is (Inner c first second) g, sum_by_push (count_under nodes (λ x. true)) rest second, sum_by_push (count_under nodes (λ x. true)) (rest ++ second ∷ []) first)
+    pub less_split : (c : ℕ) (one two : Waiting) → IsGrown nodes w.node (Inner c one.node two.node) → load nodes ((rest ++ two ∷ []) ++ one ∷ []) < load nodes waiting
+    less_split c one two g =
+        let under : Waiting → ℕ = λ v. count_under nodes (λ x. true) v.node in
+        omega (arith, load_is (Inner c one.node two.node) g, sum_by_push under rest two, sum_by_push under (rest ++ two ∷ []) one)

@@ -1,8 +1,7 @@
 -- The orders that a ledger leaves open and that the cubes of a tree's nodes decide, and what the edges of a leaf's cycle rest on.
-use Rattle.std.proofs.Common.{◌≡◌, ℕ, ◌+◌, Bool, true, false, cond, eqb, ◌&&◌, ◌||◌, List, [], ◌∷◌, map, refl, sym, ap, ◌∙◌, subst, ◌⊎◌, zero, suc, ◌<◌, length, Option, Some, None, inl, inr, arith}
+use Rattle.std.proofs.Common.{◌≡◌, ℕ, ◌+◌, Bool, true, false, cond, eqb, ◌&&◌, ◌||◌, List, [], ◌∷◌, map, refl, sym, ap, ◌∙◌, subst, length, inl, inr, arith}
 use Rattle.std.proofs.Math.Bool.{or_assoc, or_comm, or-false}
 use Rattle.std.specs.List.{All, AllByRecursion, list_any, Contains}
-use Rattle.std.proofs.lemmas.List.{map-append}
 use Rattle.std.proofs.lemmas.List.Elements.{All-nil, All-cons, All-head, All-tail, All-from_recursion}
 use Rattle.list_lemmas.proofs.Bools.{either_way}
 use Rattle.session_log.specs.Text.{ClientSession}
@@ -26,30 +25,26 @@ use Rattle.tell_steps.specs.Orders.{choice_of}
 use Rattle.tell_steps.specs.Steps.{IsOrder, edges_in}
 use Rattle.tell_trees.specs.Orders.{AreOrdersOf, names_choice, unsettled_from, no_order, sided, order_at}
 use Rattle.std.specs.Prelude.{slice_get, slice_index, slice_index_or}
-use Rattle.std.proofs.lemmas.Option.{same_Some, get_or_from_slice_get, slice_get_within}
-use Rattle.list_lemmas.proofs.Elements.{same_item, behind}
+use Rattle.std.proofs.lemmas.Option.{get_or_from_slice_get, slice_get_within}
+use Rattle.list_lemmas.proofs.Elements.{behind}
 use Rattle.pruning_laws.specs.declared.side.Side.{Side}
 use Rattle.known_graph.proofs.Listed.{In, In-from_Contains, Contains-from_In}
 use Rattle.known_graph.proofs.Tested.{walk_of}
 use Rattle.prune_ledger.proofs.Sides.{side_is, choice_of_edge, kept_cases, no_kept}
 use Rattle.cube_laws.specs.Cubes.{Cube}
-use Rattle.cube_laws.specs.declared.tree.CubeDecision.{CubeDecision}
-use Rattle.cube_laws.specs.declared.tree.Growth.TheVariants.{Leaf}
 use Rattle.cube_laws.specs.declared.tree.TreeNode.{TreeNode}
 use Rattle.cube_laws.specs.Trees.{cube_below, cube_of, IsChild, IsRefutationTree}
 use Rattle.cube_laws.proofs.Lists.{some_map, map_length}
-use Rattle.cube_laws.proofs.Upward.{cube_under, cube_top, cube_past}
+use Rattle.cube_laws.proofs.Upward.{cube_under, cube_top}
 use Rattle.tell_steps.specs.declared.rounds.Round.{Round}
 use Rattle.tell_steps.specs.Rounds.{RoundView, round_view, RoundStands, AllStand}
-use Rattle.tell_steps.specs.Lines.{IsRound, LineStands}
 use Rattle.tell_steps.specs.Ledgers.{AreEntries, kept_by}
 use Rattle.tell_steps.proofs.Chosen.{turned_order}
 use Rattle.tell_steps.proofs.Ledgers.{order_leads, Rests, AllRest, all_rest, round_stands}
 use Rattle.tell_steps.proofs.Telling.{runs_stand, runs_round}
-use Rattle.tell_trees.specs.Trees.{leaves_round}
-use Rattle.tell_trees.specs.Visits.{IsTreeOver, IsGrown, IsVisited, visit_of, decided_at, IsUp, round_for}
+use Rattle.tell_trees.specs.Trees.{AreVisits}
+use Rattle.tell_trees.specs.Visits.{IsVisited}
 use Rattle.tell_trees.specs.Visits as visited
-use Rattle.tell_trees.specs.declared.visits.Visit.{Visit}
 
 -- ---- a side is kept where an entry speaks of its choice
 abbrev named_in : List Entry → ℕ → Bool
@@ -93,14 +88,6 @@ left_open ss r h entries entries_are orders left same each is =
     subst (λ hs. AreOrdersOf log hs left) left_is (subst (AreOrdersOf log (open_from (sides_in (pruned.kept_by entries)) 0 (map (choice_of log) orders))) (sym is) (left_from log entries 0 orders each))
 
 -- ---- cubes
--- a node that decides a choice beyond its parent's cube
-pub record IsMade (choices : ℕ) (nodes : List TreeNode) (i : ℕ) (x : TreeNode) : Type 0 where
-  pub before : x.parent < i
-  pub made : CubeDecision
-  pub is : x.decision ≡ Some made
-  pub among : made.choice < choices
-  pub cube : cube_of nodes i ≡ (made.choice, made.side) ∷ cube_of nodes x.parent
-
 module _ (p : Polygraph) (nodes : List TreeNode) (t : IsRefutationTree p nodes) where
   pub root_cube : cube_of nodes 0 ≡ []
   root_cube = let r = t.root in let decision = r.decision in cube_top nodes 0 r.node r.here (omega arith) ∙ ap (cube_below []) decision
@@ -109,54 +96,6 @@ module _ (p : Polygraph) (nodes : List TreeNode) (t : IsRefutationTree p nodes) 
   child_cube i c side j k =
       let parent = k.parent in let decision = k.decision in let later = k.later in
       cube_under nodes j k.node k.here (omega (arith, parent, later)) ∙ (λ h. cube_below (cube_of nodes (parent h)) (decision h))
-
-  -- the first node decides nothing, and each other one a choice beyond its parent's cube
-  pub made_at : (i : ℕ) (x : TreeNode) → slice_get nodes i ≡ Some x → ((x.decision ≡ None) × (cube_of nodes i ≡ [])) ⊎ IsMade (length p.choices) nodes i x
-  made_at zero x at = inl (ap (λ (z : TreeNode). z.decision) (same_item nodes 0 x t.root.node at t.root.here) ∙ t.root.decision, root_cube)
-  made_at (suc i) x at =
-      let b = t.below (suc i) x (omega arith) at in
-      let s = t.inner x.parent b.parent b.choice b.first b.second b.here b.split in
-      let made : (side : Side) → IsChild nodes x.parent b.choice side (suc i) → IsMade (length p.choices) nodes (suc i) x = λ side k. record {
-        before = b.before;
-        made = record { choice = b.choice; side = side };
-        is = ap (λ (z : TreeNode). z.decision) (same_item nodes (suc i) x k.node at k.here) ∙ k.decision;
-        among = s.choice;
-        cube = child_cube x.parent b.choice side (suc i) k;
-      } in
-      inr (elim (s.only (suc i) x (omega arith) at refl) [
-        | inl e ↦ made One (subst (IsChild nodes x.parent b.choice One) (sym e) s.one)
-        | inr e ↦ made Two (subst (IsChild nodes x.parent b.choice Two) (sym e) s.two)
-      ])
-
-  -- a cube decides choices of the polygraph alone
-  module _ (P : List Entry → Type 0) (none : P []) (more : (d : Entry) (ds : List Entry) → d.0 < length p.choices → P ds → P (d ∷ ds)) where
-    within : (n i : ℕ) (o : Option TreeNode) → i < n → slice_get nodes i ≡ o → P (cube_of nodes i)
-    within zero i o lt at = absurd (omega (arith, lt))
-    within (suc n) i None lt at = subst P (sym (cube_past nodes i at)) none
-    within (suc n) i (Some x) lt at = elim (made_at i x at) [
-      | inl root ↦ subst P (sym root.1) none
-      | inr m ↦ let before = m.before in subst P (sym m.cube) (more (m.made.choice, m.made.side) (cube_of nodes x.parent) m.among (within n x.parent (slice_get nodes x.parent) (omega (arith, lt, before)) refl))
-    ]
-
--- ---- the way up
-module _ (orders : List ChainOrder) (nodes : List TreeNode) (t : IsTreeOver (length orders) nodes) (i : ℕ) where
-  pub up_past : slice_get nodes i ≡ None → IsUp orders nodes i None
-  up_past at = ap (map (order_at orders)) (cube_past nodes i at)
-
-  pub up_top : (x : TreeNode) → slice_get nodes i ≡ Some x → x.decision ≡ None → IsUp orders nodes i None
-  up_top x at none = elim (made_at t.poly nodes t.shown i x at) [
-    | inl root ↦ ap (map (order_at orders)) root.1
-    | inr m ↦ absurd (let is = m.is in cc)
-  ]
-
-  pub up_made : (x : TreeNode) (d : CubeDecision) → slice_get nodes i ≡ Some x → x.decision ≡ Some d → (d.choice < length orders) × ((o : ChainOrder) → o ≡ order_at orders (d.choice, d.side) → IsUp orders nodes i (Some (o, x.parent)))
-  up_made x d at is = elim (made_at t.poly nodes t.shown i x at) [
-    | inl root ↦ absurd (let none = root.0 in cc)
-    | inr m ↦
-        let same : m.made ≡ d = same_Some m.made d (sym m.is ∙ is) in
-        let among : d.choice < length t.poly.choices = subst (λ (z : CubeDecision). z.choice < length t.poly.choices) same m.among in
-        (omega (arith, among, t.count), λ o e. (m.before, ap (map (order_at orders)) (m.cube ∙ ap (λ (z : CubeDecision). (z.choice, z.side) ∷ cube_of nodes x.parent) same) ∙ ap (λ z. z ∷ decided_at orders nodes x.parent) (sym e)))
-  ]
 
 -- ---- the sides of a cube
 edges_sided : (log : Log) (o : ChainOrder) (s : Side) → edges_of (choice_of log o) s ≡ edges_in log (sided s o)
@@ -237,35 +176,26 @@ module _ (ss : List ClientSession) (entries : List LedgerEntry) (orders : List C
             }
       ]
 
-  module _ (i : ℕ) where
-    pub are_orders : All (IsOrder log) (decided_at orders nodes i)
-    are_orders =
-        within p nodes h.shown (λ ds. All (IsOrder log) (map (order_at orders) ds)) (All-nil (IsOrder log))
-        (λ d ds lt rest. All-cons (IsOrder log) (order_at orders d) (map (order_at orders) ds) (sided_order log (slice_index_or orders d.0 no_order) d.1 (h.sides.each d.0 no_order (omega (arith, lt, orders_count log p.choices orders h.sides)))) rest)
-        (suc i) i (slice_get nodes i) (omega arith) refl
-
-    pub leaf_line : (line : List ℕ) → IsGrown nodes i (Leaf line) → IsRound line × LineStands ss (kept_by ss entries) (decided_at orders nodes i) line
-    leaf_line line g =
-        let start = slice_index line 0 in
-        let edges = edges_after p (cube_of nodes i) in
-        round_stands ss (kept_by ss entries) (decided_at orders nodes i) edges (cube_rests (cube_of nodes i)) line (start, walk_of edges line start start (h.shown.leaves i g.node line g.here g.is))
-
-    none_stands : RoundStands ss (kept_by ss entries) (round_for ss orders nodes (visit_of i None))
-    none_stands = record { decided = are_orders; round = tt; rests = tt }
-
   abbrev AllRounds : List RoundView → Type 0
   AllRounds = AllByRecursion (RoundStands ss (kept_by ss entries))
 
-  visits_stand : {i n k : ℕ} {vs : List Visit} → IsVisited nodes i n k vs → AllRounds (map (round_for ss orders nodes) vs)
-  visits_stand (visited.leaf i n line lt g) =
-      let l = leaf_line i line.now g in
-      (record { decided = are_orders i; round = runs_round ss line.now l.0; rests = runs_stand ss (kept_by ss entries) (decided_at orders nodes i) line.now l.1 }, tt)
-  visits_stand (visited.split i n m k c first second one two g a b) =
-      let f = round_for ss orders nodes in
-      (none_stands i, subst AllRounds (sym (map-append f one two)) (each_from_append (RoundStands ss (kept_by ss entries)) (map f one) (map f two) (visits_stand a) (visits_stand b)))
-  visits_stand (visited.left_out i) = (none_stands i, tt)
+  visits_stand : {decided : List ChainOrder} {i n k : ℕ} {rs : List RoundView} → IsVisited ss orders nodes i decided n k rs → decided ≡ map (order_at orders) (cube_of nodes i) → All (IsOrder log) decided → AllRounds rs
+  visits_stand (visited.leaf i decided n line lt g) is all =
+      let start = slice_index line 0 in
+      let edges = edges_after p (cube_of nodes i) in
+      let rest = subst (λ os. AllRest ss (kept_by ss entries) os edges) (sym is) (cube_rests (cube_of nodes i)) in
+      let l = round_stands ss (kept_by ss entries) decided edges rest line (start, walk_of edges line start start (h.shown.leaves i g.node line g.here g.is)) in
+      (record { decided = all; round = runs_round ss line l.0; rests = runs_stand ss (kept_by ss entries) decided line l.1 }, tt)
+  visits_stand (visited.split i decided n m k c first second one two g a b) is all =
+      let s = h.shown.inner i g.node c first second g.here g.is in
+      let choice = s.choice in
+      let more : (side : Side) → All (IsOrder log) (order_at orders (c, side) ∷ decided) = λ side. All-cons (IsOrder log) (order_at orders (c, side)) decided (sided_order log (slice_index_or orders c no_order) side (h.sides.each c no_order (omega (arith, choice, orders_count log p.choices orders h.sides)))) all in
+      let below : (side : Side) (j : ℕ) → IsChild nodes i c side j → order_at orders (c, side) ∷ decided ≡ map (order_at orders) (cube_of nodes j) = λ side j child. ap (λ os. order_at orders (c, side) ∷ os) is ∙ sym (ap (map (order_at orders)) (child_cube p nodes h.shown i c side j child)) in
+      (record { decided = all; round = tt; rests = tt }, each_from_append (RoundStands ss (kept_by ss entries)) one two (visits_stand a (below One first s.one) (more One)) (visits_stand b (below Two second s.two) (more Two)))
+  visits_stand (visited.left_out i decided) is all = (record { decided = all; round = tt; rests = tt }, tt)
 
-  pub rounds_stand : {last : ℕ} {visits : List Visit} → IsVisited nodes 0 0 last visits → (count : ℕ) (rounds : List Round) → map round_view rounds ≡ leaves_round count ∷ map (round_for ss orders nodes) visits → AllStand ss (kept_by ss entries) rounds
-  rounds_stand v count rounds is =
+  pub rounds_stand : (rounds : List Round) → AreVisits ss orders nodes (map round_view rounds) → AllStand ss (kept_by ss entries) rounds
+  rounds_stand rounds v =
+      let none = All-nil (IsOrder log) in
       All-from_recursion (λ (r : Round). RoundStands ss (kept_by ss entries) (round_view r)) rounds
-      (each_of_map (RoundStands ss (kept_by ss entries)) round_view rounds (subst AllRounds (sym is) (record { decided = All-nil (IsOrder log); round = tt; rests = tt }, visits_stand v)))
+      (each_of_map (RoundStands ss (kept_by ss entries)) round_view rounds (subst AllRounds (sym v.whole) (record { decided = none; round = tt; rests = tt }, visits_stand v.visited (sym (ap (map (order_at orders)) (root_cube p nodes h.shown))) none)))

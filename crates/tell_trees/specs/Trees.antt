@@ -12,7 +12,7 @@ use Rattle.tell_steps.specs.Rounds.{RoundView}
 use Rattle.tell_steps.specs.declared.item.Item.{Item}
 use Rattle.tell_steps.specs.declared.item.Item.TheVariants as item
 use Rattle.tell_trees.specs.Orders.{AreOrdersOf, order_at}
-use Rattle.tell_trees.specs.Visits.{leaf_count, IsGrown}
+use Rattle.tell_trees.specs.Visits.{leaf_count, IsGrown, IsVisited}
 use Rattle.tell_trees.specs.declared.TheConstants.{MAX_LEAVES}
 
 -- The cube of node v of a tree, whose choices are between these orders of chains and their turned
@@ -41,6 +41,14 @@ leaves_items count = if nat_lt 1 count then item.Leaves count ∷ [] else []
 
 abbrev pub leaves_round : ℕ → RoundView
 leaves_round count = record { before = leaves_items count; decided = []; line = None }
+
+-- how many leaves there are, where there is more than one, and all nodes that are visited
+pub record AreVisits (ss : List ClientSession) (orders : List ChainOrder) (nodes : List TreeNode)
+    (rounds : List RoundView) : Type 0 where
+  pub last : ℕ
+  pub nodes_told : List RoundView
+  pub whole : rounds ≡ leaves_round (leaf_count nodes) ∷ nodes_told
+  pub visited : IsVisited ss orders nodes 0 [] 0 last nodes_told
 
 -- of so many leaves so many are told: all of them, up to the greatest number
 abbrev pub told_leaves : ℕ → ℕ

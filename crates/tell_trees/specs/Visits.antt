@@ -1,15 +1,13 @@
--- The nodes of a tree on the way depth first, and what is told of them, one behind the other.
-use Rattle.std.specs.Prelude.{◌≡◌, ℕ, ◌+◌, ◌<◌, List, [], ◌∷◌, ◌++◌, Option, None, Some, is_some, count_by, length, slice_get, map}
-use Rattle.std.specs.Option.{option_map}
-use Rattle.std.specs.Borrow.{Bor}
+-- What is told of the nodes of a tree on the way depth first, one behind the other.
+use Rattle.std.specs.Prelude.{◌≡◌, ℕ, ◌+◌, ◌<◌, List, [], ◌∷◌, ◌++◌, Option, None, Some, is_some, count_by, length, slice_get}
 use Rattle.session_log.specs.Text.{ClientSession}
 use Rattle.serializability.specs.Polygraph.{Polygraph}
+use Rattle.pruning_laws.specs.declared.side.Side.TheVariants.{One, Two}
 use Rattle.reasons.specs.Runs.{without_runs}
 use Rattle.cube_laws.specs.declared.tree.Growth.{Growth}
 use Rattle.cube_laws.specs.declared.tree.Growth.TheVariants.{Leaf, Inner}
 use Rattle.cube_laws.specs.declared.tree.TreeNode.{TreeNode}
-use Rattle.cube_laws.specs.Trees.{IsRefutationTree, cube_of}
-use Rattle.tell_trees.specs.declared.visits.Visit.{Visit}
+use Rattle.cube_laws.specs.Trees.{IsRefutationTree}
 use Rattle.tell_trees.specs.declared.TheConstants.{MAX_LEAVES}
 use Rattle.tell_reasons.specs.declared.why.ChainOrder.{ChainOrder}
 use Rattle.tell_steps.specs.Rounds.{RoundView}
@@ -37,43 +35,29 @@ pub record IsGrown (nodes : List TreeNode) (i : ℕ) (growth : Growth) : Type 0 
   pub here : slice_get nodes i ≡ Some node
   pub is : node.growth ≡ growth
 
--- a visited node, of which this cycle is told, or none
-abbrev pub visit_of : ℕ → Option (Bor (List ℕ)) → Visit
-visit_of i line = record { node = i; line = line }
-
--- Node i, behind so many leaves that are told, and with its own, and the nodes below it: a leaf; an
--- inner node and then the nodes below its first and those below its second child; or a node that is
--- left out, with all below it.
-pub data IsVisited (nodes : List TreeNode) : ℕ → ℕ → ℕ → List Visit → Type 0 where
-  leaf : (i n : ℕ) (line : Bor (List ℕ)) → n < MAX_LEAVES → IsGrown nodes i (Leaf line.now) →
-      IsVisited nodes i n (n + 1) (visit_of i (Some line) ∷ [])
-  split : (i n m k c first second : ℕ) (one two : List Visit)
-      → IsGrown nodes i (Inner c first second) →
-      IsVisited nodes first n m one → IsVisited nodes second m k two
-      → IsVisited nodes i n k (visit_of i None ∷ (one ++ two))
-  left_out : (i : ℕ) → IsVisited nodes i MAX_LEAVES MAX_LEAVES (visit_of i None ∷ [])
-
--- the orders that a node's cube decides, the newest first
-abbrev pub decided_at : List ChainOrder → List TreeNode → ℕ → List ChainOrder
-decided_at orders nodes i = map (order_at orders) (cube_of nodes i)
-
--- the order that node i decides beyond its parent's cube, and its parent; or none, where its cube
--- decides nothing
-abbrev pub IsUp : List ChainOrder → List TreeNode → ℕ → Option (ChainOrder × ℕ) → Type 0
-IsUp orders nodes i None = decided_at orders nodes i ≡ []
-IsUp orders nodes i (Some up) = (up.1 < i)
-    × (decided_at orders nodes i ≡ up.0 ∷ decided_at orders nodes up.1)
-
 -- the newest of the orders that a cube decides, with its number from 1
 abbrev pub decision_items : List ChainOrder → List Item
 decision_items [] = []
 decision_items (o ∷ above) = item.Decided (length above + 1) o ∷ []
 
--- what is told of a visited node itself: what it decides, and its cycle, with each run of edges of
--- one session as one edge, where it is a leaf that is told
-abbrev pub round_for : List ClientSession → List ChainOrder → List TreeNode → Visit → RoundView
-round_for ss orders nodes v = record {
-  before = decision_items (decided_at orders nodes v.node);
-  decided = decided_at orders nodes v.node;
-  line = option_map (λ l. without_runs ss l.now) v.line;
-}
+-- what is told of a node itself: the newest of the orders that its cube decides, and this line
+abbrev pub round_at : List ChainOrder → Option (List ℕ) → RoundView
+round_at decided line = record { before = decision_items decided; decided = decided; line = line }
+
+-- Node i, whose cube decides these orders, behind so many leaves that are told, and with its own, and
+-- the nodes below it: a leaf, with its cycle, of which each run of edges of one session is one edge;
+-- an inner node and then the nodes below its first and those below its second child; or a node that
+-- is left out, with all below it.
+pub data IsVisited (ss : List ClientSession) (orders : List ChainOrder) (nodes : List TreeNode)
+    : ℕ → List ChainOrder → ℕ → ℕ → List RoundView → Type 0 where
+  leaf : (i : ℕ) (decided : List ChainOrder) (n : ℕ) (line : List ℕ)
+      → n < MAX_LEAVES → IsGrown nodes i (Leaf line) →
+      IsVisited ss orders nodes i decided n (n + 1)
+      (round_at decided (Some (without_runs ss line)) ∷ [])
+  split : (i : ℕ) (decided : List ChainOrder) (n m k c first second : ℕ) (one two : List RoundView)
+      → IsGrown nodes i (Inner c first second) →
+      IsVisited ss orders nodes first (order_at orders (c, One) ∷ decided) n m one
+      → IsVisited ss orders nodes second (order_at orders (c, Two) ∷ decided) m k two
+      → IsVisited ss orders nodes i decided n k (round_at decided None ∷ (one ++ two))
+  left_out : (i : ℕ) (decided : List ChainOrder) → IsVisited ss orders nodes i decided
+      MAX_LEAVES MAX_LEAVES (round_at decided None ∷ [])

@@ -5,7 +5,6 @@
 #![tactic(auto)]
 
 mod orders;
-mod rounds;
 mod telling;
 mod visits;
 

@@ -8,7 +8,6 @@ ghost use Rattle.cube_laws.specs.Trees.{IsRefutationTree};
 ghost use Rattle.tell_trees.specs.Trees.{IsTreeTold};
 
 use crate::orders::open_orders;
-use crate::rounds::rounds_of;
 use crate::visits::visits;
 use cube_laws::Tree;
 use prune_ledger::Reduced;
@@ -37,7 +36,6 @@ pub fn tell_tree(
     let entries = reduced.ledger().entries.as_slice();
     let orders = open_orders(alloc, chains, reduced)?;
     let nodes = tree.nodes();
-    let visits = visits(alloc, nodes)?;
-    let rounds = rounds_of(alloc, history, &orders, nodes, &visits)?;
+    let rounds = visits(alloc, history, &orders, nodes)?;
     tell_rounds(alloc, history, chains, entries, &rounds)
 }

@@ -1,7 +1,7 @@
 use Rattle.std.proofs.Common.{◌<◌, ◌∷◌, [], ◌++◌, sym, ap, length, length-append, subst, append_assoc, append-nil, ◌∙◌, arith}
 use Rattle.session_log.proofs.Adding.{all_more}
 use Rattle.audit_command.specs.Audited.{IsPartTold, AreToldParts}
-use Rattle.audit_command.specs.Distinct.{AreDistinct, AreLeastFirst, is_told}
+use Rattle.audit_command.specs.Distinct.{AreDistinct, AreLeastFirst, holds_one}
 use Rattle.audit_command.proofs.Doubles.{one_more, some_told, empty, without_one}
 use Rattle.audit_command.proofs.distinct.without_doubles.Goals as goal
 
@@ -12,7 +12,7 @@ loop-part-preserved-in-Continue-1 c =
     let grown = c.in_ok-push.ensures.items in
     let longer = ap length grown ∙ length-append kept (x ∷ []) in
     let counted = length-append seen (x ∷ []) in
-    let apart = ap (is_told x.txns.items) (sym c.deref.ensures.value) ∙ ap (λ l. is_told l c.deref.result.now) (sym c.deref-in-loop-part.ensures.value) in
+    let apart = ap (λ l. holds_one l x) (sym c.deref.ensures.value) in
     record {
       whole = append_assoc seen (x ∷ []) more ∙ ap (λ l. seen ++ l) (sym c.in-Some.ensures.steps.0) ∙ i.whole;
       told = λ o n ss all. (
@@ -20,7 +20,7 @@ loop-part-preserved-in-Continue-1 c =
           let split = subst (AreToldParts o n ss) c.in-Some.ensures.steps.0 was.0 in
           (split.1, subst (AreToldParts o n ss) (sym grown) (all_more (IsPartTold o n ss) kept x was.1 split.0)));
       least = λ all. subst AreLeastFirst (ap (λ l. kept ++ l) c.in-Some.ensures.steps.0 ∙ sym (append_assoc kept (x ∷ []) more) ∙ ap (λ l. l ++ more) (sym grown)) (i.least all);
-      distinct = subst AreDistinct (sym grown) (one_more kept x i.distinct (apart ∙ sym c.is_told.ensures.told ∙ c.if-not-is_told.true));
+      distinct = subst AreDistinct (sym grown) (one_more kept x i.distinct (apart ∙ sym c.holds_one-holds.ensures.holds ∙ c.if-not-holds.true));
       some = λ some. omega (arith, longer);
       at_most = omega (arith, longer, counted, i.at_most);
     }
@@ -35,7 +35,7 @@ loop-part-preserved c =
       told = λ o n ss all. (let was = i.told o n ss all in ((subst (AreToldParts o n ss) step was.0).1, was.1));
       least = λ all. without_one kept x more (subst AreLeastFirst (ap (λ l. kept ++ l) step) (i.least all));
       distinct = i.distinct;
-      some = λ some. subst (λ l. 0 < length l) c.deref.ensures.value (some_told c.deref-in-loop-part.result.now c.deref.result.now (sym c.is_told.ensures.told ∙ c.if-not-is_told.false));
+      some = λ some. subst (λ l. 0 < length l) c.deref.ensures.value (some_told c.deref.result.now x (sym c.holds_one-holds.ensures.holds ∙ c.if-not-holds.false));
       at_most = omega (arith, length-append seen (x ∷ []), i.at_most);
     }
 

@@ -1,6 +1,13 @@
-use Rattle.std.proofs.Common.{[]}
-use Rattle.tell_steps.specs.Told.{IsPut, EdgesTold}
+use Rattle.std.proofs.Common.{◌<◌, [], length, drop}
+use Rattle.std.specs.Prelude.{reverse}
+use Rattle.tell_steps.specs.Steps.{IsLineTold}
 use Rattle.tell_decision.proofs.cycles.tell_line.Given as goal
 
-abbrev pub invariant-loop-i : goal.invariant-loop-i
-invariant-loop-i l = IsPut l.initial.items.items l.items.items (EdgesTold l.history [] [] l.line l.i)
+abbrev pub invariant-loop-place : goal.invariant-loop-place
+invariant-loop-place l = record {
+  within : l.place < length l.line;
+  told : IsLineTold l.history [] [] (drop l.place l.line) (reverse l.items.items);
+}
+
+abbrev pub decreases-loop-place : goal.decreases-loop-place
+decreases-loop-place l = l.place

@@ -8,7 +8,7 @@ use Rattle.tell_steps.proofs.decided.has_edge.Goals as goal
 
 pub returns-in-Some : goal.returns-in-Some
 returns-in-Some c =
-    let log = log_of c.args.shown.now in
+    let log = log_of c.args.chains.now in
     let o = c.args.order in
     let edges = chain_edges log o c.in-Some.chain.now c.in-Some.ensures.chain.2 in
     let same : o.second ≡ c.args.b = omega arith in
@@ -21,5 +21,5 @@ returns-in-Some c =
 
 pub returns-then-get-clause-no : goal.returns-then-get-clause-no
 returns-then-get-clause-no c = λ t two has.
-    let target : c.args.b ≡ c.args.order.second = order_target (log_of c.args.shown.now) c.args.order (c.args.a, c.args.b) has in
+    let target : c.args.b ≡ c.args.order.second = order_target (log_of c.args.chains.now) c.args.order (c.args.a, c.args.b) has in
     c.if-get.true (omega (arith, target, c.get.ensures.value, c.get-2.ensures.value))

@@ -3,14 +3,14 @@ use Rattle.std.proofs.lemmas.Result.{IfOk-weaker}
 use Rattle.log_definitions.specs.Numbers.{log_of}
 use Rattle.prune_ledger.specs.declared.ledger.Ledger.{Ledger}
 use Rattle.tell_steps.specs.Ledgers.{AreEntries}
-use Rattle.tell_steps.specs.Rounds.{round_view, IsTold}
-use Rattle.tell_trees.specs.Visits.{leaf_count}
+use Rattle.tell_steps.specs.Rounds.{round_view}
+use Rattle.tell_trees.specs.Trees.{AreVisits}
 use Rattle.tell_trees.proofs.Cubes.{IsSearched, orders_count, ledger_shown, rounds_stand}
 use Rattle.tell_trees.proofs.Tellings.{whole_told}
 use Rattle.tell_trees.proofs.telling.tell_tree.Goals as goal
 
-pub rounds_of-requires : goal.rounds_of-requires
-rounds_of-requires c = record {
+pub visits-requires : goal.visits-requires
+visits-requires c = record {
   tree = rw (c.deref.ensures.value, c.nodes-nodes.ensures.nodes) (record {
     poly = c.args.reduced.now.poly;
     shown = c.requires.tree;
@@ -33,14 +33,13 @@ tell_rounds-requires-clause-stand c =
       sides = rw (c.deref.ensures.value, ← c.requires.chains) c.in_ok-orders.ensures.orders;
       shown = rw c.nodes-nodes.ensures.nodes c.requires.tree;
     } in
-    rw c.deref-3.ensures.value (rounds_stand c.args.history.now entries orders nodes searched (rw (← c.deref-2.ensures.value) at c.in_ok-visits.ensures.visited.1) (leaf_count nodes) c.in_ok-rounds.rounds.items c.in_ok-rounds.ensures)
+    rw c.deref-2.ensures.value (rounds_stand c.args.history.now entries orders nodes searched c.in_ok-rounds.rounds.items c.in_ok-rounds.ensures.visited)
 
 pub returns : goal.returns
 returns c =
     let ss = c.args.history.now in let nodes = c.nodes-nodes.result.now in let orders = c.deref.result.now in let p = c.args.reduced.now.poly in
-    let views = ap (map round_view) c.deref-3.ensures.value ∙ c.in_ok-rounds.ensures in
+    let visited : AreVisits ss orders nodes (map round_view c.deref-2.result.now) = rw c.deref-2.ensures.value c.in_ok-rounds.ensures.visited in
     record {
       told = rw (← c.nodes-nodes.ensures.nodes) (IfOk-weaker c.tell_rounds.result _ _
-          (λ items t. whole_told ss orders nodes p (rw c.nodes-nodes.ensures.nodes c.requires.tree) c.deref-2.result.now c.in_ok-visits.ensures.visited.0 (rw (← c.deref-2.ensures.value) at c.in_ok-visits.ensures.visited.1) items.items
-          (subst (λ vs. IsTold ss vs items.items) views t) (rw (c.deref.ensures.value, ← c.requires.chains) c.in_ok-orders.ensures.orders)) c.tell_rounds.ensures.told);
+          (λ items t. whole_told ss orders nodes p (rw c.nodes-nodes.ensures.nodes c.requires.tree) (map round_view c.deref-2.result.now) visited items.items t (rw (c.deref.ensures.value, ← c.requires.chains) c.in_ok-orders.ensures.orders)) c.tell_rounds.ensures.told);
     }

@@ -1,6 +1,0 @@
-use Rattle.std.proofs.Common.{◌≡◌, ◌++◌, drop}
-use Rattle.audit_command.specs.Orders.{names_text}
-use Rattle.audit_command.proofs.files.names_text.Given as goal
-
-abbrev pub invariant-loop-number : goal.invariant-loop-number
-invariant-loop-number l = l.out.items ++ names_text l.names (drop l.number-index l.order) ≡ names_text l.names l.order

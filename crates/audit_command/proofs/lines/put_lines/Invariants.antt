@@ -1,6 +1,0 @@
-use Rattle.std.proofs.Common.{◌≡◌, ◌++◌, drop}
-use Rattle.audit_command.specs.Report.{lines_of}
-use Rattle.audit_command.proofs.lines.put_lines.Given as goal
-
-abbrev pub invariant-loop-line : goal.invariant-loop-line
-invariant-loop-line l = l.out.items ++ lines_of (drop l.line-index l.lines) ≡ l.initial.out.items ++ lines_of l.lines

@@ -1,7 +1,0 @@
-use Rattle.std.proofs.Common.{◌≡◌, ◌++◌, drop}
-use Rattle.std.specs.List.{flat_map}
-use Rattle.audit_command.specs.Objects.{line_byte}
-use Rattle.audit_command.proofs.object.put_line_bytes.Given as goal
-
-abbrev pub invariant-loop-byte : goal.invariant-loop-byte
-invariant-loop-byte l = l.out.items ++ flat_map line_byte (drop l.byte-index l.bytes) ≡ l.initial.out.items ++ flat_map line_byte l.bytes

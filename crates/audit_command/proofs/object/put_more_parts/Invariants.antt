@@ -1,6 +1,0 @@
-use Rattle.std.proofs.Common.{◌≡◌, ◌++◌, drop}
-use Rattle.audit_command.specs.Objects.{behind_comma, part_object}
-use Rattle.audit_command.proofs.object.put_more_parts.Given as goal
-
-abbrev pub invariant-loop-part : goal.invariant-loop-part
-invariant-loop-part l = l.out.items ++ behind_comma (part_object l.explain) (drop l.part-index l.parts) ≡ l.initial.out.items ++ behind_comma (part_object l.explain) l.parts

@@ -1,6 +1,0 @@
-use Rattle.std.proofs.Common.{◌≡◌, ◌++◌, drop}
-use Rattle.audit_command.specs.Objects.{behind_comma, txn_object}
-use Rattle.audit_command.proofs.object.put_more_txns.Given as goal
-
-abbrev pub invariant-loop-txn : goal.invariant-loop-txn
-invariant-loop-txn l = l.out.items ++ behind_comma txn_object (drop l.txn-index l.txns) ≡ l.initial.out.items ++ behind_comma txn_object l.txns

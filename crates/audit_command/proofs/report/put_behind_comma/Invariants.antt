@@ -1,6 +1,0 @@
-use Rattle.std.proofs.Common.{◌≡◌, ◌++◌, drop}
-use Rattle.audit_command.specs.Report.{behind_comma}
-use Rattle.audit_command.proofs.report.put_behind_comma.Given as goal
-
-abbrev pub invariant-loop-txn : goal.invariant-loop-txn
-invariant-loop-txn l = l.out.items ++ behind_comma (drop l.txn-index l.txns) ≡ l.initial.out.items ++ behind_comma l.txns

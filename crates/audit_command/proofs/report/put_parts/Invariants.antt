@@ -1,6 +1,0 @@
-use Rattle.std.proofs.Common.{◌≡◌, ◌++◌, drop}
-use Rattle.audit_command.specs.Report.{parts_text}
-use Rattle.audit_command.proofs.report.put_parts.Given as goal
-
-abbrev pub invariant-loop-part : goal.invariant-loop-part
-invariant-loop-part l = l.out.items ++ parts_text (drop l.part-index l.parts) ≡ l.initial.out.items ++ parts_text l.parts

@@ -1,7 +1,0 @@
-use Rattle.list_lemmas.proofs.Lists.{appended_twice}
-use Rattle.audit_command.specs.Report.{too_few}
-use Rattle.audit_command.proofs.report.put_too_few.Goals as goal
-
-pub returns : goal.returns
-unfolding too_few
-returns c = record { put = appended_twice _ _ _ _ _ (appended_twice _ _ _ _ _ (c.in_ok-put_number.ensures.put) (c.in_ok-put_number-2.ensures.put)) (c.in_ok-put.ensures.put) }

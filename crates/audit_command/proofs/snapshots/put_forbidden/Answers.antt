@@ -1,9 +1,0 @@
-use Rattle.std.proofs.Common.{length, sym, ◌∙◌}
-use Rattle.std.proofs.lemmas.Bool.{eqb-true}
-use Rattle.audit_command.proofs.Allowed.{nothing_left}
-use Rattle.audit_command.proofs.snapshots.put_forbidden.Goals as goal
-
-pub returns : goal.returns
-returns c =
-    let empty = sym (eqb-true (length c.loop-rest.rest.now) 0 (sym c.is_empty.ensures ∙ c.loop-rest-test.false)) in
-    record { put = sym (nothing_left c.loop-rest.out.items c.loop-rest.rest.now empty) ∙ c.loop-rest.invariant }

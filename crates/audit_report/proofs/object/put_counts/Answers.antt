@@ -1,0 +1,7 @@
+use Rattle.list_lemmas.proofs.Lists.{appended_twice}
+use Rattle.audit_report.specs.Objects.{count_values}
+use Rattle.audit_report.proofs.object.put_counts.Goals as goal
+
+pub returns : goal.returns
+unfolding count_values
+returns c = record { put = appended_twice _ _ _ _ _ (appended_twice _ _ _ _ _ (appended_twice _ _ _ _ _ (appended_twice _ _ _ _ _ (appended_twice _ _ _ _ _ (appended_twice _ _ _ _ _ (c.in_ok-put_number.ensures.put) (c.in_ok-put_number-2.ensures.put)) (c.in_ok-put_number-3.ensures.put)) (c.in_ok-put_number-4.ensures.put)) (c.in_ok-put_number-5.ensures.put)) (c.in_ok-put_number-6.ensures.put)) (c.in_ok-put_number-7.ensures.put) }

@@ -1,0 +1,4 @@
+pub mod Allowed
+mod Searched
+mod Singles
+mod Decided

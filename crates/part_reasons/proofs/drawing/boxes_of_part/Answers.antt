@@ -1,0 +1,14 @@
+use Rattle.std.proofs.Common.{map, ap, ◌∙◌}
+use Rattle.session_log.specs.Text.{view}
+use Rattle.log_lines.specs.Rows.{rows_of}
+use Rattle.part_graphs.specs.Graphs.{search_graph}
+use Rattle.part_reasons.proofs.drawing.boxes_of_part.Goals as goal
+
+pub returns : goal.returns
+returns c =
+    let part = map view c.args.refuted.now.part.items in
+    let words = c.args.words.now in
+    let rows = rows_of c.in_ok-places.places in
+    record {
+      drawn = c.in_ok-graph.ensures.graph ∙ ap (λ sessions. search_graph rows (map view sessions) words) c.deref.ensures.value ∙ ap (λ table. search_graph table part words) c.in_ok-places.ensures.rows;
+    }

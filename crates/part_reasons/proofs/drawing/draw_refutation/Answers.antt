@@ -1,0 +1,18 @@
+use Rattle.std.proofs.Common.{map, ap, ◌∙◌}
+use Rattle.session_log.specs.Text.{view}
+use Rattle.log_lines.specs.Rows.{rows_of}
+use Rattle.part_graphs.specs.Graphs.{refutation_graph}
+use Rattle.part_reasons.proofs.drawing.draw_refutation.Goals as goal
+
+pub returns : goal.returns
+returns c =
+    let part = map view c.args.refuted.now.part.items in
+    let it = c.args.refutation.now in
+    let rows = rows_of c.in_ok-places.places in
+    record {
+      drawn = record {
+        refutation = it;
+        right = c.requires.right;
+        graph_is = c.in_ok-graph.ensures.graph ∙ ap (λ sessions. refutation_graph rows (map view sessions) it) c.deref.ensures.value ∙ ap (λ table. refutation_graph table part it) c.in_ok-places.ensures.rows;
+      };
+    }

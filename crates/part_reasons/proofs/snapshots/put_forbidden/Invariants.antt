@@ -1,0 +1,10 @@
+use Rattle.std.proofs.Common.{◌≡◌, ℕ, ◌++◌, length}
+use Rattle.session_log.specs.Lines.{lines}
+use Rattle.part_reasons.specs.Points.{forbidden_in}
+use Rattle.part_reasons.proofs.snapshots.put_forbidden.Given as goal
+
+abbrev pub invariant-loop-rest : goal.invariant-loop-rest
+invariant-loop-rest l = l.out.items ++ forbidden_in (lines l.rest) ≡ l.initial.out.items ++ forbidden_in (lines l.text)
+
+abbrev pub decreases-loop-rest : goal.decreases-loop-rest
+decreases-loop-rest l = length l.rest

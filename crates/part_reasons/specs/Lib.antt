@@ -1,0 +1,5 @@
+pub mod Apart
+pub mod Drawn
+pub mod Why
+pub mod Points
+pub mod Said

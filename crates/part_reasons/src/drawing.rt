@@ -1,0 +1,424 @@
+//! Why a part has no order of the level at which it was judged, as a graph.
+
+ghost use Rattle.std.specs.Prelude.{◌≡◌, true, map, IfOk, IfSome, MatchOption};
+ghost use Rattle.std.specs.List.{AllByRecursion};
+ghost use Rattle.session_log.specs.Text.{IsLegal, view};
+ghost use Rattle.session_log.specs.Version.{first_line};
+ghost use Rattle.log_lines.specs.Rows.{Fits, rows_of};
+ghost use Rattle.polygraph.specs.declared.fault.PolyFault.TheVariants.{TooManyChoices};
+ghost use Rattle.reduction.specs.Outcome.{IsReduceFault};
+ghost use Rattle.deciding.specs.Decides.{Decides};
+ghost use Rattle.judging.specs.Made.{IsMadeOf};
+ghost use Rattle.level_refutations.specs.Refuted.{is_refuted};
+ghost use Rattle.point_refutations.specs.Refuted as by_points;
+ghost use Rattle.part_reasons.specs.Why.{table_of, IsTooLarge};
+ghost use Rattle.part_graphs.specs.Graphs.{search_graph};
+ghost use Rattle.part_reasons.specs.Drawn as spec;
+
+use crate::explaining::{MANY_LINES, SEARCH_SHOWS, places_of};
+use crate::own::is_own;
+use crate::snapshots::NO_POINTS_LEFT;
+use call_options::Format;
+use deciding::{Decision, Means, decide};
+use desk::gate::OpenGate;
+use judging::{Finding, JudgeMeans, Level, RefutedPart};
+use level_proposals::{Proposal, find_break};
+use level_refutations::Evidence;
+use log_lines::{LogPlaces, PlacedHistory};
+use log_parts::copy_log;
+use part_graphs::{empty_graph, evidence_graph, refutation_graph, search_graph};
+use point_proposals::propose;
+use point_refutations::Refutation;
+use polygraph::PolyFault;
+use seen_laws::Level as Weaker;
+use session_history::History;
+use session_log::{LogFault, Session, Version, line_count};
+use std::alloc::{AllocError, Global};
+use std::sync::Wait;
+use std::thread::Threads;
+use std::time::Clock;
+use tell_decision::explain_placed;
+
+/// Whether something is told of a decision.
+fn is_told(decision: &Decision) -> bool
+    ensures { result ≡ spec.is_told decision.now }
+{
+    match decision {
+        Decision::Anomalous(_)
+        | Decision::Cyclic(_)
+        | Decision::Dead(_)
+        | Decision::Refuted { .. } => true,
+        Decision::Serial(_) | Decision::Spent { .. } => false,
+    }
+}
+
+/// What is told of a decision about a history, as a graph, by where its transactions stand.
+fn graph_of_told(
+    alloc: Global,
+    history: &History,
+    places: &LogPlaces,
+    decision: &Decision,
+    means: &Means,
+) -> Result<Vec<u8>, AllocError>
+    requires fits { Fits history.now (rows_of places.now) }
+    requires decided { Decides means.now.budget history.now decision.now }
+    ensures drawn { IfOk result (λ graph. spec.IsDecisionDrawn history.now (rows_of places.now)
+        decision.now graph.items) }
+{
+    let log = PlacedHistory::of(alloc, history, places)?;
+    explain_placed(alloc, &log, Format::Dot, decision)
+}
+
+/// Why a decision about a history within a budget stands, as a graph; its boxes alone, where nothing
+/// is told of it.
+fn graph_of_decision(
+    alloc: Global,
+    history: &History,
+    places: &LogPlaces,
+    decision: &Decision,
+    means: &Means,
+) -> Result<Vec<u8>, AllocError>
+    requires fits { Fits history.now (rows_of places.now) }
+    requires decided { Decides means.now.budget history.now decision.now }
+    ensures drawn { IfOk result (λ graph. spec.Draws means.now.budget history.now
+        (rows_of places.now) graph.items) }
+{
+    if is_told(decision) {
+        graph_of_told(alloc, history, places, decision, means)
+    } else {
+        search_graph(alloc, history.sessions(), places, SEARCH_SHOWS)
+    }
+}
+
+/// Why a history has no order, as a graph; `None` where it has too many choices.
+fn graph_of_history<R: Threads + Wait + Clock + Sync>(
+    rt: &R,
+    alloc: Global,
+    history: &History,
+    places: &LogPlaces,
+    means: &Means,
+) -> Result<Option<Vec<u8>>, AllocError>
+    requires fits { Fits history.now (rows_of places.now) }
+    ensures drawn { IfOk result (λ drawn. MatchOption drawn
+        (IsReduceFault history.now TooManyChoices)
+        (λ graph. spec.Draws means.now.budget history.now (rows_of places.now) graph.items)) }
+{
+    match decide(rt, alloc, history, means, &OpenGate) {
+        Ok(decision) => Ok(Some(graph_of_decision(alloc, history, places, &decision, means)?)),
+        Err(PolyFault::TooManyChoices) => Ok(None),
+        Err(PolyFault::Memory) => Err(AllocError),
+    }
+}
+
+/// Why a part has no serial order, as a graph; `None` where it, or the log, has more lines than any
+/// log, or the part more than `check` takes.
+fn graph_of_part<R: Threads + Wait + Clock + Sync>(
+    rt: &R,
+    alloc: Global,
+    version: Version,
+    sessions: &[Session],
+    refuted: &RefutedPart,
+    means: &Means,
+) -> Result<Option<Vec<u8>>, AllocError>
+    requires legal { AllByRecursion IsLegal (map view refuted.now.part.items) }
+    requires made { IsMadeOf (map view sessions.now) refuted.now }
+    ensures drawn { IfOk result (λ drawn. MatchOption drawn
+        (IsTooLarge (map view sessions.now) (map view refuted.now.part.items))
+        (λ graph. spec.Draws means.now.budget (map view refuted.now.part.items)
+        (table_of (first_line version) (map view sessions.now) refuted.now.flags) graph.items)) }
+{
+    if line_count(sessions) > MANY_LINES || line_count(&refuted.part) > MANY_LINES {
+        return Ok(None);
+    }
+    let places = places_of(alloc, version, sessions, refuted)?;
+    match History::build(alloc, Version::One, copy_log(alloc, &refuted.part)?) {
+        Ok(history) => graph_of_history(rt, alloc, &history, &places, means),
+        Err(fault) => match fault {
+            LogFault::Memory => Err(AllocError),
+            _ => Ok(None),
+        },
+    }
+}
+
+/// The same; without boxes, where the part is too large.
+fn draw_serial<R: Threads + Wait + Clock + Sync>(
+    rt: &R,
+    alloc: Global,
+    version: Version,
+    sessions: &[Session],
+    refuted: &RefutedPart,
+    means: &Means,
+) -> Result<Vec<u8>, AllocError>
+    requires legal { AllByRecursion IsLegal (map view refuted.now.part.items) }
+    requires made { IsMadeOf (map view sessions.now) refuted.now }
+    ensures drawn { IfOk result (λ graph. spec.IsSerialDrawn means.now.budget (first_line version)
+        (map view sessions.now) refuted.now graph.items) }
+{
+    match graph_of_part(rt, alloc, version, sessions, refuted, means)? {
+        Some(graph) => Ok(graph),
+        None => Ok(empty_graph(alloc)?),
+    }
+}
+
+/// The transactions of a part as boxes, behind a line that says that a search shows it; `None` where the
+/// log has more lines than any log.
+fn boxes_of_part(
+    alloc: Global,
+    version: Version,
+    sessions: &[Session],
+    refuted: &RefutedPart,
+    words: &[u8],
+) -> Result<Option<Vec<u8>>, AllocError>
+    requires made { IsMadeOf (map view sessions.now) refuted.now }
+    ensures drawn { IfOk result (λ drawn. MatchOption drawn
+        (spec.IsTooLong (map view sessions.now)) (λ graph. graph.items
+        ≡ search_graph (table_of (first_line version) (map view sessions.now) refuted.now.flags)
+        (map view refuted.now.part.items) words.now)) }
+{
+    if line_count(sessions) > MANY_LINES {
+        return Ok(None);
+    }
+    let places = places_of(alloc, version, sessions, refuted)?;
+    let graph = search_graph(alloc, &refuted.part, &places, words)?;
+    Ok(Some(graph))
+}
+
+/// The same; without boxes, where there are none.
+fn draw_search(
+    alloc: Global,
+    version: Version,
+    sessions: &[Session],
+    refuted: &RefutedPart,
+    words: &[u8],
+) -> Result<Vec<u8>, AllocError>
+    requires made { IsMadeOf (map view sessions.now) refuted.now }
+    ensures drawn { IfOk result (λ graph. spec.IsSearchDrawn words.now (first_line version)
+        (map view sessions.now) refuted.now graph.items) }
+{
+    match boxes_of_part(alloc, version, sessions, refuted, words)? {
+        Some(graph) => Ok(graph),
+        None => Ok(empty_graph(alloc)?),
+    }
+}
+
+/// Why a part has no serial order.
+fn draw_order<R: Threads + Wait + Clock + Sync>(
+    rt: &R,
+    alloc: Global,
+    version: Version,
+    sessions: &[Session],
+    refuted: &RefutedPart,
+    means: &Means,
+) -> Result<Vec<u8>, AllocError>
+    requires legal { AllByRecursion IsLegal (map view refuted.now.part.items) }
+    requires made { IsMadeOf (map view sessions.now) refuted.now }
+    ensures drawn { IfOk result (λ graph. spec.IsOrderDrawn refuted.now.finding means.now.budget
+        (first_line version) (map view sessions.now) refuted.now graph.items) }
+{
+    match refuted.finding {
+        Finding::Formula | Finding::Overlooked => {
+            draw_search(alloc, version, sessions, refuted, SEARCH_SHOWS)
+        }
+        Finding::Anomaly(_) | Finding::Cycle | Finding::Dead | Finding::Refuted => {
+            draw_serial(rt, alloc, version, sessions, refuted, means)
+        }
+    }
+}
+
+/// Evidence that is right against a level below prefix.
+fn draw_evidence(
+    alloc: Global,
+    version: Version,
+    sessions: &[Session],
+    refuted: &RefutedPart,
+    below: Weaker,
+    evidence: &Evidence,
+) -> Result<Option<Vec<u8>>, AllocError>
+    requires made { IsMadeOf (map view sessions.now) refuted.now }
+    requires right { is_refuted below (map view refuted.now.part.items) evidence.now ≡ true }
+    ensures drawn { IfOk result (λ some. IfSome some (λ graph. spec.IsEvidenceDrawn below
+        (first_line version) (map view sessions.now) refuted.now graph.items)) }
+{
+    if line_count(sessions) > MANY_LINES {
+        return Ok(None);
+    }
+    let places = places_of(alloc, version, sessions, refuted)?;
+    let graph = evidence_graph(alloc, &refuted.part, &places, evidence)?;
+    Ok(Some(graph))
+}
+
+/// The same, where some is found.
+fn draw_break(
+    alloc: Global,
+    version: Version,
+    sessions: &[Session],
+    refuted: &RefutedPart,
+    below: Weaker,
+) -> Result<Option<Vec<u8>>, AllocError>
+    requires made { IsMadeOf (map view sessions.now) refuted.now }
+    ensures drawn { IfOk result (λ some. IfSome some (λ graph. spec.IsEvidenceDrawn below
+        (first_line version) (map view sessions.now) refuted.now graph.items)) }
+{
+    if let Proposal::Evidence(evidence) = find_break(alloc, below, &refuted.part)?
+        && level_refutations::refutes(below, &refuted.part, &evidence)
+    {
+        return draw_evidence(alloc, version, sessions, refuted, below, &evidence);
+    }
+    Ok(None)
+}
+
+/// Why a part has no order of a level below prefix.
+fn draw_below(
+    alloc: Global,
+    version: Version,
+    sessions: &[Session],
+    refuted: &RefutedPart,
+    below: Weaker,
+) -> Result<Vec<u8>, AllocError>
+    requires made { IsMadeOf (map view sessions.now) refuted.now }
+    ensures drawn { IfOk result (λ graph. spec.IsBelowDrawn below (first_line version)
+        (map view sessions.now) refuted.now graph.items) }
+{
+    match draw_break(alloc, version, sessions, refuted, below)? {
+        Some(graph) => Ok(graph),
+        None => draw_search(alloc, version, sessions, refuted, SEARCH_SHOWS),
+    }
+}
+
+/// A refutation by points that is right.
+fn draw_refutation(
+    alloc: Global,
+    version: Version,
+    sessions: &[Session],
+    refuted: &RefutedPart,
+    is_locked: bool,
+    refutation: &Refutation,
+) -> Result<Option<Vec<u8>>, AllocError>
+    requires made { IsMadeOf (map view sessions.now) refuted.now }
+    requires right { by_points.is_refuted is_locked (map view refuted.now.part.items) refutation.now
+        ≡ true }
+    ensures drawn { IfOk result (λ some. IfSome some (λ graph. spec.IsRefutationDrawn is_locked
+        (first_line version) (map view sessions.now) refuted.now graph.items)) }
+{
+    if line_count(sessions) > MANY_LINES {
+        return Ok(None);
+    }
+    let places = places_of(alloc, version, sessions, refuted)?;
+    let graph = refutation_graph(alloc, &refuted.part, &places, refutation)?;
+    Ok(Some(graph))
+}
+
+/// The same, where one is found.
+fn draw_proposal(
+    alloc: Global,
+    version: Version,
+    sessions: &[Session],
+    refuted: &RefutedPart,
+    is_locked: bool,
+) -> Result<Option<Vec<u8>>, AllocError>
+    requires made { IsMadeOf (map view sessions.now) refuted.now }
+    ensures drawn { IfOk result (λ some. IfSome some (λ graph. spec.IsRefutationDrawn is_locked
+        (first_line version) (map view sessions.now) refuted.now graph.items)) }
+{
+    if let Some(refutation) = propose(alloc, &refuted.part, is_locked)?
+        && point_refutations::refutes(is_locked, &refuted.part, &refutation)
+    {
+        return draw_refutation(alloc, version, sessions, refuted, is_locked, &refutation);
+    }
+    Ok(None)
+}
+
+/// Why a part has no serial order, where an anomaly was found, and is the part's own.
+fn draw_anomaly<R: Threads + Wait + Clock + Sync>(
+    rt: &R,
+    alloc: Global,
+    version: Version,
+    sessions: &[Session],
+    refuted: &RefutedPart,
+    means: &Means,
+) -> Result<Option<Vec<u8>>, AllocError>
+    requires legal { AllByRecursion IsLegal (map view refuted.now.part.items) }
+    requires made { IsMadeOf (map view sessions.now) refuted.now }
+    ensures drawn { IfOk result (λ some. IfSome some (λ graph. spec.IsAnomalyDrawn means.now.budget
+        (first_line version) (map view sessions.now) refuted.now graph.items)) }
+{
+    let own = is_own(alloc, refuted)?;
+    if !own {
+        return Ok(None);
+    }
+    let graph = draw_serial(rt, alloc, version, sessions, refuted, means)?;
+    Ok(Some(graph))
+}
+
+/// Why a part has no snapshot order, or no prefix order where keys are not locked: an anomaly, a
+/// refutation by points, or evidence against a weaker level; else that a search shows it.
+fn draw_points<R: Threads + Wait + Clock + Sync>(
+    rt: &R,
+    alloc: Global,
+    version: Version,
+    sessions: &[Session],
+    refuted: &RefutedPart,
+    is_locked: bool,
+    means: &Means,
+) -> Result<Vec<u8>, AllocError>
+    requires legal { AllByRecursion IsLegal (map view refuted.now.part.items) }
+    requires made { IsMadeOf (map view sessions.now) refuted.now }
+    ensures drawn { IfOk result (λ graph. spec.IsPointsDrawn is_locked means.now.budget
+        (first_line version) (map view sessions.now) refuted.now graph.items) }
+{
+    if let Some(graph) = draw_anomaly(rt, alloc, version, sessions, refuted, means)? {
+        return Ok(graph);
+    }
+    if let Some(graph) = draw_proposal(alloc, version, sessions, refuted, is_locked)? {
+        return Ok(graph);
+    }
+    match draw_break(alloc, version, sessions, refuted, Weaker::Causal)? {
+        Some(graph) => Ok(graph),
+        None => draw_search(alloc, version, sessions, refuted, NO_POINTS_LEFT),
+    }
+}
+
+/// Why a part of these sessions, which are those of a log of this version with their outcomes
+/// known, has no order of the level at which it was judged.
+fn draw_part<R: Threads + Wait + Clock + Sync>(
+    rt: &R,
+    alloc: Global,
+    version: Version,
+    sessions: &[Session],
+    refuted: &RefutedPart,
+    means: &JudgeMeans,
+) -> Result<Vec<u8>, AllocError>
+    requires legal { AllByRecursion IsLegal (map view refuted.now.part.items) }
+    requires made { IsMadeOf (map view sessions.now) refuted.now }
+    ensures drawn { IfOk result (λ graph. spec.IsDrawn means.now (first_line version)
+        (map view sessions.now) refuted.now graph.items) }
+{
+    let deciding = &means.deciding;
+    match means.level {
+        Level::Serializable => draw_order(rt, alloc, version, sessions, refuted, deciding),
+        Level::Snapshot => draw_points(rt, alloc, version, sessions, refuted, true, deciding),
+        Level::Prefix => draw_points(rt, alloc, version, sessions, refuted, false, deciding),
+        Level::Below(below) => draw_below(alloc, version, sessions, refuted, below),
+    }
+}
+
+/// The same, where a graph is asked for.
+pub fn draw_where<R: Threads + Wait + Clock + Sync>(
+    rt: &R,
+    alloc: Global,
+    version: Version,
+    sessions: &[Session],
+    refuted: &RefutedPart,
+    format: Format,
+    means: &JudgeMeans,
+) -> Result<Vec<u8>, AllocError>
+    requires legal { AllByRecursion IsLegal (map view refuted.now.part.items) }
+    requires made { IsMadeOf (map view sessions.now) refuted.now }
+    ensures drawn { IfOk result (λ graph. spec.IsDrawnWhere format means.now (first_line version)
+        (map view sessions.now) refuted.now graph.items) }
+{
+    match format {
+        Format::Text => Ok(Vec::new(alloc)),
+        Format::Dot => draw_part(rt, alloc, version, sessions, refuted, means),
+    }
+}

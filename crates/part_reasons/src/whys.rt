@@ -1,0 +1,104 @@
+//! Why a part has no order of the level at which it was judged.
+
+ghost use Rattle.std.specs.Prelude.{◌≡◌, map, IfOk};
+ghost use Rattle.std.specs.Option.{option_copied};
+ghost use Rattle.std.specs.List.{AllByRecursion};
+ghost use Rattle.session_log.specs.Text.{IsLegal, view};
+ghost use Rattle.session_log.specs.Version.{first_line};
+ghost use Rattle.judging.specs.Made.{IsMadeOf};
+ghost use Rattle.part_reasons.specs.Said.{IsSaid};
+ghost use Rattle.part_reasons.specs.Why.{IsWhyOf, IsNamedBy};
+ghost use Rattle.part_reasons.specs.Why.{read_name, anomaly_name};
+
+use crate::explaining::{Explained, explain_serial, owned, searched};
+use crate::overlooked::explain_below;
+use crate::snapshots::explain_snapshot;
+use deciding::Means;
+use judging::{Finding, JudgeMeans, Level, RefutedPart};
+use session_history::{Anomaly, ReadAnomaly};
+use session_log::{Session, Version};
+use std::alloc::{AllocError, Global};
+use std::sync::Wait;
+use std::thread::Threads;
+use std::time::Clock;
+
+/// What the field calls a read that is an anomaly, where it has a name.
+fn read_name(kind: ReadAnomaly) -> Option<&'static str>
+    ensures name { option_copied result ≡ read_name kind }
+{
+    match kind {
+        ReadAnomaly::Unknown => None,
+        ReadAnomaly::Aborted => Some("aborted read (G1a)"),
+        ReadAnomaly::Intermediate => Some("intermediate read (G1b)"),
+        ReadAnomaly::OwnWriteMissed => Some("own write missed (internal)"),
+        ReadAnomaly::Future => Some("future read (internal)"),
+        ReadAnomaly::Split => Some("non-repeatable read (internal)"),
+    }
+}
+
+/// What the field calls an anomaly, where it has a name.
+pub fn anomaly_name(anomaly: Anomaly) -> Option<&'static str>
+    ensures name { option_copied result ≡ anomaly_name anomaly }
+{
+    match anomaly {
+        Anomaly::Read { kind, .. } => read_name(kind),
+        Anomaly::LostUpdate { .. } => Some("lost update (G-single)"),
+    }
+}
+
+/// Why a part has no serial order.
+fn explain_order<R: Threads + Wait + Clock + Sync>(
+    rt: &R,
+    alloc: Global,
+    version: Version,
+    sessions: &[Session],
+    refuted: &RefutedPart,
+    means: &Means,
+) -> Result<Explained, AllocError>
+    requires legal { AllByRecursion IsLegal (map view refuted.now.part.items) }
+    requires made { IsMadeOf (map view sessions.now) refuted.now }
+    ensures why { IfOk result (λ told. IsWhyOf refuted.now.finding means.now.budget
+        (first_line version) (map view sessions.now) refuted.now told.text.items) }
+    ensures named { IfOk result (λ told. IsNamedBy refuted.now.finding told.known_as
+        told.text.items) }
+{
+    match refuted.finding {
+        Finding::Formula | Finding::Overlooked => searched(alloc),
+        Finding::Anomaly(anomaly) => {
+            let explained = explain_serial(rt, alloc, version, sessions, refuted, means)?;
+            Ok(Explained {
+                text: explained.text,
+                known_as: owned(alloc, anomaly_name(anomaly))?,
+            })
+        }
+        Finding::Cycle | Finding::Dead | Finding::Refuted => {
+            explain_serial(rt, alloc, version, sessions, refuted, means)
+        }
+    }
+}
+
+/// Why a part of these sessions, which are those of a log of this version with their outcomes
+/// known, has no order of the level at which it was judged.
+pub fn explain_part<R: Threads + Wait + Clock + Sync>(
+    rt: &R,
+    alloc: Global,
+    version: Version,
+    sessions: &[Session],
+    refuted: &RefutedPart,
+    means: &JudgeMeans,
+) -> Result<Explained, AllocError>
+    requires legal { AllByRecursion IsLegal (map view refuted.now.part.items) }
+    requires made { IsMadeOf (map view sessions.now) refuted.now }
+    ensures said { IfOk result (λ told. IsSaid means.now (first_line version)
+        (map view sessions.now) refuted.now told.known_as told.text.items) }
+{
+    let deciding = &means.deciding;
+    match means.level {
+        Level::Serializable => explain_order(rt, alloc, version, sessions, refuted, deciding),
+        Level::Snapshot => {
+            explain_snapshot(rt, alloc, version, sessions, refuted, true, deciding)
+        }
+        Level::Prefix => explain_snapshot(rt, alloc, version, sessions, refuted, false, deciding),
+        Level::Below(below) => explain_below(alloc, version, sessions, refuted, below),
+    }
+}
