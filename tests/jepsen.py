@@ -48,8 +48,8 @@ def histories():
     stale = history('[[:w 1 1]]', '[[:r 1 1] [:w 1 2]]', '[[:r 1 1]]')
     yield 'stale', '[]', stale, False, 'A8'
     yield 'stale-sessions', '["--order" "sessions"]', stale, True, None
-    yield 'counters', '[]', '[%s]' % op(0, 'invoke', 0, '[:add 1]'), 'unknown', 'import.py: '
-    yield 'nothing', '[]', '[]', 'unknown', 'import.py: '
+    yield 'counters', '[]', '[%s]' % op(0, 'invoke', 0, '[:add 1]'), 'unknown', 'cobra_poly-import: '
+    yield 'nothing', '[]', '[]', 'unknown', 'cobra_poly-import: '
 
 
 def main():
