@@ -101,6 +101,8 @@ TIME_ALONE = ['only real time was broken: the whole log has a serial order, but 
 # What is said of a store where no level was named: whether the log has an order without its moments, or keeps a weaker level.
 NO_BLAME = {True: 'a store that promises no strict level did nothing wrong: name its level by --level',
             False: 'a store that promises no more than that did nothing wrong: name its level by --level'}
+# What is said of it where nothing weaker is known to be kept, and something is not decided.
+OPEN_BLAME = 'a store that promises less may have done nothing wrong: name its level by --level'
 # What stands before what holds without moments, and before a last part, which breaks a weaker level.
 WITHOUT, WHY_NOT = 'without real time: ', 'why %s was not kept:'
 
@@ -170,8 +172,10 @@ class Answer:
         self.weaker = {line[1]: line[2] for line in lines}
         del middle[:len(lines)]
         is_kept = self.without == 'serializable' or 'kept' in self.weaker.values()
-        said = [middle.pop(0)] if middle and middle[0] in NO_BLAME.values() else []
-        must(said == ([NO_BLAME[self.without == 'serializable']] if is_kept else []), 'of the store that keeps %r: %r' % (self.weaker, said))
+        is_open = self.verdict == 'not serializable' and 'unknown' in {self.without, *self.weaker.values()}
+        wanted = [NO_BLAME[self.without == 'serializable']] if is_kept else [OPEN_BLAME] if is_open else []
+        said = [middle.pop(0)] if middle and middle[0] in {OPEN_BLAME, *NO_BLAME.values()} else []
+        must(said == wanted, 'of the store that keeps %r: %r' % (self.weaker, said))
         weakest = next((level for level in reversed(LADDER) if self.weaker.get(level) == 'not kept'), None)
         self.weakest = self.last_part(middle, weakest)
         self.shown = self.last_part(middle, SNAPSHOT)

@@ -505,7 +505,7 @@ class Telling:
 
     def kind_by_order(self, name, key):
         """The kind of an edge from this transaction by an order of two versions of the key."""
-        return 'order of writes' if self.log.named[name].writes(key) else 'missed write'
+        return 'missed write' if self.log.named[name].reads(key) else 'order of writes'
 
     def no_way_around(self, where, edges):
         """Of what these edges lead over, only neighbours are an edge that the log shows."""

@@ -1,8 +1,8 @@
 -- The report as text.
-use Rattle.std.specs.Prelude.{ℕ, ◌==◌, nat_lt, Bool, not, ◌&&◌, ◌||◌, if◌then◌else◌}
+use Rattle.std.specs.Prelude.{ℕ, ◌==◌, nat_lt, Bool, ◌&&◌, ◌||◌, if◌then◌else◌}
 use Rattle.std.specs.Prelude.{List, [], ◌∷◌, ◌++◌}
 use Rattle.std.specs.Prelude.{length, codes, decimal, count_by, Option, Some, None, is_some}
-use Rattle.std.specs.List.{flat_map}
+use Rattle.std.specs.List.{flat_map, list_any}
 use Rattle.std.specs.String.{string_bytes}
 use Rattle.std.specs.Prelude.{String}
 use Rattle.std.specs.declared.alloc.Global.{Global}
@@ -197,25 +197,42 @@ lower_text w = level_row Prefix w.prefix ++ level_row Causal w.causal
     ++ level_row MonotonicAtomicView w.monotonic_atomic_view
     ++ level_row ReadCommitted w.read_committed
 
--- something weaker was kept
-abbrev pub is_lower_kept : Lower → Bool
-is_lower_kept w = is_kept w.prefix || is_kept w.causal || is_kept w.read_atomic
-    || is_kept w.monotonic_atomic_view || is_kept w.read_committed
+-- what is told of the log without moments, and of weaker levels
+abbrev pub weaker_words : Told → List (Option Word)
+weaker_words told = told.without_moments ∷ told.strict_snapshot ∷ told.snapshot
+    ∷ told.lower.prefix ∷ told.lower.causal ∷ told.lower.read_atomic
+    ∷ told.lower.monotonic_atomic_view ∷ told.lower.read_committed ∷ []
 
+-- something weaker was kept
 abbrev pub is_some_kept : Told → Bool
-is_some_kept told = is_kept told.without_moments || is_kept told.strict_snapshot
-    || is_kept told.snapshot || is_lower_kept told.lower
+is_some_kept told = list_any is_kept (weaker_words told)
+
+-- the log has no serial order, and something weaker was not decided
+abbrev pub is_open : Option Word → Bool
+is_open (Some word.Unknown) = true
+is_open _ = false
+
+abbrev pub is_refuted : Word → Bool
+is_refuted word.NotSerializable = true
+is_refuted _ = false
+
+abbrev pub is_some_open : Told → Bool
+is_some_open told = is_refuted (word_of told.answer) && list_any is_open (weaker_words told)
 
 abbrev pub promise_text : Option Word → List ℕ
 promise_text without = if is_kept without then codes "a store that promises no strict level"
     else codes "a store that promises no more than that"
 
 -- Where no level was named and a weaker one was kept, the store may have promised no more: the level
--- that is told last, or each one that is not of moments.
+-- that is told last, or each one that is not of moments. Where none was kept and one was not decided,
+-- nobody knows.
 unfoldable pub blame_text : Told → List ℕ
-blame_text told = if not (is_some told.level) && is_some_kept told
-    then promise_text told.without_moments
+blame_text told = if is_some told.level then []
+    else if is_some_kept told then promise_text told.without_moments
     ++ codes " did nothing wrong: name its level by --level\n"
+    else if is_some_open told then
+    codes "a store that promises less may have done nothing wrong"
+    ++ codes ": name its level by --level\n"
     else []
 
 -- what holds without moments and at weaker levels

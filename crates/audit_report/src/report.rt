@@ -10,7 +10,7 @@ ghost use Rattle.audit_report.specs.Report.{listed, codes_where, behind_first, l
 ghost use Rattle.audit_report.specs.Report.{level_row, weaker_text, short_title, found_text};
 ghost use Rattle.audit_report.specs.Report.{kept_line, shown_by, snapshot_row, broken_text, last_part};
 ghost use Rattle.audit_report.specs.Report.{lower_text, title_of, why_lowest, lowest_part};
-ghost use Rattle.audit_report.specs.Report.{is_lower_kept, is_some_kept, promise_text, blame_text};
+ghost use Rattle.audit_report.specs.Report.{weaker_words, is_some_kept, is_some_open, promise_text, blame_text};
 ghost use Rattle.audit_report.specs.Lower.{or_above, weakest_of};
 ghost use Rattle.audit_report.specs.Words as spec;
 
@@ -495,25 +495,38 @@ fn put_lowest(
     }
 }
 
-/// Whether a level below snapshot isolation was kept.
-fn is_lower_kept(lower: &Lower) -> bool
-    ensures { result ≡ is_lower_kept lower.now }
+/// What is told of the log without moments, and of weaker levels.
+fn weaker_words(told: &Told) -> [Option<Word>; 8]
+    ensures words { result.now ≡ weaker_words told.now }
 {
-    is_kept(lower.prefix)
-        || is_kept(lower.causal)
-        || is_kept(lower.read_atomic)
-        || is_kept(lower.monotonic_atomic_view)
-        || is_kept(lower.read_committed)
+    let lower = &told.lower;
+    [
+        told.without_moments,
+        told.strict_snapshot,
+        told.snapshot,
+        lower.prefix,
+        lower.causal,
+        lower.read_atomic,
+        lower.monotonic_atomic_view,
+        lower.read_committed,
+    ]
 }
 
 /// Whether something weaker was kept.
 fn is_some_kept(told: &Told) -> bool
     ensures { result ≡ is_some_kept told.now }
 {
-    is_kept(told.without_moments)
-        || is_kept(told.strict_snapshot)
-        || is_kept(told.snapshot)
-        || is_lower_kept(&told.lower)
+    weaker_words(told).iter().any(|word| is_kept(*word))
+}
+
+/// Whether the log has no serial order, and something weaker was not decided.
+fn is_some_open(told: &Told) -> bool
+    ensures { result ≡ is_some_open told.now }
+{
+    matches!(word_of(&told.answer), Word::NotSerializable)
+        && weaker_words(told)
+            .iter()
+            .any(|word| matches!(*word, Some(Word::Unknown)))
 }
 
 /// Appends which store promises no more than that.
@@ -527,17 +540,27 @@ fn put_promise(out: &mut Vec<u8>, without: Option<Word>) -> Result<(), AllocErro
     }
 }
 
-/// Appends that a store may have done nothing wrong, where no level was named and a weaker one was
-/// kept.
+/// Appends that a store did nothing wrong, or may have done nothing wrong, where no level was named
+/// and a weaker one was kept, or was not decided.
 #[tactic(auto, unfolding(crate::specs::Report::blame_text))]
 fn put_blame(out: &mut Vec<u8>, told: &Told) -> Result<(), AllocError>
     ensures put { OnOk result (out.new.items ≡ out.old.items ++ blame_text told.now) }
 {
-    if told.level.is_none() && is_some_kept(told) {
-        put_promise(out, told.without_moments)?;
-        put(out, b" did nothing wrong: name its level by --level\n")?;
+    if told.level.is_some() {
+        return Ok(());
     }
-    Ok(())
+    if is_some_kept(told) {
+        put_promise(out, told.without_moments)?;
+        put(out, b" did nothing wrong: name its level by --level\n")
+    } else if is_some_open(told) {
+        put(
+            out,
+            b"a store that promises less may have done nothing wrong",
+        )?;
+        put(out, b": name its level by --level\n")
+    } else {
+        Ok(())
+    }
 }
 
 /// Appends what holds without moments and at weaker levels.

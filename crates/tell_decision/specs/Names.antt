@@ -1,24 +1,25 @@
 -- What the cycle of an explanation is called, by what its edges are.
-use Rattle.std.specs.Prelude.{ℕ, ◌==◌, ◌&&◌, nat_lt, if◌then◌else◌, List, [], ◌∷◌}
+use Rattle.std.specs.Prelude.{ℕ, ◌&&◌, nat_lt, if◌then◌else◌, List, [], ◌∷◌}
 use Rattle.std.specs.Prelude.{Option, None, Some}
+use Rattle.log_definitions.specs.Numbers.{log_of}
+use Rattle.serializability.specs.Reads.{external_read}
 use Rattle.session_log.specs.Text.{ClientSession}
 use Rattle.reasons.specs.declared.reason.Reason.TheVariants as reason
 use Rattle.tell_reasons.specs.Names.{followed, with_orders, cycle_name}
-use Rattle.tell_reasons.specs.Versions.{left_at}
 use Rattle.tell_reasons.specs.declared.names.Shape.{Shape}
 use Rattle.tell_reasons.specs.declared.names.TheConstants.{NO_EDGES, MISSED, READ, WRITTEN}
 use Rattle.tell_reasons.specs.declared.names.TheConstants.{SESSION, MOMENTS}
-use Rattle.tell_reasons.specs.declared.why.ChainOrder.{ChainOrder}
 use Rattle.tell_reasons.specs.declared.why.Why.{Why}
 use Rattle.tell_reasons.specs.declared.why.Why.TheVariants as why
 use Rattle.tell_steps.specs.declared.item.Item.{Item}
 use Rattle.tell_steps.specs.declared.item.Item.TheVariants.{Step, Edge, Cycle}
 
 -- ---- edges
--- by an order of two versions: from who wrote the key at this place, or from who reads it
+-- by an order of two versions of a key, from who reads this of it, or writes it and reads nothing
+-- before: who reads, and may write it then, misses the later one
 abbrev pub kind_by_order : Option ℕ → Shape
-kind_by_order (Some i) = WRITTEN
-kind_by_order None = MISSED
+kind_by_order (Some w) = MISSED
+kind_by_order None = WRITTEN
 
 -- an anti-dependency misses a write, and so may an order of versions
 abbrev pub kind_of : List ClientSession → ℕ → Why → Shape
@@ -27,8 +28,8 @@ kind_of ss a (why.Known reason.Moments) = MOMENTS
 kind_of ss a (why.Known (reason.Read i j)) = READ
 kind_of ss a (why.Known (reason.Overwritten i j)) = MISSED
 kind_of ss a (why.Known (reason.Initial i j)) = MISSED
-kind_of ss a (why.Forced number o) = kind_by_order (left_at ss o.key a)
-kind_of ss a (why.Chosen o) = kind_by_order (left_at ss o.key a)
+kind_of ss a (why.Forced number o) = kind_by_order (external_read o.key ((log_of ss).ops a))
+kind_of ss a (why.Chosen o) = kind_by_order (external_read o.key ((log_of ss).ops a))
 
 -- with the edges that stand first among these
 abbrev pub shape_after : List ClientSession → Shape → List Item → Shape
@@ -40,11 +41,6 @@ abbrev pub name_of : List ClientSession → List Item → List ℕ
 name_of ss items = cycle_name (shape_after ss NO_EDGES items)
 
 -- ---- a cycle behind steps
--- By the order that a step refutes: from the second version's own writer, or from one that reads that
--- version or what goes back to it, as the step's second line says, and would miss the first one.
-abbrev pub kind_refuted : ChainOrder → ℕ → Shape
-kind_refuted o u = if u == o.second then WRITTEN else MISSED
-
 -- the one that misses more writes, where two are as many as more; of equals the first; with the
 -- orders of sessions and of moments of both
 abbrev pub milder : Shape → Shape → Shape
@@ -55,7 +51,8 @@ milder c d = if nat_lt c.missed 2 && nat_lt c.missed d.missed then with_orders d
 -- step, with the edge by that order, which closes a circle
 abbrev pub milder_with : List ClientSession → Shape → Item → List Item → Shape
 milder_with ss c (Step n o u v) behind =
-    milder c (followed (shape_after ss NO_EDGES behind) (kind_refuted o u))
+    milder c (followed (shape_after ss NO_EDGES behind)
+    (kind_by_order (external_read o.key ((log_of ss).ops u))))
 milder_with ss c (Cycle start edges) behind = milder (shape_after ss NO_EDGES behind) c
 milder_with ss c _ behind = c
 

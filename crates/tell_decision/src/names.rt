@@ -1,26 +1,31 @@
 //! What the cycle of an explanation is called, by what its edges are.
 
 ghost use Rattle.std.specs.Prelude.{◌≡◌};
-ghost use Rattle.tell_reasons.specs.Versions.{left_at};
+ghost use Rattle.serializability.specs.Reads.{external_read};
 ghost use Rattle.tell_decision.specs.Names as spec;
 
 use reasons::Reason;
-use serializability::NodeIx;
+use serializability::{Event, NodeIx};
 use session_history::History;
 use tell_reasons::names::{
     MISSED, MOMENTS, NO_EDGES, READ, SESSION, Shape, WRITTEN, cycle_name, followed, with_orders,
 };
-use tell_reasons::{ChainOrder, Why, left_at};
+use tell_reasons::{ChainOrder, Why};
 use tell_steps::Item;
 
-/// What an edge by an order of two versions of a key is, from a node that wrote it or reads it.
-fn kind_by_order(history: &History, key: usize, node: NodeIx) -> Shape
-    ensures { result ≡ spec.kind_by_order (left_at history.now key node) }
+/// What an edge by an order of two versions of a key is, from a node with these operations: it
+/// misses the write, where it reads the key before it writes it.
+fn kind_by_order(events: &[Event], key: usize) -> Shape
+    ensures { result ≡ spec.kind_by_order (external_read key events.now) }
 {
-    match left_at(history, key, node) {
-        Some(_) => WRITTEN,
-        None => MISSED,
+    for i in 0..events.len() {
+        match events[i] {
+            Event::Read { key: read, .. } if read == key => return MISSED,
+            Event::Write { key: written, .. } if written == key => return WRITTEN,
+            _ => {}
+        }
     }
+    WRITTEN
 }
 
 /// What an edge from this node is.
@@ -32,8 +37,8 @@ pub fn kind_of(history: &History, first: NodeIx, why: Why) -> Shape
         Why::Known(Reason::Moments) => MOMENTS,
         Why::Known(Reason::Read { .. }) => READ,
         Why::Known(Reason::Overwritten { .. } | Reason::Initial { .. }) => MISSED,
-        Why::Forced { order, .. } => kind_by_order(history, order.key, first),
-        Why::Chosen(order) => kind_by_order(history, order.key, first),
+        Why::Forced { order, .. } => kind_by_order(history.events_of(first), order.key),
+        Why::Chosen(order) => kind_by_order(history.events_of(first), order.key),
     }
 }
 
@@ -58,18 +63,6 @@ pub fn name_of(history: &History, items: &[Item]) -> &'static str
     cycle_name(shape_of(history, items))
 }
 
-/// What an edge by the order that a step refutes is: from the second version's own writer, or from
-/// one that reads it or what goes back to it, and would miss the first one.
-fn kind_refuted(order: ChainOrder, source: NodeIx) -> Shape
-    ensures { result ≡ spec.kind_refuted order source }
-{
-    if source.get() == order.second.get() {
-        WRITTEN
-    } else {
-        MISSED
-    }
-}
-
 /// The circle that misses more writes, where two are as many as more; of equals the first. It has
 /// the orders of sessions and of moments that either takes.
 fn milder(circle: Shape, other: Shape) -> Shape
@@ -90,7 +83,8 @@ fn milder_with(history: &History, circle: Shape, item: Item, behind: &[Item]) ->
     let line = shape_of(history, behind);
     match item {
         Item::Step { order, source, .. } => {
-            milder(circle, followed(line, kind_refuted(order, source)))
+            let last = kind_by_order(history.events_of(source), order.key);
+            milder(circle, followed(line, last))
         }
         Item::Cycle { .. } => milder(line, circle),
         _ => circle,
