@@ -70,7 +70,7 @@ WANTED += ['a step by a read', 'a step by a read of an update', 'a step by a wal
 WANTED += ['forced reads of an update', 'forced wrote of an update', 'decided reads of an update', 'forced of a writer', 'decided of a writer']
 WANTED += ['A9 known as: ' + name for name in
            ('cycle with one missed write (G-single)', 'cycle with one missed write and sessions (G-single-process)',
-            'cycle of writes and real time (G0-realtime)', 'a read from the future (G1c-process)', 'read skew (G-single)',
+            'read skew (G-single)',
             'read skew by way of sessions (G-single-process)', 'a session misses its own write (G-single-process)',
             'write skew (G2-item)', 'write skew by way of sessions (G2-item-process)', 'write skew in a ring (G2-item)',
             'long fork by way of sessions (G-nonadjacent-item-process)')]
@@ -237,7 +237,7 @@ class Log:
             return b, False, 'began after %s ended' % a
         key = kept[2] if kept else said.split(' ')[2]
         by = ' (by [%s])' % kept[3] if kept and kept.re is BY_STEP else ''
-        if kept and self.named[a].writes(key):
+        if kept and not self.named[a].reads(key):
             return b, False, 'wrote %s after %s%s' % (key, a, by)
         return (b, False, "saw %s's %s" % (a, key)) if kind == 'read' else (a, True, "did not see %s's %s%s" % (b, key, by))
 
@@ -1072,11 +1072,11 @@ BY_HAND = [
     by_hand('session 1, begin, w x 1, r y 2, commit, begin, r x 1, w y 2, commit', 'A8 cycle of known edges', 'cycle 1.1 1.2 1.1',
             "in short: 1.2 saw 1.1's x; 1.1 saw 1.2's y", '1.1 before 1.2: 1.2 reads x 1 (line 7), which 1.1 wrote (line 3)',
             '1.2 before 1.1: 1.1 reads y 2 (line 4), which 1.2 wrote (line 8)', 'known as: circular information flow (G1c)'),
-    # neither order of two versions, and no write is missed in either
+    # neither order of two versions: an update misses a write
     by_hand('session 1, begin, w x 1, commit, begin, w x 2, w y 4, commit, session 2, begin, r x 1, w x 3, r y 4, commit',
-            'A9 pruning ends in a cycle', "in short: 2.1 saw 1.2's y; 1.2 wrote x after 2.1 (by [1])", 'cycle from 1.2:', '1.2 before 2.1: 2.1 reads y 4 (line 13), which 1.2 wrote (line 7)',
+            'A9 pruning ends in a cycle', "in short: 2.1 saw 1.2's y, but did not see 1.2's x (by [1])", 'cycle from 1.2:', '1.2 before 2.1: 2.1 reads y 4 (line 13), which 1.2 wrote (line 7)',
             '2.1 before 1.2: 2.1 wrote x 3 (line 12) over 1, which by [1] comes before 2, which 1.2 wrote (line 6)',
-            'known as: a read from the future (G1c-process)', FORCED,
+            'known as: read skew by way of sessions (G-single-process)', FORCED,
             '[1] x: 1, which 1.1 wrote (line 3), comes before 2, which 1.2 wrote (line 6):', '    1.1 before 1.2: session 1'),
     # neither order, and what the step refutes is milder than the cycle
     by_hand('session 1, begin, w x 1, r y 5, commit, begin, r z 0, commit, session 2, begin, w x 2, w y 5, commit, '

@@ -1,6 +1,6 @@
 -- What the cycle of an explanation is called, by what its edges are.
-use Rattle.std.specs.Prelude.{ℕ, ◌&&◌, nat_lt, if◌then◌else◌, List, [], ◌∷◌}
-use Rattle.std.specs.Prelude.{Option, None, Some}
+use Rattle.std.specs.Prelude.{ℕ, Bool, ◌&&◌, nat_lt, if◌then◌else◌, List, [], ◌∷◌}
+use Rattle.std.specs.Prelude.{is_some}
 use Rattle.log_definitions.specs.Numbers.{log_of}
 use Rattle.serializability.specs.Reads.{external_read}
 use Rattle.session_log.specs.Text.{ClientSession}
@@ -15,11 +15,14 @@ use Rattle.tell_steps.specs.declared.item.Item.{Item}
 use Rattle.tell_steps.specs.declared.item.Item.TheVariants.{Step, Edge, Cycle}
 
 -- ---- edges
--- by an order of two versions of a key, from who reads this of it, or writes it and reads nothing
--- before: who reads, and may write it then, misses the later one
-abbrev pub kind_by_order : Option ℕ → Shape
-kind_by_order (Some w) = MISSED
-kind_by_order None = WRITTEN
+-- node v reads key number x before it writes it, if it does
+abbrev pub reads_first : List ClientSession → ℕ → ℕ → Bool
+reads_first ss x v = is_some (external_read x ((log_of ss).ops v))
+
+-- By an order of two versions of key number x, from who reads the first one, or wrote it: who reads,
+-- and may write it then, misses the later one.
+abbrev pub kind_by_order : List ClientSession → ℕ → ℕ → Shape
+kind_by_order ss x v = if reads_first ss x v then MISSED else WRITTEN
 
 -- an anti-dependency misses a write, and so may an order of versions
 abbrev pub kind_of : List ClientSession → ℕ → Why → Shape
@@ -28,8 +31,8 @@ kind_of ss a (why.Known reason.Moments) = MOMENTS
 kind_of ss a (why.Known (reason.Read i j)) = READ
 kind_of ss a (why.Known (reason.Overwritten i j)) = MISSED
 kind_of ss a (why.Known (reason.Initial i j)) = MISSED
-kind_of ss a (why.Forced number o) = kind_by_order (external_read o.key ((log_of ss).ops a))
-kind_of ss a (why.Chosen o) = kind_by_order (external_read o.key ((log_of ss).ops a))
+kind_of ss a (why.Forced number o) = kind_by_order ss o.key a
+kind_of ss a (why.Chosen o) = kind_by_order ss o.key a
 
 -- with the edges that stand first among these
 abbrev pub shape_after : List ClientSession → Shape → List Item → Shape
@@ -51,8 +54,7 @@ milder c d = if nat_lt c.missed 2 && nat_lt c.missed d.missed then with_orders d
 -- step, with the edge by that order, which closes a circle
 abbrev pub milder_with : List ClientSession → Shape → Item → List Item → Shape
 milder_with ss c (Step n o u v) behind =
-    milder c (followed (shape_after ss NO_EDGES behind)
-    (kind_by_order (external_read o.key ((log_of ss).ops u))))
+    milder c (followed (shape_after ss NO_EDGES behind) (kind_by_order ss o.key u))
 milder_with ss c (Cycle start edges) behind = milder (shape_after ss NO_EDGES behind) c
 milder_with ss c _ behind = c
 

@@ -12,7 +12,7 @@ use Rattle.tell_reasons.specs.declared.why.Why.{Why}
 use Rattle.tell_reasons.specs.declared.why.Why.TheVariants as why
 use Rattle.tell_steps.specs.declared.item.Item.{Item}
 use Rattle.tell_steps.specs.declared.item.Item.TheVariants.{Edge}
-use Rattle.tell_decision.specs.Names.{kind_of}
+use Rattle.tell_decision.specs.Names.{kind_of, reads_first}
 use Rattle.tell_decision.specs.declared.short.TheConstants.{MOST_EDGES}
 use Rattle.log_lines.specs.declared.placed.PlacedHistory.{PlacedHistory}
 
@@ -41,8 +41,12 @@ known_text log a b (reason.Read written read) = codes " saw "
 known_text log a b (reason.Overwritten read overwrites) = unseen_text log b overwrites
 known_text log a b (reason.Initial read begins) = unseen_text log b begins
 
--- by an order of two versions of a key: from who wrote it, at this place, or from who reads it, to who
--- wrote it
+-- the last write of key number x in node v, where this reads nothing of it before
+abbrev pub written_unread : List ClientSession → ℕ → ℕ → Option ℕ
+written_unread ss x v = if reads_first ss x v then None else left_at ss x v
+
+-- by an order of two versions of a key: from who wrote it at this place without reading it, or from
+-- who reads it, to who wrote it
 abbrev pub ordered_at : PlacedHistory → ℕ → ℕ → Option ℕ → Option ℕ → List ℕ
 ordered_at log a b (Some i) j = codes " wrote "
     ++ (key_text (op_at log.history.now a i) ++ (codes " after " ++ named log a))
@@ -50,7 +54,8 @@ ordered_at log a b None (Some j) = unseen_text log b j
 ordered_at log a b None None = codes " did not see " ++ named log b
 
 abbrev pub ordered_text : PlacedHistory → ℕ → ℕ → ℕ → List ℕ
-ordered_text log x a b = ordered_at log a b (left_at log.history.now x a) (left_at log.history.now x b)
+ordered_text log x a b =
+    ordered_at log a b (written_unread log.history.now x a) (left_at log.history.now x b)
 
 -- what an edge says, and by which step, but for the transaction with which that begins
 abbrev pub said_text : PlacedHistory → ℕ → ℕ → Why → List ℕ

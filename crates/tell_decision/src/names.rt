@@ -1,6 +1,6 @@
 //! What the cycle of an explanation is called, by what its edges are.
 
-ghost use Rattle.std.specs.Prelude.{◌≡◌};
+ghost use Rattle.std.specs.Prelude.{◌≡◌, is_some};
 ghost use Rattle.serializability.specs.Reads.{external_read};
 ghost use Rattle.tell_decision.specs.Names as spec;
 
@@ -13,19 +13,36 @@ use tell_reasons::names::{
 use tell_reasons::{ChainOrder, Why};
 use tell_steps::Item;
 
-/// What an edge by an order of two versions of a key is, from a node with these operations: it
-/// misses the write, where it reads the key before it writes it.
-fn kind_by_order(events: &[Event], key: usize) -> Shape
-    ensures { result ≡ spec.kind_by_order (external_read key events.now) }
+/// Whether these operations of a node read the key before they write it.
+fn read_first(events: &[Event], key: usize) -> bool
+    ensures { result ≡ is_some (external_read key events.now) }
 {
     for i in 0..events.len() {
         match events[i] {
-            Event::Read { key: read, .. } if read == key => return MISSED,
-            Event::Write { key: written, .. } if written == key => return WRITTEN,
+            Event::Read { key: read, .. } if read == key => return true,
+            Event::Write { key: written, .. } if written == key => return false,
             _ => {}
         }
     }
-    WRITTEN
+    false
+}
+
+/// Whether a node reads the key before it writes it, if it does.
+pub fn reads_first(history: &History, key: usize, node: NodeIx) -> bool
+    ensures reads { result ≡ spec.reads_first history.now key node }
+{
+    read_first(history.events_of(node), key)
+}
+
+/// What an edge from this node by an order of two versions of a key is.
+fn kind_by_order(history: &History, key: usize, node: NodeIx) -> Shape
+    ensures { result ≡ spec.kind_by_order history.now key node }
+{
+    if reads_first(history, key, node) {
+        MISSED
+    } else {
+        WRITTEN
+    }
 }
 
 /// What an edge from this node is.
@@ -37,8 +54,8 @@ pub fn kind_of(history: &History, first: NodeIx, why: Why) -> Shape
         Why::Known(Reason::Moments) => MOMENTS,
         Why::Known(Reason::Read { .. }) => READ,
         Why::Known(Reason::Overwritten { .. } | Reason::Initial { .. }) => MISSED,
-        Why::Forced { order, .. } => kind_by_order(history.events_of(first), order.key),
-        Why::Chosen(order) => kind_by_order(history.events_of(first), order.key),
+        Why::Forced { order, .. } => kind_by_order(history, order.key, first),
+        Why::Chosen(order) => kind_by_order(history, order.key, first),
     }
 }
 
@@ -83,7 +100,7 @@ fn milder_with(history: &History, circle: Shape, item: Item, behind: &[Item]) ->
     let line = shape_of(history, behind);
     match item {
         Item::Step { order, source, .. } => {
-            let last = kind_by_order(history.events_of(source), order.key);
+            let last = kind_by_order(history, order.key, source);
             milder(circle, followed(line, last))
         }
         Item::Cycle { .. } => milder(line, circle),

@@ -3,7 +3,7 @@
 ghost use Rattle.std.specs.Prelude.{◌≡◌, ◌≤◌, ◌++◌, length, None, OnOk};
 ghost use Rattle.tell_decision.specs.Short as spec;
 
-use crate::names::kind_of;
+use crate::names::{kind_of, reads_first};
 use log_lines::PlacedHistory;
 use reasons::Reason;
 use serializability::NodeIx;
@@ -82,6 +82,17 @@ fn put_known(
     }
 }
 
+/// The last write of a key in a node, where this reads nothing of the key before it writes it.
+fn written_unread(history: &History, key: usize, node: NodeIx) -> Option<usize>
+    ensures place { result ≡ spec.written_unread history.now key node }
+{
+    if reads_first(history, key, node) {
+        None
+    } else {
+        left_at(history, key, node)
+    }
+}
+
 /// Appends what an edge by an order of two versions of a key says, but for the transaction with
 /// which that begins.
 fn put_ordered(
@@ -94,7 +105,7 @@ fn put_ordered(
     ensures text { OnOk result (out.new.items
         ≡ out.old.items ++ spec.ordered_text log.now key first second) }
 {
-    match left_at(log.history, key, first) {
+    match written_unread(log.history, key, first) {
         Some(op) => {
             say!(out, log; Text(b" wrote "), KeyOf(first, op), Text(b" after "), Node(first))
         }
