@@ -6,6 +6,8 @@ search of 10,000 keys begins, and 8 bits are the tag by which a key is compared 
 fed with all bytes at once: there a state that is written out again as the next 8 bytes makes the hash 0, whatever 8 bytes follow."""
 import itertools, os, sys
 
+if '--help' in sys.argv:
+    sys.exit(print(__doc__))
 folder = sys.argv[1]
 os.makedirs(folder, exist_ok=True)
 

@@ -2,6 +2,8 @@
 """make_logs.py FOLDER: logs at the limits, for the benchmark."""
 import os, sys
 
+if '--help' in sys.argv:
+    sys.exit(print(__doc__))
 folder = sys.argv[1]
 os.makedirs(folder, exist_ok=True)
 

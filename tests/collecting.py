@@ -110,6 +110,8 @@ def left_when_cut(checks, folder):
 
 
 def main():
+    if '--help' in sys.argv:
+        return print(__doc__)
     try:
         import sqlite3
     except ImportError:

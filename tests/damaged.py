@@ -361,6 +361,8 @@ def worked(job):
 
 
 def main():
+    if '--help' in sys.argv:
+        return print(__doc__)
     words = [word for word in sys.argv[1:] if not word.startswith('--')]
     program = os.path.abspath(words[0])
     seconds = float(words[1]) if len(words) > 1 else 60

@@ -1443,6 +1443,8 @@ def on_the_page():
 
 
 def main():
+    if '--help' in sys.argv:
+        return print(__doc__)
     program, seeds = os.path.abspath(sys.argv[1]), int(sys.argv[2]) if len(sys.argv) > 2 else 400
     jobs = [(wanted, 'made by hand', text, ['--format', 'text'], ['not serializable: ' + said[0], *said[1:]]) for text, said in BY_HAND]
     jobs += [(sought, LOOKS, True), (sought, LOOKS + 1, False)]

@@ -220,6 +220,8 @@ def long_calls(names):
 
 
 def main():
+    if '--help' in sys.argv:
+        return print(__doc__)
     program, names = os.path.abspath(sys.argv[1]), dict(generate.examples(generate.versions(sys.argv)))
     compiler = shutil.which('cc') or shutil.which('clang') or shutil.which('gcc')
     if not compiler:

@@ -816,6 +816,8 @@ class Checks:
 
 
 def main():
+    if '--help' in sys.argv:
+        return print(__doc__)
     with tempfile.TemporaryDirectory() as folder:
         checks = Checks(os.path.abspath(sys.argv[1]), folder)
         checks.run()

@@ -384,6 +384,8 @@ def large_log():
 
 
 def main():
+    if '--help' in sys.argv:
+        return print(__doc__)
     words = [word for word in sys.argv[1:] if not word.startswith('--')]
     plains = (True,) if '--plain' in sys.argv else (False, True)
     with tempfile.TemporaryDirectory() as folder:

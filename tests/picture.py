@@ -535,6 +535,8 @@ def logs_of_levels():
 
 
 def main():
+    if '--help' in sys.argv:
+        return print(__doc__)
     with tempfile.TemporaryDirectory() as folder:
         checks, command = Checks(os.path.abspath(sys.argv[1]), folder), browser()
         if not command:

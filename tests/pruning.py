@@ -48,6 +48,8 @@ def judged(program, folder, seed, version):
 
 
 def main():
+    if '--help' in sys.argv:
+        return print(__doc__)
     program = os.path.abspath(sys.argv[1])
     passed, failed, kept = 0, 0, 0
     logs = [(seed, version) for version in generate.versions(sys.argv) for seed in range(MADE[version])]

@@ -111,6 +111,8 @@ def without_toolchain(folder):
 
 
 def main():
+    if '--help' in sys.argv:
+        return print(__doc__)
     with tempfile.TemporaryDirectory() as folder, tempfile.TemporaryDirectory() as tools, tempfile.TemporaryDirectory() as bare:
         clone = os.path.abspath(sys.argv[1]) if sys.argv[1:] else os.path.join(folder, 'cobra_poly')
         if not sys.argv[1:]:

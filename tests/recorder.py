@@ -766,6 +766,8 @@ PARTS = (page, names, labels, misuse, kept, outcomes, stuck, memory, worth, proc
 
 
 def main():
+    if '--help' in sys.argv:
+        return print(__doc__)
     with tempfile.TemporaryDirectory() as folder:
         checks = Checks(os.path.abspath(sys.argv[1]), folder)
         for part in PARTS:

@@ -193,6 +193,8 @@ def built(kit, compiler, folder):
 
 
 def main():
+    if '--help' in sys.argv:
+        return print(__doc__)
     kit, compiler, began = sys.argv[1], c_compiler(), time.monotonic()
     if not compiler:
         print('refused in library: cannot be tried, there is no C compiler here')

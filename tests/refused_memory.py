@@ -91,6 +91,8 @@ def ends_without_memory(words, wanted, got):
 
 
 def main():
+    if '--help' in sys.argv:
+        return print(__doc__)
     program, graphs = map(os.path.abspath, [word for word in sys.argv[1:] if not word.startswith('--')][:2])
     compiler = c_compiler()
     if not compiler:

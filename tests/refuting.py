@@ -431,6 +431,8 @@ def runs_solver(path):
 
 
 def main():
+    if '--help' in sys.argv:
+        return print(__doc__)
     program = os.path.abspath(sys.argv[1])
     logs = list(generate.examples((1, 2, 3)))
     logs += [('made log %d, version %d' % (seed, version), generate.small_log(seed, version)) for version in (1, 2, 3) for seed in range(MADE)]

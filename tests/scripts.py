@@ -4,8 +4,9 @@
 In a copy of the repository PROGRAM stands as what was proved there. ./run, ./solve, ./prove, ./install, ./check and ./package are called from elsewhere,
 by a symbolic link to a link to them, and as single files; ./solve is ended by signals, while it reads, and while a solver runs that starts
 a process of its own; ./install is asked for what stands and for what does not; stamps are written, and refused; docs/cobra_poly.1 must be what
-tools/manual.py makes of `--help`; tools/proof_times.txt must have each crate that the program stands on. Last line: 'scripts: N passed, M failed'."""
-import os, re, shutil, signal, subprocess, sys, tarfile, tempfile, time
+tools/manual.py makes of `--help`; tools/proof_times.txt must have each crate that the program stands on; and each script in Python that is
+called by its name says by `--help` what it is for. Last line: 'scripts: N passed, M failed'."""
+import glob, os, re, shutil, signal, subprocess, sys, tarfile, tempfile, time
 
 HERE = os.path.dirname(os.path.abspath(__file__))
 TOP = os.path.dirname(HERE)
@@ -321,6 +322,17 @@ def proving(below, times, speed, processors=4):
     return said, now
 
 
+def helps(copy):
+    """What scripts in Python say by --help: a text with their name; one whose store's driver is not installed may say that."""
+    for path in sorted(glob.glob(os.path.join(TOP, '*', '*.py'))):
+        with open(path, 'rb') as file:
+            if file.read(2) != b'#!':
+                continue
+        ran = subprocess.run([sys.executable, path, '--help'], stdin=subprocess.DEVNULL, stdout=subprocess.PIPE, stderr=subprocess.STDOUT, timeout=LATE)
+        said = ran.stdout.decode()
+        copy.expect('%s --help' % path, (ran.returncode == 0 or ': this Python has n' in said) and os.path.basename(path) in said, said)
+
+
 def main():
     if len(sys.argv) != 2 or sys.argv[1].startswith('-'):
         print(__doc__)
@@ -336,6 +348,7 @@ def main():
         copy.stamps(program)
         manual_page(copy, copy.proved)
         estimates(copy)
+        helps(copy)
         copy.install()
     print('scripts: %d passed, %d failed' % (copy.passed, copy.failed))
     return 1 if copy.failed else 0

@@ -127,6 +127,8 @@ class Runs:
 
 
 def main():
+    if '--help' in sys.argv:
+        return print(__doc__)
     program, versions = os.path.abspath(sys.argv[1]), generate.versions(sys.argv)
     solvers = installed()
     with tempfile.TemporaryDirectory() as folder:

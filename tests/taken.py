@@ -82,6 +82,8 @@ def fault_in(log):
 
 
 def main():
+    if '--help' in sys.argv:
+        return print(__doc__)
     failed, kinds, logs = 0, {}, [(seed, version) for version in MADE for seed in range(MADE[version])]
     with concurrent.futures.ProcessPoolExecutor() as pool:
         for log, (fault, kind) in zip(logs, pool.map(fault_in, logs, chunksize=200)):

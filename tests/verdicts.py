@@ -125,6 +125,8 @@ def judged_blind(program, seed, version):
 
 
 def main():
+    if '--help' in sys.argv:
+        return print(__doc__)
     program, versions = os.path.abspath(sys.argv[1]), generate.versions(sys.argv)
     logs = [(name, text) for name, text in generate.examples(versions) if text.count(b'commit') <= 9]
     for version in versions:

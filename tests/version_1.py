@@ -139,6 +139,8 @@ def digests(program, group):
 
 
 def main():
+    if '--help' in sys.argv:
+        return print(__doc__)
     program, found = os.path.abspath(sys.argv[1]), {}
     with concurrent.futures.ThreadPoolExecutor() as pool:
         for some in pool.map(lambda group: digests(program, group), groups()):

@@ -190,6 +190,8 @@ def at_once(program, folder, compiler):
 
 
 def main():
+    if '--help' in sys.argv:
+        return print(__doc__)
     program, versions = os.path.abspath(sys.argv[1]), generate.versions(sys.argv)
     passed, failed = 0, 0
     compiler = c_compiler()

@@ -185,6 +185,8 @@ def prove_all(rt, crates, at_once):
 
 
 def main():
+    if '--help' in sys.argv:
+        return print(__doc__)
     kit, at_once = sys.argv[1], int(sys.argv[2])
     os.chdir(TOP)
     rt = load(kit)
