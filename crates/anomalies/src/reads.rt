@@ -1,6 +1,6 @@
 //! The first read of a history that is an anomaly, in log order.
 
-ghost use Rattle.std.specs.Prelude.{◌≡◌, ◌<◌, ◌≤◌, ◌+◌, ℕ, List, [], Some, IfOk, length, map};
+ghost use Rattle.std.specs.Prelude.{◌≡◌, ◌<◌, ◌≤◌, ◌+◌, List, [], Some, IfOk, length, map};
 ghost use Rattle.std.specs.Option.{option_or};
 ghost use Rattle.serializability.specs.declared.event.Event.{Event};
 ghost use Rattle.serializability.specs.declared.event.Event.TheVariants as event;

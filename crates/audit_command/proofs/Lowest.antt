@@ -1,5 +1,5 @@
 -- What holds of levels below snapshot isolation, from verdicts.
-use Rattle.std.proofs.Common.{◌≡◌, ℕ, List, Option, None, Some, refl, sym, ap, ◌∙◌, subst}
+use Rattle.std.proofs.Common.{◌≡◌, ℕ, List, Option, None, Some, refl, sym, subst}
 use Rattle.std.specs.Prelude.{IfSome}
 use Rattle.session_log.specs.Text.{ClientSession}
 use Rattle.log_definitions.specs.Unknown.{resolved}
@@ -13,7 +13,7 @@ use Rattle.judging.specs.declared.judged.Verdict.TheVariants as verdict
 use Rattle.audit_command.specs.Levels.{judged_of}
 use Rattle.audit_report.specs.Lower.{or_above}
 use Rattle.audit_command.specs.Resolved.{IsPartOf, IsPartOfVerdict}
-use Rattle.audit_command.specs.Audited.{IsPartTold, verdict_word, refuted_of, IsRefutedWhere, IsWeakest, asked_at, unless_shown, IsLowest, IsLowestAt}
+use Rattle.audit_command.specs.Audited.{IsPartTold, verdict_word, refuted_of, IsRefutedWhere, IsWeakest, asked_at, unless_shown, IsLowest}
 use Rattle.audit_report.specs.Objects.{parts_of}
 use Rattle.audit_command.specs.declared.options.AuditOptions.{AuditOptions}
 use Rattle.audit_report.specs.declared.told.Answer.{Answer}

@@ -1,8 +1,8 @@
 //! What is known of a judged log.
 
-ghost use Rattle.std.specs.Prelude.{◌≡◌, List, map, IfOk};
+ghost use Rattle.std.specs.Prelude.{map, IfOk};
 ghost use Rattle.std.specs.List.{AllByRecursion};
-ghost use Rattle.session_log.specs.Text.{ClientSession, IsLegal, view};
+ghost use Rattle.session_log.specs.Text.{IsLegal, view};
 ghost use Rattle.session_log.specs.Version.{first_line};
 ghost use Rattle.log_laws.specs.Logs.{IsSoundLog};
 ghost use Rattle.audit_command.specs.Audited.{first_part, part_asked, IsPartFile, IsKnown};

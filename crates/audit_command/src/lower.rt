@@ -1,6 +1,6 @@
 //! What holds of levels below snapshot isolation, where it was not kept.
 
-ghost use Rattle.std.specs.Prelude.{◌≡◌, ◌||◌, ◌&&◌, true, false, not, List, Option, map, IfOk, IfSome};
+ghost use Rattle.std.specs.Prelude.{◌≡◌, ◌||◌, ◌&&◌, true, false, List, Option, map, IfOk, IfSome};
 ghost use Rattle.std.specs.List.{AllByRecursion};
 ghost use Rattle.session_log.specs.Text.{ClientSession, IsLegal, view};
 ghost use Rattle.session_log.specs.Version.{first_line};
@@ -13,7 +13,7 @@ ghost use Rattle.audit_report.specs.Words.{is_kept};
 ghost use Rattle.audit_command.specs.Audited.{is_shown, unless_shown};
 ghost use Rattle.audit_report.specs.Lower.{or_above};
 ghost use Rattle.audit_command.specs.Audited.{IsRefutedWhere, IsWeakest, refuted_of, IsLowest, IsLower};
-ghost use Rattle.audit_command.specs.Resolved.{IsPartOf, IsPartOfVerdict};
+ghost use Rattle.audit_command.specs.Resolved.{IsPartOf};
 
 use crate::distinct::{adds_nothing, is_told_by};
 use crate::levels::{is_above, judged_of};

@@ -1,6 +1,6 @@
 //! What reports are put together from.
 
-ghost use Rattle.std.specs.Prelude.{◌≡◌, ◌++◌, ◌∷◌, [], OnOk, decimal};
+ghost use Rattle.std.specs.Prelude.{◌≡◌, ◌++◌, OnOk};
 ghost use Rattle.audit_report.specs.Report.{field, line_of, lines_of, count_line, name_of};
 
 use crate::told::ToldTxn;

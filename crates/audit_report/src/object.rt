@@ -4,7 +4,7 @@ ghost use Rattle.std.specs.Prelude.{◌≡◌, ◌++◌, ◌<◌, OnOk, IfOk};
 ghost use Rattle.std.specs.List.{flat_map};
 ghost use Rattle.audit_report.specs.Objects.{hex_digit, escaped_byte, escaped, quoted};
 ghost use Rattle.audit_report.specs.Objects.{quoted_or_null, word_or_null, code_value};
-ghost use Rattle.audit_report.specs.Objects.{behind_comma, joined, list_value, txn_object};
+ghost use Rattle.audit_report.specs.Objects.{behind_comma, joined, txn_object};
 ghost use Rattle.audit_report.specs.Objects.{line_byte, lines_value, part_values, why_values, part_object};
 ghost use Rattle.audit_report.specs.Objects.{first_values, reason_value, count_values};
 ghost use Rattle.audit_report.specs.Objects.{version_value, verdict_value, report_object};

@@ -1,6 +1,6 @@
 //! The report as text.
 
-ghost use Rattle.std.specs.Prelude.{◌≡◌, ◌++◌, ◌<◌, OnOk, IfOk, length};
+ghost use Rattle.std.specs.Prelude.{◌≡◌, ◌++◌, ◌<◌, OnOk, IfOk};
 ghost use Rattle.audit_report.specs.Report.{first_line, txn_text, txns_text, noun_of, part_text};
 ghost use Rattle.audit_report.specs.Report.{behind_comma, code_count, code_line, uncoded_line, codes_text};
 ghost use Rattle.audit_report.specs.Report.{middle_text, without_text, without_row, part_size, counts_text};

@@ -1,7 +1,7 @@
 //! The tree of a search, grown again by the steps of its history.
 
-ghost use Rattle.std.specs.Prelude.{◌≡◌, ℕ, ◌<◌, IfOk, List, length, slice_set, slice_index_or};
-ghost use Rattle.std.specs.Prelude.{None, Some, true, ◌∷◌, []};
+ghost use Rattle.std.specs.Prelude.{◌≡◌, ℕ, ◌<◌, IfOk, length, slice_set, slice_index_or};
+ghost use Rattle.std.specs.Prelude.{None, Some, true};
 ghost use Rattle.desk.specs.History.{IsLegal, replay};
 ghost use Rattle.serializability.specs.Polygraph.{Polygraph};
 ghost use Rattle.cube_laws.specs.State.{opening_state};

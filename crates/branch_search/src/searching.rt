@@ -1,6 +1,6 @@
 //! The search: a machine of cubes, workers at its desk, and what its last state says.
 
-ghost use Rattle.std.specs.Prelude.{◌≡◌, ◌↔◌, ℕ, ◌+◌, ◌-◌, ◌^◌, ◌≤◌, List, length, IfOk};
+ghost use Rattle.std.specs.Prelude.{◌↔◌, ℕ, ◌+◌, ◌-◌, ◌^◌, ◌≤◌, List, length, IfOk};
 ghost use Rattle.serializability.specs.Polygraph.{Fits};
 ghost use Rattle.log_definitions.specs.Serial.{IsSerialOrder};
 ghost use Rattle.branch_search.specs.Answers.{SaysYes, SaysNo, ShowsNo, SaysUnknown, IsSettled};

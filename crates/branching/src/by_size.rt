@@ -1,6 +1,5 @@
 //! The open choice with the most or the fewest edges.
 
-ghost use Rattle.std.specs.Prelude.{◌≡◌};
 ghost use Rattle.branching.specs.Picks.{most_edges, least_edges};
 
 use crate::strategy::Strategy;

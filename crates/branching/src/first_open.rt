@@ -1,6 +1,5 @@
 //! The open choice of least number.
 
-ghost use Rattle.std.specs.Prelude.{◌≡◌};
 ghost use Rattle.branching.specs.Picks.{first_open};
 
 use crate::strategy::Strategy;

@@ -1,6 +1,5 @@
 //! A choice that the edges decide, before any other.
 
-ghost use Rattle.std.specs.Prelude.{◌≡◌};
 ghost use Rattle.branching.specs.Refuted.{forced_or_most, side_left};
 
 use crate::by_size::MostEdges;

@@ -1,6 +1,6 @@
 //! The order of a cube's nodes.
 
-ghost use Rattle.std.specs.Prelude.{◌≡◌, ◌+◌, ◌≤◌, IfOk, map};
+ghost use Rattle.std.specs.Prelude.{◌≡◌, ◌+◌, IfOk, map};
 ghost use Rattle.std.specs.List.{All, range_with_len};
 ghost use Rattle.branching.specs.Orders.{unreached, IsOrderByReach};
 

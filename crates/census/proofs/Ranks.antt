@@ -182,9 +182,6 @@ pub record AreTop (seen lines : Lines) : Type 0 where
   pub few : length lines ≤ 10
   pub rest : (x : KeyFaults) → Among x seen → Among x lines ⊎ ((length lines ≡ 10) × AllByRecursion (λ l. IsWorse l x) lines)
 
-pub top_none : AreTop [] []
-top_none = record { known = tt; ranked = tt; few = omega arith; rest = λ x at. absurd at }
-
 length_front : {X : Type 0} (n : ℕ) (xs : List X) → length (take n xs) ≤ n
 length_front zero xs = omega arith
 length_front (suc n) [] = omega arith
@@ -271,8 +268,3 @@ pub left_out : (e : KeyFaults) (ls : Lines) → 10 ≤ place_in e.faults ls → 
 left_out e ls le =
     let high : place_in e.faults ls ≤ length ls = subst (λ n. n ≤ length ls) (sym (place_is e ls)) (place_within e ls) in
     sym (cut_before 10 (place_in e.faults ls) ls (e ∷ drop (place_in e.faults ls) ls) le high)
-
-pub place_fits : (faults : ℕ) (key : List ℕ) (ls : Lines) → place_in faults ls ≤ length ls
-place_fits faults key ls =
-    let e : KeyFaults = record { key = key; faults = faults } in
-    subst (λ n. n ≤ length ls) (sym (place_is e ls)) (place_within e ls)

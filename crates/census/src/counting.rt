@@ -1,6 +1,6 @@
 //! The census of a log.
 
-ghost use Rattle.std.specs.Prelude.{◌≡◌, ◌++◌, ◌==◌, List, map, count_by, IfOk, OnOk};
+ghost use Rattle.std.specs.Prelude.{◌≡◌, ◌++◌, ◌==◌, map, count_by, IfOk, OnOk};
 ghost use Rattle.session_log.specs.Text.{view, view_txn};
 ghost use Rattle.serializability.specs.Anomalies.{read_number};
 ghost use Rattle.log_definitions.specs.Unknown.{txns_in};

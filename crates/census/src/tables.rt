@@ -1,6 +1,6 @@
 //! What is known of the versions of a log.
 
-ghost use Rattle.std.specs.Prelude.{◌≡◌, ◌++◌, ◌∷◌, [], List, map, IfOk, OnOk};
+ghost use Rattle.std.specs.Prelude.{◌++◌, ◌∷◌, [], List, map, IfOk, OnOk};
 ghost use Rattle.session_log.specs.Text.{Transaction, view_txn};
 ghost use Rattle.census.specs.Tables.{view_ref, KnowsLog};
 

@@ -1,6 +1,6 @@
 //! The law of a census, the contract of a function that does nothing.
 
-ghost use Rattle.std.specs.Prelude.{ℕ, ◌<◌, List};
+ghost use Rattle.std.specs.Prelude.{◌<◌, List};
 ghost use Rattle.session_log.specs.Text.{ClientSession};
 ghost use Rattle.log_definitions.specs.Unknown.{resolved};
 ghost use Rattle.log_laws.specs.Logs.{HasOrder, IsSoundLog};

@@ -1,5 +1,5 @@
 -- Names of files that are the same, and that are not.
-use Rattle.std.proofs.Common.{◌≡◌, ◌≢◌, ℕ, ◌+◌, List, [], ◌∷◌, ◌++◌, Option, None, Some, length, refl, sym, ap, subst, ◌∙◌, arith, length-append, append_assoc, append-nil}
+use Rattle.std.proofs.Common.{◌≡◌, ◌≢◌, ℕ, ◌+◌, List, [], ◌∷◌, ◌++◌, Option, None, Some, length, refl, sym, ap, ◌∙◌, arith, length-append, append_assoc}
 use Rattle.std.specs.Prelude.{codes}
 use Rattle.std.specs.Borrow.{Bor}
 use Rattle.std.specs.List.{AllByRecursion}
@@ -52,9 +52,6 @@ none_last n m (x ∷ ns) h e = (h.0, none_last n m ns h.1 e)
 apart_last : (m : Name) (ns : List Name) → AreApart ns → IsNone m ns → AreApart (ns ++ m ∷ [])
 apart_last m [] h e = (tt, tt)
 apart_last m (x ∷ ns) h e = (none_last x m ns h.0 (λ s. e.0 (sym s)), apart_last m ns h.1 e.1)
-
-pub apart_log : (log : Name) (part : Option (Bor Name)) → IsNone log (part_names part) → AreApart (log ∷ part_names part ++ [])
-apart_log log part h = subst AreApart (sym (append-nil (log ∷ part_names part))) (h, parts_apart part)
 
 pub apart_order : (log order : Name) (part : Option (Bor Name)) → IsNone log (part_names part) → order ≢ log → IsNone order (part_names part) → AreApart (log ∷ part_names part ++ order ∷ [])
 apart_order log order part h n k = apart_last order (log ∷ part_names part) (h, parts_apart part) (n, k)

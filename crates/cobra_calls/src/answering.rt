@@ -2,8 +2,8 @@
 
 ghost use Rattle.std.specs.Prelude.{◌≡◌, true, IfOk, IfErr, OnOk};
 ghost use Rattle.cobra_calls.specs.Calls.{is_plain};
-ghost use Rattle.cobra_calls.specs.Endings.{line_of, status_of, output_failures};
-ghost use Rattle.cobra_calls.specs.Worlds.{Seen, IsAnswer, IsEnding, IsLineTold, IsAnswered, AreReads};
+ghost use Rattle.cobra_calls.specs.Endings.{status_of, output_failures};
+ghost use Rattle.cobra_calls.specs.Worlds.{IsAnswer, IsEnding, IsLineTold, IsAnswered, AreReads};
 
 use crate::calls::run_on;
 use crate::ending::Ending;

@@ -1,7 +1,7 @@
 //! What the command of a request does with a log.
 
 ghost use Rattle.std.specs.Prelude.{◌≡◌, true, IfOk, IfErr};
-ghost use Rattle.cobra_calls.specs.Calls.{Reads, is_plain, IsDone, IsEnded};
+ghost use Rattle.cobra_calls.specs.Calls.{is_plain, IsDone, IsEnded};
 ghost use Rattle.cobra_calls.specs.Endings.{output_failures};
 
 use crate::censuses::census_log;

@@ -3,7 +3,7 @@
 ghost use Rattle.std.specs.Prelude.{◌≡◌, true, OnErr, ℕ, IfOk, IfErr, OnOk};
 ghost use Rattle.output.specs.Sinks.{one_more};
 ghost use Rattle.cobra_calls.specs.Calls.{log_name};
-ghost use Rattle.cobra_calls.specs.Endings.{IsUnusable, IsUnread};
+ghost use Rattle.cobra_calls.specs.Endings.{IsUnread};
 ghost use Rattle.cobra_calls.specs.Worlds.{is_long, limit_of, IsLogRead, IsNamedRead, IsLogUnread};
 ghost use Rattle.cobra_calls.specs.Worlds.{failures_with, names_file, read_failures, with_named};
 

@@ -1,6 +1,6 @@
 //! A reader, read to its end or to a limit.
 
-ghost use Rattle.std.specs.Prelude.{◌≡◌, ◌^◌, ◌<◌, IfOk};
+ghost use Rattle.std.specs.Prelude.{◌^◌, ◌<◌, IfOk};
 ghost use Rattle.cobra_calls.specs.Worlds.{IsReadUpTo};
 
 use crate::world::Unread;

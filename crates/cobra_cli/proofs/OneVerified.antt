@@ -1,11 +1,10 @@
 -- An order file has one answer.
-use Rattle.std.proofs.Common.{◌≡◌, ◌⊎◌, ℕ, Bool, true, false, List, length, Option, None, Some, refl, sym, ap, ◌∙◌, subst, inl, inr}
+use Rattle.std.proofs.Common.{◌≡◌, ◌⊎◌, ℕ, true, false, List, Option, None, Some, refl, sym, ap, ◌∙◌, inl, inr}
 use Rattle.std.proofs.lemmas.Bool.{cases_Bool, false≢true}
 use Rattle.session_log.specs.Text.{ClientSession}
 use Rattle.session_log.specs.Version.{version_of, first_line}
 use Rattle.log_definitions.specs.WellFormed.{IsWellFormed}
 use Rattle.log_definitions.specs.Numbers.{log_of, IsWellFormedList}
-use Rattle.log_definitions.specs.Serial.{IsSerialOrder}
 use Rattle.log_definitions.proofs.Room.{room}
 use Rattle.log_definitions.proofs.Scanning.{rules_where_no_fault, no_fault_where_rules}
 use Rattle.log_definitions.proofs.Renaming.{serial_numbered}
@@ -13,7 +12,7 @@ use Rattle.session_history.specs.Tables.{name_in}
 use Rattle.order_text.specs.Faults as listing
 use Rattle.order_text.specs.declared.fault.OrderFault.{OrderFault}
 use Rattle.order_text.specs.declared.fault.OrderFault.TheVariants as listing_fault
-use Rattle.order_text.proofs.Printing.{IsLog, order_text-injective}
+use Rattle.order_text.proofs.Printing.{order_text-injective}
 use Rattle.decode_order.specs.Replaying.{replay_fault}
 use Rattle.decode_order.specs.declared.fault.ReplayFault.{ReplayFault}
 use Rattle.decode_order.specs.declared.fault.ReplayFault.TheVariants as replay

@@ -8,7 +8,7 @@ ghost use Rattle.order_cnf.specs.Data.{cnf_of};
 ghost use Rattle.cobra_answers.specs.Answers.{IsTold, IsRefused};
 ghost use Rattle.cobra_formulas.specs.Formulas.{IsFaithful};
 ghost use Rattle.cobra_cli.specs.Commands.{named_by, IsAnswerTo, IsAssignmentRefused, IsDecoding};
-ghost use Rattle.cobra_cli.specs.Commands.{IsNotDecoded, IsOrderText};
+ghost use Rattle.cobra_cli.specs.Commands.{IsNotDecoded};
 ghost use Rattle.cobra_answers.specs.Failures.{failures_after};
 
 use crate::options::Options;

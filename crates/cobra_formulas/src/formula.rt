@@ -1,10 +1,8 @@
 //! The plain formula of a history, and the reduced one.
 
-ghost use Rattle.std.specs.Prelude.{◌≡◌, ◌≤◌, length, Some, IfOk, IfErr, OnOk};
+ghost use Rattle.std.specs.Prelude.{◌≡◌, ◌≤◌, Some, IfOk, IfErr, OnOk};
 ghost use Rattle.serializability.specs.Plain as plain;
-ghost use Rattle.serializability.specs.Anomalies.{anomaly_of};
 ghost use Rattle.log_definitions.specs.Numbers.{log_of, IsWellFormedList};
-ghost use Rattle.reduction.specs.Chained.{HasNoSerialOrder};
 ghost use Rattle.reduction.specs.Outcome.{IsCountedHistory};
 ghost use Rattle.order_cnf.specs.Data.{cnf_of};
 ghost use Rattle.order_cnf.specs.Limits.{IsFault};

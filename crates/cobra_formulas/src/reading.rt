@@ -1,6 +1,6 @@
 //! From the bytes of a log to its history.
 
-ghost use Rattle.std.specs.Prelude.{◌≡◌, IfOk, IfErr};
+ghost use Rattle.std.specs.Prelude.{IfOk, IfErr};
 ghost use Rattle.log_definitions.specs.WellFormed.{IsWellFormed, IsLogFault};
 
 use desk::gate::Gate;

@@ -1,5 +1,5 @@
 -- What a call of the program leaves in the world.
-use Rattle.std.specs.Prelude.{◌≡◌, ℕ, List, Option}
+use Rattle.std.specs.Prelude.{◌≡◌, ℕ}
 use Rattle.cobra_calls.specs.declared.ending.Ending.{Ending}
 use Rattle.cobra_calls.specs.Endings.{status_of}
 use Rattle.cobra_calls.specs.Files.{Disk}

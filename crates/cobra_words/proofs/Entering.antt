@@ -1,6 +1,6 @@
 -- The command that a parse entered, by its name and by its matches.
-use Rattle.std.proofs.Common.{◌≡◌, Bool, List, [], Option, None, Some, ap, sym, subst, ◌∙◌, refl, inl, inr}
-use Rattle.std.specs.Prelude.{option_map, true, false, IfSome}
+use Rattle.std.proofs.Common.{◌≡◌, List, [], Option, None, Some, ap, sym, subst, ◌∙◌, refl, inl, inr}
+use Rattle.std.specs.Prelude.{option_map, true}
 use Rattle.clap.specs.Walk.{Row, Text}
 use Rattle.clap.specs.Faults.{fault_of, is_simple_and_free}
 use Rattle.clap.specs.Kinds.{Kinds, HasKind, IsAmong}
@@ -12,7 +12,7 @@ use Rattle.clap.specs.declared.error.kind.ErrorKind.TheVariants.{OutOfMemory}
 use Rattle.clap.specs.declared.parser.matches.ArgMatches.{ArgMatches}
 use Rattle.cobra_words.specs.declared.request.Request.{Request}
 use Rattle.cobra_words.specs.Commands.{Lists, program_app}
-use Rattle.cobra_words.specs.Asked.{IsAskedBy, IsInRange, AreWordsOf, IsAskedFor, IsAskedForNone, IsShownFor}
+use Rattle.cobra_words.specs.Asked.{IsAskedBy, IsInRange, IsAskedFor, IsAskedForNone, IsShownFor}
 
 pub none_entered : {B C : Type 0} (s : Option B) (f : B → Text) (g : B → C) (x : C) → (let o : Option Text = None in o) ≡ option_map f s → option_map g s ≡ Some x → ⊥
 none_entered None f g x e h = cc

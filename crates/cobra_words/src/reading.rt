@@ -1,6 +1,6 @@
 //! From words to what they ask for.
 
-ghost use Rattle.std.specs.Prelude.{◌≡◌, codes, map, string_bytes, IfOk, IfSome, IfNone, IsSome};
+ghost use Rattle.std.specs.Prelude.{codes, map, string_bytes, IfOk, IfSome, IfNone, IsSome};
 ghost use Rattle.clap.specs.Matches.{found_of};
 ghost use Rattle.clap.specs.Walk.{rows_of};
 ghost use Rattle.cobra_words.specs.declared.request.Command.{Command};

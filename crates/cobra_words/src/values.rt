@@ -1,9 +1,9 @@
 //! One value of the matches.
 
-ghost use Rattle.std.specs.Prelude.{◌≡◌, codes, option_map};
+ghost use Rattle.std.specs.Prelude.{◌≡◌, option_map};
 ghost use Rattle.clap.specs.Matches.{found_of};
 ghost use Rattle.clap.specs.Walk.{rows_of, first_of, one_of};
-ghost use Rattle.cobra_words.specs.Asked.{IsFlag, IsNumber, IsNumberOr, but_standard_input};
+ghost use Rattle.cobra_words.specs.Asked.{IsFlag, IsNumber, but_standard_input};
 ghost use Rattle.cobra_words.specs.Asked.{strategy_of, format_of, report_of, level_of};
 
 use call_options::{Format, ReportForm};

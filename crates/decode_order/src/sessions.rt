@@ -1,6 +1,6 @@
 //! Orders that are to keep the order of each session.
 
-ghost use Rattle.std.specs.Prelude.{◌≡◌, ◌↔◌, ◌-◌, ◌<◌, ◌≤◌, false, IsTrue, IfOk, length};
+ghost use Rattle.std.specs.Prelude.{◌≡◌, ◌↔◌, ◌-◌, ◌<◌, false, IsTrue, IfOk, length};
 ghost use Rattle.std.specs.Prelude.{slice_index_or};
 ghost use Rattle.serializability.specs.Replay.{ListsOnce};
 ghost use Rattle.log_definitions.specs.Numbers.{log_of};

@@ -1,6 +1,6 @@
 //! The sessions of a log, put together from what workers read.
 
-ghost use Rattle.std.specs.Prelude.{◌≡◌, ℕ, None, Some, IfOk, IfErr, IfSome, OnSome, map, length};
+ghost use Rattle.std.specs.Prelude.{◌≡◌, ℕ, None, Some, IfOk, IfErr, IfSome, map, length};
 ghost use Rattle.std.specs.Prelude.{slice_set, slice_index_or, ◌<◌};
 ghost use Rattle.std.specs.List.{AllByRecursion};
 ghost use Rattle.session_log.specs.Text.{view, IsLegal, IsHeldBy, log_text};

@@ -2,8 +2,8 @@
 
 ghost use Rattle.std.specs.Prelude.{◌≡◌, IfOk, IfErr, Ok, Err, Contains};
 ghost use Rattle.session_log.specs.Text.{view};
-ghost use Rattle.session_log.specs.Blocks.{blocks_of, block_text};
-ghost use Rattle.gather.specs.Pieces.{IsRead, IsPieceOf, is_piece};
+ghost use Rattle.session_log.specs.Blocks.{blocks_of};
+ghost use Rattle.gather.specs.Pieces.{IsRead, IsPieceOf};
 
 use session_log::{Block, LogFault, Session, Version, parse_block};
 use std::alloc::{AllocError, Global};

@@ -20,7 +20,7 @@ use Rattle.level_laws.proofs.Some.{snapshot_of_taken, prefix_of_taken}
 use Rattle.level_laws.proofs.OfPart.{some_snapshot_of_part, some_prefix_of_part}
 use Rattle.level_laws.specs.Prefix.{no_locks}
 use Rattle.seen_laws.specs.declared.level.Level.{Level as BelowLevel}
-use Rattle.seen_laws.specs.Seen.{IsLevelOrder, HasLevelOrder}
+use Rattle.seen_laws.specs.Seen.{HasLevelOrder}
 use Rattle.seen_laws.proofs.Same.{same_nodes, same_order, same_level}
 use Rattle.seen_laws.proofs.OfPart.{level_of_taken, some_level_of_part}
 use Rattle.level_refutations.specs.declared.evidence.Evidence.{Evidence}
@@ -181,9 +181,6 @@ own_at Prefix ss a b at e h = own_in (judged_at Prefix ss) ss a b e h
 own_at Serializable ss a b at e h = cc
 own_at (Below below) ss a b at e h = cc
 
-pub own_found : (m : JudgeMeans) (ss : List ClientSession) (a b : Reported) → is_split m.level ≡ true → anomaly_of (log_of ss) ≡ Some b → IsFound m ss (found.Refuted (Anomaly a)) → IsFound m ss (found.Refuted (Anomaly b))
-own_found m ss a b at e is = record { none = is.none; room = is.room; found = own_at m.level ss a b at e is.found }
-
 pub not_snapshot : Serializable ≡ Snapshot → ⊥
 not_snapshot e = cc
 
@@ -219,9 +216,6 @@ refuted_below below ss evidence log is none = record {
   room = tt;
   found = (evidence, is);
 }
-
-pub order_below : (below : BelowLevel) (ss : List ClientSession) (order : List ℕ) → IsLevelOrder below ss order → IsOrderAt (Below below) ss order
-order_below below ss order h = record { has = (order, h); room = tt; judged = h }
 
 -- ---- keys
 pub keys_resolved : (ss : List ClientSession) → keys_in (resolved ss) ≡ keys_in ss

@@ -1,6 +1,6 @@
 //! A log of any length, judged by what is proposed of it.
 
-ghost use Rattle.std.specs.Prelude.{◌≡◌, List, length, map, IfOk, IfSome};
+ghost use Rattle.std.specs.Prelude.{◌≡◌, List, length, map, IfOk};
 ghost use Rattle.std.specs.List.{AllByRecursion};
 ghost use Rattle.session_log.specs.Text.{ClientSession, IsLegal, view};
 ghost use Rattle.log_definitions.specs.Unknown.{resolved};
@@ -9,7 +9,7 @@ ghost use Rattle.log_laws.specs.Logs.{IsSoundLog, IsLog};
 ghost use Rattle.judging.specs.Levels.{IsLogAt, IsNumbered, judged_in};
 ghost use Rattle.judging.specs.Judges.{IsVerdict};
 ghost use Rattle.judging.specs.Finds.{IsSaid};
-ghost use Rattle.judging.specs.Made.{IsMade, IsToldPart};
+ghost use Rattle.judging.specs.Made.{IsMade};
 
 use crate::judged::{Tried, Verdict, Why};
 use crate::judging::{judge, judge_known, shown_by, tell_search};

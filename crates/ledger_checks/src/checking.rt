@@ -1,6 +1,6 @@
 //! Checks of ledgers.
 
-ghost use Rattle.std.specs.Prelude.{◌≡◌, ◌↔◌, ◌<◌, ◌&&◌, ◌++◌, [], List, IsTrue, length};
+ghost use Rattle.std.specs.Prelude.{◌≡◌, ◌↔◌, ◌<◌, ◌&&◌, ◌++◌, [], List, IsTrue};
 ghost use Rattle.serializability.specs.Polygraph.{Edge};
 ghost use Rattle.pruning_laws.specs.Forced.{other};
 ghost use Rattle.known_graph.specs.Tests.{has_edge};

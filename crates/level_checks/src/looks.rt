@@ -1,12 +1,12 @@
 //! Whether a look back passes a write that is seen: by a walk over the writes, or, where there are
 //! many, by what is noted of each session and by what is read from.
 
-ghost use Rattle.std.specs.Prelude.{◌≡◌, ◌≢◌, ◌≤◌, ◌<◌, ◌-◌, ℕ, List, Some, false, slice_get, slice_index, IsTrue};
+ghost use Rattle.std.specs.Prelude.{◌≡◌, ◌≢◌, ◌≤◌, ◌<◌, ◌-◌, ℕ, List, Some, false, slice_index, IsTrue};
 ghost use Rattle.std.specs.List.{AllByRecursion};
 ghost use Rattle.std.specs.BTreeSet.{contains};
 ghost use Rattle.level_checks.specs.Chains.{IsChain};
 ghost use Rattle.level_checks.specs.Spots.{spot_cmp, AreNoted, AreKept};
-ghost use Rattle.level_checks.specs.Seen.{NoneSeen, SeenIn, AreMarked, IsClearLook};
+ghost use Rattle.level_checks.specs.Seen.{AreMarked, IsClearLook};
 
 use crate::noted::Noted;
 use crate::trace::Look;

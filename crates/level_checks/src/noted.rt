@@ -1,6 +1,6 @@
 //! What is noted of the writes of keys, for the look backs that are long.
 
-ghost use Rattle.std.specs.Prelude.{◌≡◌, ◌∷◌, ◌++◌, [], List, OnOk};
+ghost use Rattle.std.specs.Prelude.{◌∷◌, ◌++◌, [], List, OnOk};
 ghost use Rattle.level_checks.specs.Spots.{AreKept};
 
 use crate::trail::Passed;

@@ -14,7 +14,6 @@ use Rattle.session_log.specs.Blocks.{block_text, block_fault, first_of}
 use Rattle.session_log.specs.declared.block.Block.{Block}
 use Rattle.session_log.specs.declared.session.Session.{Session}
 use Rattle.session_log.specs.declared.fault.LogFault.{LogFault}
-use Rattle.session_log.specs.declared.fault.LogFault.TheVariants as faults
 use Rattle.session_log.proofs.Steps.{same_fault}
 use Rattle.session_log.proofs.FaultsOf.{fault_as}
 use Rattle.log_definitions.proofs.Members.{themselves}

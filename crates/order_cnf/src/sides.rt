@@ -1,7 +1,7 @@
 //! The clauses of open choices.
 
 ghost use Rattle.std.specs.Prelude.{◌≡◌, ◌↔◌, ◌+◌, IsSome, IfSome, false, ◌<◌, ◌≤◌, [], ◌∷◌};
-ghost use Rattle.std.specs.Prelude.{length, if◌then◌else◌};
+ghost use Rattle.std.specs.Prelude.{length};
 ghost use Rattle.std.specs.List.{AllByRecursion};
 ghost use Rattle.order_laws.specs.Reduced.{side_clauses};
 ghost use Rattle.order_cnf.specs.Tables.{known_in, pairs_in, given};

@@ -2,7 +2,7 @@
 
 ghost use Rattle.std.specs.Prelude.{◌≡◌, ◌≤◌, ℕ, List, Bool, length};
 ghost use Rattle.serializability.specs.Polygraph.{Polygraph, Fits};
-ghost use Rattle.serializability.specs.Formula.{Satisfies, IsInRange, HasShortClauses};
+ghost use Rattle.serializability.specs.Formula.{Satisfies};
 ghost use Rattle.serializability.specs.Pairs.{Known};
 ghost use Rattle.serializability.specs.Decoded.{before, IsDecoded, IsFormula};
 ghost use Rattle.pruning_laws.specs.Forced.{Sides, IsForced, EachNumbered, edges_with, pruned};

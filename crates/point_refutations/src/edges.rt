@@ -1,9 +1,8 @@
 //! Edges between points, and ways along them.
 
-ghost use Rattle.std.specs.Prelude.{◌≡◌, map, slice_get, Option, ℕ, option_and_then};
+ghost use Rattle.std.specs.Prelude.{◌≡◌, map, Option};
 ghost use Rattle.session_log.specs.Text.{view};
 ghost use Rattle.level_refutations.specs.Edges.{is_session_step};
-ghost use Rattle.level_refutations.specs.Places.{txn_at as spec_txn_at};
 ghost use Rattle.point_refutations.specs.Edges as spec;
 
 use crate::refutation::{Edge, Missed, PointAt, Since, Step, Why};

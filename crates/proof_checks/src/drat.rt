@@ -1,6 +1,6 @@
 //! DRAT: each step is found to follow by unit propagation.
 
-ghost use Rattle.std.specs.Prelude.{◌≡◌, List, Option, IfOk, IfErr, OnOk};
+ghost use Rattle.std.specs.Prelude.{List, Option, IfOk, IfErr, OnOk};
 ghost use Rattle.serializability.specs.declared.literal.Literal.{Literal};
 ghost use Rattle.refutation.specs.Follows.{Entails};
 ghost use Rattle.proof_text.specs.Binary.{drat_steps_in};

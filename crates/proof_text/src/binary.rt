@@ -4,7 +4,6 @@ ghost use Rattle.std.specs.Prelude.{◌≡◌, ◌≤◌, [], ◌∷◌, length,
 ghost use Rattle.std.specs.Prelude.{MatchOption, IfOk, OnSome};
 ghost use Rattle.std.specs.Bool.{OnTrue, then_some};
 ghost use Rattle.std.specs.List.{list_any};
-ghost use Rattle.std.specs.Str.{bytes_eq};
 ghost use Rattle.proof_text.specs.Binary.{binary_words, is_binary, sevens, signed, binary_number};
 ghost use Rattle.proof_text.specs.Binary.{binary_numbers, up_to_zero, behind_line};
 ghost use Rattle.proof_text.specs.Binary.{action_of_word, binary_action, binary_step};

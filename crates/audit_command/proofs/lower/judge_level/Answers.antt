@@ -3,7 +3,6 @@ use Rattle.std.specs.Prelude.{IfSome}
 use Rattle.session_log.specs.Text.{view}
 use Rattle.judging.specs.Judges.{IsVerdict}
 use Rattle.judging.specs.Made.{IsMade}
-use Rattle.judging.specs.declared.means.JudgeMeans.{JudgeMeans}
 use Rattle.judging.proofs.Resolved.{known}
 use Rattle.audit_command.specs.Audited.{at_level, refuted_of, IsRefutedWhere}
 use Rattle.audit_command.specs.Resolved.{IsResolved, IsPartOf}

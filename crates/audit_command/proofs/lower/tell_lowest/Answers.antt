@@ -1,5 +1,4 @@
-use Rattle.std.proofs.Common.{map, Some, sym, ap, ◌∙◌, subst}
-use Rattle.session_log.specs.Text.{view}
+use Rattle.std.proofs.Common.{ap, ◌∙◌, subst}
 use Rattle.session_log.specs.Version.{first_line}
 use Rattle.judging.specs.Made.{IsToldPart}
 use Rattle.audit_command.specs.Audited.{IsPartTold, IsWeakest, asked_at, unless_shown}

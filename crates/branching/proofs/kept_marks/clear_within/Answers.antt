@@ -1,4 +1,4 @@
-use Rattle.std.proofs.Common.{◌≡◌, ◌<◌, ◌≤◌, ◌/◌, ℕ, length, false, not, eqb, ◌&&◌, sym, ap, ◌∙◌, arith, subst, inl, inr}
+use Rattle.std.proofs.Common.{◌≤◌, ◌/◌, length, false, not, ◌&&◌, sym, ap, ◌∙◌, arith, subst, inl, inr}
 use Rattle.std.proofs.lemmas.Bool.{cases_eq, ne_eqb, eq-eqb}
 use Rattle.known_graph.specs.Bits.{bit_of}
 use Rattle.known_graph.proofs.Words.{bit_of-past}

@@ -1,4 +1,4 @@
-use Rattle.std.proofs.Common.{◌≡◌, refl, subst, sym}
+use Rattle.std.proofs.Common.{refl, subst, sym}
 use Rattle.cobra_calls.specs.Endings.{IsRefusedBy}
 use Rattle.census_command.specs.Told.{IsUntold}
 use Rattle.cobra_calls.specs.Censuses.{by_log, by_device}

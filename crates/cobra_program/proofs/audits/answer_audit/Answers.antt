@@ -1,5 +1,4 @@
-use Rattle.std.proofs.Common.{refl, subst}
-use Rattle.cobra_calls.specs.Audits.{IsAuditDone, IsAuditEnding}
+use Rattle.std.proofs.Common.{refl}
 use Rattle.cobra_program.specs.Audits.{by_answer, by_ending, unread}
 use Rattle.cobra_program.proofs.audits.answer_audit.Goals as goal
 

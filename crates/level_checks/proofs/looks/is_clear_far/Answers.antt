@@ -1,7 +1,6 @@
-use Rattle.std.proofs.Common.{◌≡◌, ◌-◌, ◌<◌, Some, arith}
+use Rattle.std.proofs.Common.{◌≡◌, ◌-◌, Some}
 use Rattle.std.specs.Prelude.{slice_get}
 use Rattle.list_lemmas.proofs.Elements.{looked_up}
-use Rattle.level_checks.specs.Chains.{RootAt}
 use Rattle.level_checks.proofs.Rows.{none_far, none_of_none}
 use Rattle.level_checks.proofs.looks.is_clear_far.Goals as goal
 use Rattle.std.proofs.Common.{refl}

@@ -1,4 +1,4 @@
-use Rattle.std.proofs.Common.{◌≡◌, ◌+◌, ◌∷◌, [], Some, get_or, sym, subst}
+use Rattle.std.proofs.Common.{◌≡◌, ◌∷◌, [], Some, get_or, sym, subst}
 use Rattle.std.specs.Prelude.{take, slice_get}
 use Rattle.std.specs.List.{AllByRecursion}
 use Rattle.std.proofs.lemmas.Option.{slice_get-get_or, get_or_from_slice_get}

@@ -1,4 +1,3 @@
-use Rattle.std.proofs.Common.{arith}
 use Rattle.level_checks.proofs.Chains.{none_left_at, none_at}
 use Rattle.level_checks.proofs.trail.writes_at.Goals as goal
 

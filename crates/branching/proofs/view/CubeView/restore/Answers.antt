@@ -1,4 +1,4 @@
-use Rattle.std.proofs.Common.{◌≡◌, length, sym, ap, ◌∙◌, subst, arith}
+use Rattle.std.proofs.Common.{◌≡◌, sym, ap, ◌∙◌, subst, arith}
 use Rattle.serializability.specs.Polygraph.{Polygraph}
 use Rattle.branching.specs.View.{View}
 use Rattle.branching.specs.Markings.{AreSaved}

@@ -1,4 +1,4 @@
-use Rattle.std.proofs.Common.{◌≡◌, ◌+◌, ◌∷◌, [], map, take, sym, subst, ap}
+use Rattle.std.proofs.Common.{◌∷◌, [], map, take, sym, subst}
 use Rattle.list_lemmas.proofs.Lists.{front_more}
 use Rattle.session_log.specs.Text.{key_of}
 use Rattle.splitting.specs.Names.{Adds}
