@@ -32,7 +32,8 @@ TABLE = os.path.join(generate.EXAMPLES, 'README.md')
 BY_SEARCH = {'crossed_readers.log'}
 # Small logs of which each level that is not kept has one fault: a read skew of which the two versions stand in the order of a session; an
 # update, and a write of another transaction that it missed, of which a third one sees too little; two versions of which neither can be the
-# first; a step by a read or by a session; circles of reads within a session; a long fork over an update.
+# first; a step by a read or by a session; circles of reads within a session; a long fork over an update; updates that miss a write of their
+# session, of one transaction that they see, and of one that ended before.
 ONE_FAULT = [
     'session 1,begin,w k 1,commit,begin,w k 2,w j 3,commit,session 2,begin,r j 3,r k 1,commit',
     'session 1,begin,w x 1,commit,begin,r x 2,w x 3,commit,session 2,begin,r x 0,w x 2,commit',
@@ -42,7 +43,10 @@ ONE_FAULT = [
     'session 1,begin,w y 1,commit,begin,w x 2,r y 1,commit,session 2,begin,r x 2,r y 0,commit',
     'session 8,begin,r x 4,commit,begin,w x 4,commit',
     'session 3,begin,r x 4,w x 3,commit,begin,r x 3,w x 4,commit',
-    'session 1,begin,w k 1,commit,session 2,begin,w j 7,commit,begin,r j 7,r k 1,commit,session 4,begin,r j 0,w j 5,commit,begin,r j 5,r k 8,commit,session 5,begin,r k 1,w k 8,commit']
+    'session 1,begin,w k 1,commit,session 2,begin,w j 7,commit,begin,r j 7,r k 1,commit,session 4,begin,r j 0,w j 5,commit,begin,r j 5,r k 8,commit,session 5,begin,r k 1,w k 8,commit',
+    'session 1,begin,w x 1,commit,begin,w x 2,commit,begin,r x 1,w x 3,commit',
+    'session 1,begin,w x 1,commit,begin,w x 2,w y 4,commit,session 2,begin,r x 1,w x 3,r y 4,commit',
+    'log 3,session 1,begin 1,w x 1,commit 2,session 2,begin 3,w x 2,commit 4,session 3,begin 5,r x 1,w x 3,commit 6']
 # What a stronger level may find in transactions of which a weaker one tells something else: what weaker levels allow; a read or writes that
 # break each level by themselves; and of moments, or of a session, what one of the levels does not have.
 OTHER_FAULTS = re.compile(r'lost update|.*\(G2-|.*\(internal|.*\(G1|.*\(G0|.*real ?time')
