@@ -1,4 +1,4 @@
 pub mod Allowed
-mod Searched
+mod Faults
 mod Singles
 mod Decided

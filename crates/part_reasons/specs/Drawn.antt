@@ -3,11 +3,6 @@
 use Rattle.std.specs.Prelude.{◌≡◌, ◌⊎◌, ◌<◌, ℕ, Bool, true, false, List, [], length, map, codes}
 use Rattle.session_log.specs.Text.{ClientSession, view}
 use Rattle.log_definitions.specs.WellFormed.{log_lines}
-use Rattle.log_lines.specs.Rows.{Table}
-use Rattle.deciding.specs.Decides.{Decides}
-use Rattle.deciding.specs.declared.decision.Decision.{Decision}
-use Rattle.deciding.specs.declared.decision.Decision.TheVariants as decision
-use Rattle.tell_decision.specs.Explained.{IsExplained}
 use Rattle.call_options.specs.declared.format.Format.{Format}
 use Rattle.call_options.specs.declared.format.Format.TheVariants.{Text, Dot}
 use Rattle.seen_laws.specs.declared.level.Level.{Level as BelowLevel}
@@ -24,34 +19,9 @@ use Rattle.judging.specs.declared.level.Level.{Level}
 use Rattle.judging.specs.declared.level.Level.TheVariants as level
 use Rattle.judging.specs.declared.means.JudgeMeans.{JudgeMeans}
 use Rattle.part_reasons.specs.declared.explaining.TheConstants.{MANY_LINES}
-use Rattle.part_reasons.specs.Why.{table_of, search_line, IsOwn, IsTooLarge}
+use Rattle.part_reasons.specs.Why.{table_of, search_line, IsOwn, IsReasonTold}
 
 -- ---- no serial order
-
--- something is told of it
-abbrev pub is_told : Decision → Bool
-is_told (decision.Serial order) = false
-is_told (decision.Spent closed) = false
-is_told _ = true
-
--- the graph of a decision about these sessions, of which something is told
-abbrev pub IsDecisionDrawn : List ClientSession → Table → Decision → List ℕ → Type 0
-IsDecisionDrawn ss table d graph = IsExplained Dot table ss d graph
-
--- a decision about these sessions within the budget, and its graph; their boxes alone, where nothing is
--- told of it
-pub data Draws (budget : ℕ) (ss : List ClientSession) (table : Table) (graph : List ℕ)
-    : Type 0 where
-  of_told : (d : Decision) → Decides budget ss d → is_told d ≡ true → IsDecisionDrawn ss table d graph
-      → Draws budget ss table graph
-  of_searched : (d : Decision) → Decides budget ss d → is_told d ≡ false
-      → graph ≡ search_graph table ss search_line → Draws budget ss table graph
-
--- why a part of these sessions has no serial order; no box exactly where it is too large to be told
-abbrev pub IsSerialDrawn : ℕ → ℕ → List ClientSession → RefutedPart → List ℕ → Type 0
-IsSerialDrawn budget n known p graph =
-    ((graph ≡ empty_graph) × IsTooLarge known (map view p.part.items))
-    ⊎ Draws budget (map view p.part.items) (table_of n known p.flags) graph
 
 -- the log has more lines than any log
 abbrev pub IsTooLong : List ClientSession → Type 0
@@ -66,7 +36,7 @@ IsSearchDrawn words n known p graph = ((graph ≡ empty_graph) × IsTooLong know
 abbrev pub IsOrderDrawn : Finding → ℕ → ℕ → List ClientSession → RefutedPart → List ℕ → Type 0
 IsOrderDrawn finding.Formula budget n known p graph = IsSearchDrawn search_line n known p graph
 IsOrderDrawn finding.Overlooked budget n known p graph = IsSearchDrawn search_line n known p graph
-IsOrderDrawn _ budget n known p graph = IsSerialDrawn budget n known p graph
+IsOrderDrawn _ budget n known p graph = IsReasonTold Dot budget n known p graph
 
 -- ---- no order of a level below prefix
 
@@ -110,7 +80,7 @@ pub record IsAnomalyDrawn
     (p : RefutedPart)
     (graph : List ℕ) : Type 0 where
   pub own : IsOwn p
-  pub graph_is : IsSerialDrawn budget n known p graph
+  pub graph_is : IsReasonTold Dot budget n known p graph
 
 -- Of an anomaly; of a refutation by points, of evidence that there is no causal order, or that a search
 -- shows it.

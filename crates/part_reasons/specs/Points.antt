@@ -14,9 +14,10 @@ use Rattle.point_refutations.specs.declared.refutation.Refutation.{Refutation}
 use Rattle.point_refutations.specs.Refuted.{is_refuted}
 use Rattle.tell_points.specs.Told.{name_line, refutation_text}
 use Rattle.tell_points.specs.Names.{refutation_name}
+use Rattle.call_options.specs.declared.format.Format.TheVariants.{Text}
 use Rattle.judging.specs.declared.judged.Finding.TheVariants as finding
 use Rattle.judging.specs.declared.judged.RefutedPart.{RefutedPart}
-use Rattle.part_reasons.specs.Why.{table_of, anomaly_name, IsOwn, IsKnownAs, IsSerialWhy, IsEvidenceTold}
+use Rattle.part_reasons.specs.Why.{table_of, anomaly_name, IsOwn, IsKnownAs, IsReasonTold, IsEvidenceTold}
 
 -- ---- an anomaly
 
@@ -32,7 +33,7 @@ pub record IsAnomalyTold
   pub found : p.finding ≡ finding.Anomaly a
   pub own : IsOwn p
   pub said : List ℕ
-  pub serial : IsSerialWhy budget n known p said
+  pub serial : IsReasonTold Text budget n known p said
   pub text_is : text ≡ said ++ name_line (anomaly_name a)
   pub name_is : option_map string_bytes name ≡ anomaly_name a
 
@@ -85,7 +86,7 @@ pub record IsSerialTold
     (name : Option (String Global))
     (text : List ℕ) : Type 0 where
   pub said : List ℕ
-  pub serial : IsSerialWhy budget n known p said
+  pub serial : IsReasonTold Text budget n known p said
   pub text_is : text ≡ search_text said
   pub name_is : IsForbiddenName said name
 

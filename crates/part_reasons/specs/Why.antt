@@ -1,5 +1,5 @@
 -- Why a part has no serial order, in the names and the lines of the whole log.
-use Rattle.std.specs.Prelude.{◌≡◌, ◌⊎◌, ◌<◌, ◌==◌, ℕ, Bool, true, false, List, [], ◌∷◌, ◌++◌, length, map}
+use Rattle.std.specs.Prelude.{◌≡◌, ◌⊎◌, ◌<◌, ◌==◌, ℕ, Bool, true, false, List, [], ◌++◌, length, map}
 use Rattle.std.specs.Prelude.{if◌then◌else◌, codes, Option, None, Some, IfSome, Vec, String}
 use Rattle.std.specs.List.{Contains}
 use Rattle.std.specs.Option.{option_map}
@@ -24,8 +24,11 @@ use Rattle.polygraph.specs.declared.fault.PolyFault.TheVariants.{TooManyChoices}
 use Rattle.reduction.specs.Outcome.{IsReduceFault}
 use Rattle.deciding.specs.Decides.{Decides}
 use Rattle.deciding.specs.declared.decision.Decision.{Decision}
+use Rattle.deciding.specs.declared.decision.Decision.TheVariants as decision
 use Rattle.tell_decision.specs.Explained.{IsExplained}
-use Rattle.call_options.specs.declared.format.Format.TheVariants.{Text}
+use Rattle.call_options.specs.declared.format.Format.{Format}
+use Rattle.call_options.specs.declared.format.Format.TheVariants.{Text, Dot}
+use Rattle.part_graphs.specs.Graphs.{empty_graph, search_graph}
 use Rattle.seen_laws.specs.declared.level.Level.{Level as BelowLevel}
 use Rattle.level_refutations.specs.declared.evidence.Evidence.{Evidence}
 use Rattle.level_refutations.specs.Refuted.{is_refuted}
@@ -46,20 +49,25 @@ table_of n known (Some flags) = part_table (is_kept known (picked (flags_view fl
 abbrev pub search_line : List ℕ
 search_line = codes "no order of them is left: a search shows it\n"
 
--- a text; that line, where there is none
-abbrev pub or_search_line : List ℕ → List ℕ
-or_search_line [] = search_line
-or_search_line (b ∷ bs) = b ∷ bs
+-- something is told of a decision
+abbrev pub is_told : Decision → Bool
+is_told (decision.Serial order) = false
+is_told (decision.Spent closed) = false
+is_told _ = true
 
--- a decision about these sessions within the budget, and the text that explains it by this table; of
--- a spent budget there is nothing to explain
-pub record Explains (budget : ℕ) (ss : List ClientSession) (table : Table) (text : List ℕ)
-    : Type 0 where
-  pub decision : Decision
-  pub decides : Decides budget ss decision
-  pub said : List ℕ
-  pub explained : IsExplained Text table ss decision said
-  pub text_is : text ≡ or_search_line said
+-- that a search shows it; as a graph, behind the boxes of these sessions by this table
+abbrev pub searched : Format → Table → List ClientSession → List ℕ
+searched Text table ss = search_line
+searched Dot table ss = search_graph table ss search_line
+
+-- a decision about these sessions within the budget, told in the format by this table; of a decision
+-- of which nothing is told, that a search shows it
+pub data Tells (format : Format) (budget : ℕ) (ss : List ClientSession) (table : Table)
+    (text : List ℕ) : Type 0 where
+  of_told : (d : Decision) → Decides budget ss d → is_told d ≡ true → IsExplained format table ss d text
+      → Tells format budget ss table text
+  of_searched : (d : Decision) → Decides budget ss d → is_told d ≡ false
+      → text ≡ searched format table ss → Tells format budget ss table text
 
 -- a part of these sessions is too large to be told: they have more lines than any log, or the part
 -- has; or `check` takes no log of the part, since it breaks a limit or has too many choices
@@ -69,17 +77,23 @@ pub data IsTooLarge (known part : List ClientSession) : Type 0 where
   limit : (f : LogFault) → list_fault (first_line One) part ≡ Some f → IsTooLarge known part
   choices : IsReduceFault part TooManyChoices → IsTooLarge known part
 
--- why a part of these sessions has no serial order; nothing exactly where it is too large to be told
-abbrev pub IsSerialWhy : ℕ → ℕ → List ClientSession → RefutedPart → List ℕ → Type 0
-IsSerialWhy budget n known p text =
-    ((text ≡ []) × IsTooLarge known (map view p.part.items))
-    ⊎ Explains budget (map view p.part.items) (table_of n known p.flags) text
+-- no text; no box
+abbrev pub untold : Format → List ℕ
+untold Text = []
+untold Dot = empty_graph
+
+-- why a part of these sessions has no serial order, in the format; nothing exactly where it is too
+-- large to be told
+abbrev pub IsReasonTold : Format → ℕ → ℕ → List ClientSession → RefutedPart → List ℕ → Type 0
+IsReasonTold format budget n known p text =
+    ((text ≡ untold format) × IsTooLarge known (map view p.part.items))
+    ⊎ Tells format budget (map view p.part.items) (table_of n known p.flags) text
 
 -- the same by what was found; what a search shows that learns is not told
 abbrev pub IsWhyOf : Finding → ℕ → ℕ → List ClientSession → RefutedPart → List ℕ → Type 0
 IsWhyOf finding.Formula budget n known p text = text ≡ search_line
 IsWhyOf finding.Overlooked budget n known p text = text ≡ search_line
-IsWhyOf _ budget n known p text = IsSerialWhy budget n known p text
+IsWhyOf _ budget n known p text = IsReasonTold Text budget n known p text
 
 -- ---- what the field calls it
 abbrev pub read_name : ReadAnomaly → Option (List ℕ)

@@ -4,161 +4,31 @@ ghost use Rattle.std.specs.Prelude.{◌≡◌, true, map, IfOk, IfSome, MatchOpt
 ghost use Rattle.std.specs.List.{AllByRecursion};
 ghost use Rattle.session_log.specs.Text.{IsLegal, view};
 ghost use Rattle.session_log.specs.Version.{first_line};
-ghost use Rattle.log_lines.specs.Rows.{Fits, rows_of};
-ghost use Rattle.polygraph.specs.declared.fault.PolyFault.TheVariants.{TooManyChoices};
-ghost use Rattle.reduction.specs.Outcome.{IsReduceFault};
-ghost use Rattle.deciding.specs.Decides.{Decides};
 ghost use Rattle.judging.specs.Made.{IsMadeOf};
 ghost use Rattle.level_refutations.specs.Refuted.{is_refuted};
 ghost use Rattle.point_refutations.specs.Refuted as by_points;
-ghost use Rattle.part_reasons.specs.Why.{table_of, IsTooLarge};
+ghost use Rattle.part_reasons.specs.Why.{table_of};
 ghost use Rattle.part_graphs.specs.Graphs.{search_graph};
 ghost use Rattle.part_reasons.specs.Drawn as spec;
 
 use crate::explaining::{MANY_LINES, SEARCH_SHOWS, places_of};
 use crate::own::is_own;
+use crate::serial::tell_serial;
 use crate::snapshots::NO_POINTS_LEFT;
 use call_options::Format;
-use deciding::{Decision, Means, decide};
-use desk::gate::OpenGate;
+use deciding::Means;
 use judging::{Finding, JudgeMeans, Level, RefutedPart};
 use level_proposals::{Proposal, find_break};
 use level_refutations::Evidence;
-use log_lines::{LogPlaces, PlacedHistory};
-use log_parts::copy_log;
 use part_graphs::{empty_graph, evidence_graph, refutation_graph, search_graph};
 use point_proposals::propose;
 use point_refutations::Refutation;
-use polygraph::PolyFault;
 use seen_laws::Level as Weaker;
-use session_history::History;
-use session_log::{LogFault, Session, Version, line_count};
+use session_log::{Session, Version, line_count};
 use std::alloc::{AllocError, Global};
 use std::sync::Wait;
 use std::thread::Threads;
 use std::time::Clock;
-use tell_decision::explain_placed;
-
-/// Whether something is told of a decision.
-fn is_told(decision: &Decision) -> bool
-    ensures { result ≡ spec.is_told decision.now }
-{
-    match decision {
-        Decision::Anomalous(_)
-        | Decision::Cyclic(_)
-        | Decision::Dead(_)
-        | Decision::Refuted { .. } => true,
-        Decision::Serial(_) | Decision::Spent { .. } => false,
-    }
-}
-
-/// What is told of a decision about a history, as a graph, by where its transactions stand.
-fn graph_of_told(
-    alloc: Global,
-    history: &History,
-    places: &LogPlaces,
-    decision: &Decision,
-    means: &Means,
-) -> Result<Vec<u8>, AllocError>
-    requires fits { Fits history.now (rows_of places.now) }
-    requires decided { Decides means.now.budget history.now decision.now }
-    ensures drawn { IfOk result (λ graph. spec.IsDecisionDrawn history.now (rows_of places.now)
-        decision.now graph.items) }
-{
-    let log = PlacedHistory::of(alloc, history, places)?;
-    explain_placed(alloc, &log, Format::Dot, decision)
-}
-
-/// Why a decision about a history within a budget stands, as a graph; its boxes alone, where nothing
-/// is told of it.
-fn graph_of_decision(
-    alloc: Global,
-    history: &History,
-    places: &LogPlaces,
-    decision: &Decision,
-    means: &Means,
-) -> Result<Vec<u8>, AllocError>
-    requires fits { Fits history.now (rows_of places.now) }
-    requires decided { Decides means.now.budget history.now decision.now }
-    ensures drawn { IfOk result (λ graph. spec.Draws means.now.budget history.now
-        (rows_of places.now) graph.items) }
-{
-    if is_told(decision) {
-        graph_of_told(alloc, history, places, decision, means)
-    } else {
-        search_graph(alloc, history.sessions(), places, SEARCH_SHOWS)
-    }
-}
-
-/// Why a history has no order, as a graph; `None` where it has too many choices.
-fn graph_of_history<R: Threads + Wait + Clock + Sync>(
-    rt: &R,
-    alloc: Global,
-    history: &History,
-    places: &LogPlaces,
-    means: &Means,
-) -> Result<Option<Vec<u8>>, AllocError>
-    requires fits { Fits history.now (rows_of places.now) }
-    ensures drawn { IfOk result (λ drawn. MatchOption drawn
-        (IsReduceFault history.now TooManyChoices)
-        (λ graph. spec.Draws means.now.budget history.now (rows_of places.now) graph.items)) }
-{
-    match decide(rt, alloc, history, means, &OpenGate) {
-        Ok(decision) => Ok(Some(graph_of_decision(alloc, history, places, &decision, means)?)),
-        Err(PolyFault::TooManyChoices) => Ok(None),
-        Err(PolyFault::Memory) => Err(AllocError),
-    }
-}
-
-/// Why a part has no serial order, as a graph; `None` where it, or the log, has more lines than any
-/// log, or the part more than `check` takes.
-fn graph_of_part<R: Threads + Wait + Clock + Sync>(
-    rt: &R,
-    alloc: Global,
-    version: Version,
-    sessions: &[Session],
-    refuted: &RefutedPart,
-    means: &Means,
-) -> Result<Option<Vec<u8>>, AllocError>
-    requires legal { AllByRecursion IsLegal (map view refuted.now.part.items) }
-    requires made { IsMadeOf (map view sessions.now) refuted.now }
-    ensures drawn { IfOk result (λ drawn. MatchOption drawn
-        (IsTooLarge (map view sessions.now) (map view refuted.now.part.items))
-        (λ graph. spec.Draws means.now.budget (map view refuted.now.part.items)
-        (table_of (first_line version) (map view sessions.now) refuted.now.flags) graph.items)) }
-{
-    if line_count(sessions) > MANY_LINES || line_count(&refuted.part) > MANY_LINES {
-        return Ok(None);
-    }
-    let places = places_of(alloc, version, sessions, refuted)?;
-    match History::build(alloc, Version::One, copy_log(alloc, &refuted.part)?) {
-        Ok(history) => graph_of_history(rt, alloc, &history, &places, means),
-        Err(fault) => match fault {
-            LogFault::Memory => Err(AllocError),
-            _ => Ok(None),
-        },
-    }
-}
-
-/// The same; without boxes, where the part is too large.
-fn draw_serial<R: Threads + Wait + Clock + Sync>(
-    rt: &R,
-    alloc: Global,
-    version: Version,
-    sessions: &[Session],
-    refuted: &RefutedPart,
-    means: &Means,
-) -> Result<Vec<u8>, AllocError>
-    requires legal { AllByRecursion IsLegal (map view refuted.now.part.items) }
-    requires made { IsMadeOf (map view sessions.now) refuted.now }
-    ensures drawn { IfOk result (λ graph. spec.IsSerialDrawn means.now.budget (first_line version)
-        (map view sessions.now) refuted.now graph.items) }
-{
-    match graph_of_part(rt, alloc, version, sessions, refuted, means)? {
-        Some(graph) => Ok(graph),
-        None => Ok(empty_graph(alloc)?),
-    }
-}
 
 /// The transactions of a part as boxes, behind a line that says that a search shows it; `None` where the
 /// log has more lines than any log.
@@ -220,7 +90,7 @@ fn draw_order<R: Threads + Wait + Clock + Sync>(
             draw_search(alloc, version, sessions, refuted, SEARCH_SHOWS)
         }
         Finding::Anomaly(_) | Finding::Cycle | Finding::Dead | Finding::Refuted => {
-            draw_serial(rt, alloc, version, sessions, refuted, means)
+            tell_serial(rt, alloc, version, sessions, refuted, Format::Dot, means)
         }
     }
 }
@@ -346,7 +216,7 @@ fn draw_anomaly<R: Threads + Wait + Clock + Sync>(
     if !own {
         return Ok(None);
     }
-    let graph = draw_serial(rt, alloc, version, sessions, refuted, means)?;
+    let graph = tell_serial(rt, alloc, version, sessions, refuted, Format::Dot, means)?;
     Ok(Some(graph))
 }
 

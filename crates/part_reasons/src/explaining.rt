@@ -1,35 +1,28 @@
 //! Why a part has no order, in lines, in the names and the lines of the whole log.
 
-ghost use Rattle.std.specs.Prelude.{◌≡◌, ◌+◌, ◌<◌, ◌^◌, length, map, IfOk, IfSome, MatchOption, None};
+ghost use Rattle.std.specs.Prelude.{◌≡◌, ◌+◌, ◌<◌, ◌^◌, length, map, IfOk, IfSome, None};
 ghost use Rattle.std.specs.Option.{option_map, option_copied};
 ghost use Rattle.std.specs.List.{AllByRecursion};
 ghost use Rattle.session_log.specs.Text.{IsLegal, view};
 ghost use Rattle.log_definitions.specs.WellFormed.{log_lines};
 ghost use Rattle.log_lines.specs.Rows.{Fits, rows_of};
 ghost use Rattle.session_log.specs.Version.{first_line};
-ghost use Rattle.polygraph.specs.declared.fault.PolyFault.TheVariants.{TooManyChoices};
-ghost use Rattle.reduction.specs.Outcome.{IsReduceFault};
-ghost use Rattle.deciding.specs.Decides.{Decides};
 ghost use Rattle.judging.specs.Made.{IsMadeOf};
-ghost use Rattle.part_reasons.specs.Why.{table_of, search_line, Explains, IsTooLarge};
-ghost use Rattle.part_reasons.specs.Why.{IsSerialWhy, IsKnownAs};
+ghost use Rattle.call_options.specs.declared.format.Format.TheVariants.{Text};
+ghost use Rattle.part_reasons.specs.Why.{table_of, search_line, IsReasonTold, IsKnownAs};
 ghost use Rattle.std.specs.String.{string_bytes};
 
+use crate::serial::tell_serial;
 use call_options::Format;
-use deciding::{Decision, Means, decide};
-use desk::gate::OpenGate;
+use deciding::Means;
 use judging::RefutedPart;
-use log_lines::{LogPlaces, PlacedHistory};
-use log_parts::copy_log;
+use log_lines::LogPlaces;
 use part_places::part_places;
-use polygraph::PolyFault;
-use session_history::History;
-use session_log::{LogFault, Session, Version, line_count, next_line};
+use session_log::{Session, Version, next_line};
 use std::alloc::{AllocError, Global};
 use std::sync::Wait;
 use std::thread::Threads;
 use std::time::Clock;
-use tell_decision::explain_placed;
 
 /// More lines than any log has.
 pub const MANY_LINES: usize = 1_000_000_000;
@@ -90,78 +83,6 @@ pub fn places_of(
     }
 }
 
-/// Why a decision about a history within a budget stands, by where its transactions do.
-fn text_of_decision(
-    alloc: Global,
-    history: &History,
-    places: &LogPlaces,
-    decision: &Decision,
-    means: &Means,
-) -> Result<Vec<u8>, AllocError>
-    requires fits { Fits history.now (rows_of places.now) }
-    requires decided { Decides means.now.budget history.now decision.now }
-    ensures explained { IfOk result (λ text.
-        Explains means.now.budget history.now (rows_of places.now) text.items) }
-{
-    let log = PlacedHistory::of(alloc, history, places)?;
-    let text = explain_placed(alloc, &log, Format::Text, decision)?;
-    if text.is_empty() {
-        return Vec::from_slice(alloc, SEARCH_SHOWS);
-    }
-    Ok(text)
-}
-
-/// Why a history has no order, by where its transactions stand; `None` where it has too many
-/// choices.
-fn text_of_history<R: Threads + Wait + Clock + Sync>(
-    rt: &R,
-    alloc: Global,
-    history: &History,
-    places: &LogPlaces,
-    means: &Means,
-) -> Result<Option<Vec<u8>>, AllocError>
-    requires fits { Fits history.now (rows_of places.now) }
-    ensures explained { IfOk result (λ told. MatchOption told
-        (IsReduceFault history.now TooManyChoices)
-        (λ text. Explains means.now.budget history.now (rows_of places.now) text.items)) }
-{
-    match decide(rt, alloc, history, means, &OpenGate) {
-        Ok(decision) => Ok(Some(text_of_decision(alloc, history, places, &decision, means)?)),
-        Err(PolyFault::TooManyChoices) => Ok(None),
-        Err(PolyFault::Memory) => Err(AllocError),
-    }
-}
-
-/// Why a part has no order; `None` where it, or the log, has more lines than any log, or the part
-/// more than `check` takes.
-fn text_of_part<R: Threads + Wait + Clock + Sync>(
-    rt: &R,
-    alloc: Global,
-    version: Version,
-    sessions: &[Session],
-    refuted: &RefutedPart,
-    means: &Means,
-) -> Result<Option<Vec<u8>>, AllocError>
-    requires legal { AllByRecursion IsLegal (map view refuted.now.part.items) }
-    requires made { IsMadeOf (map view sessions.now) refuted.now }
-    ensures explained { IfOk result (λ told. MatchOption told
-        (IsTooLarge (map view sessions.now) (map view refuted.now.part.items))
-        (λ text. Explains means.now.budget (map view refuted.now.part.items)
-        (table_of (first_line version) (map view sessions.now) refuted.now.flags) text.items)) }
-{
-    if line_count(sessions) > MANY_LINES || line_count(&refuted.part) > MANY_LINES {
-        return Ok(None);
-    }
-    let places = places_of(alloc, version, sessions, refuted)?;
-    match History::build(alloc, Version::One, copy_log(alloc, &refuted.part)?) {
-        Ok(history) => text_of_history(rt, alloc, &history, &places, means),
-        Err(fault) => match fault {
-            LogFault::Memory => Err(AllocError),
-            _ => Ok(None),
-        },
-    }
-}
-
 /// These bytes, where they are a text.
 fn owned_text(alloc: Global, bytes: &[u8]) -> Result<Option<String>, AllocError>
     ensures text { IfOk result (λ told. IfSome told (λ text. string_bytes text ≡ bytes.now)) }
@@ -201,19 +122,12 @@ pub fn explain_serial<R: Threads + Wait + Clock + Sync>(
     requires legal { AllByRecursion IsLegal (map view refuted.now.part.items) }
     requires made { IsMadeOf (map view sessions.now) refuted.now }
     ensures why { IfOk result (λ told.
-        IsSerialWhy means.now.budget (first_line version) (map view sessions.now) refuted.now
+        IsReasonTold Text means.now.budget (first_line version) (map view sessions.now) refuted.now
         told.text.items) }
     ensures named { IfOk result (λ told. IfSome told.known_as (λ name.
         IsKnownAs (string_bytes name) told.text.items)) }
 {
-    match text_of_part(rt, alloc, version, sessions, refuted, means)? {
-        Some(text) => {
-            let known_as = name_in(alloc, &text)?;
-            Ok(Explained { text, known_as })
-        }
-        None => Ok(Explained {
-            text: Vec::new(alloc),
-            known_as: None,
-        }),
-    }
+    let text = tell_serial(rt, alloc, version, sessions, refuted, Format::Text, means)?;
+    let known_as = name_in(alloc, &text)?;
+    Ok(Explained { text, known_as })
 }

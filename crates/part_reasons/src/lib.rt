@@ -13,6 +13,7 @@ mod drawing;
 mod explaining;
 mod overlooked;
 mod own;
+mod serial;
 mod snapshots;
 mod whys;
 

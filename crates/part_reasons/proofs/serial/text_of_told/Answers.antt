@@ -1,7 +1,7 @@
 use Rattle.std.proofs.Common.{sym, subst}
 use Rattle.std.proofs.lemmas.Result.{IfOk-weaker}
 use Rattle.deciding.specs.Decides.{Decides}
-use Rattle.part_reasons.proofs.drawing.graph_of_told.Goals as goal
+use Rattle.part_reasons.proofs.serial.text_of_told.Goals as goal
 
 pub explain_placed-requires : goal.explain_placed-requires
 explain_placed-requires c = record { decided = record { budget = c.args.means.now.budget; decides = subst (λ ss. Decides c.args.means.now.budget ss c.args.decision.now) (sym c.in_ok-log.ensures.history) c.requires.decided } }
@@ -9,4 +9,4 @@ explain_placed-requires c = record { decided = record { budget = c.args.means.no
 pub returns : goal.returns
 returns c =
     let made = c.in_ok-log.ensures in
-    record { drawn = IfOk-weaker c.explain_placed.result _ _ (λ graph why. record { log = c.in_ok-log.log; sessions = made.history; places = made.places; why = why }) c.explain_placed.ensures.why }
+    record { told = IfOk-weaker c.explain_placed.result _ _ (λ text why. record { log = c.in_ok-log.log; sessions = made.history; places = made.places; why = why }) c.explain_placed.ensures.why }
