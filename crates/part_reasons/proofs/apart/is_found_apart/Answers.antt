@@ -4,7 +4,7 @@ use Rattle.session_log.specs.Version.{first_line}
 use Rattle.session_log.specs.declared.version.Version.TheVariants.{One}
 use Rattle.log_definitions.specs.WellFormed.{list_fault}
 use Rattle.part_reasons.specs.Apart.{IsFound, limit}
-use Rattle.part_reasons.proofs.Searched.{some_fault}
+use Rattle.part_reasons.proofs.Faults.{some_fault}
 use Rattle.part_reasons.proofs.apart.is_found_apart.Goals as goal
 
 pub returns-in_ok-found-in-Ok : goal.returns-in_ok-found-in-Ok
