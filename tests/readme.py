@@ -12,7 +12,7 @@ import os, re, shutil, subprocess, sys, tempfile, time
 HERE = os.path.dirname(os.path.abspath(__file__))
 TOP = os.path.dirname(HERE)
 PROVING = re.compile(r'^\./(prove|check)\b', re.M)
-# A command of the page may build the program first, in one to two minutes, or in many on a slow and busy machine.
+# A command of the page may build the program first, in one to five minutes, or in many on a slow and busy machine.
 AROUND, LATE = 70, 3600
 STAND_IN = '''#!%s
 import sys
