@@ -28,8 +28,6 @@ LINE = re.compile('^(%s): (kept|not kept|unknown)(?:, as .+)?$' % '|'.join(WEAKE
 WITHOUT = re.compile(r'^(?:without real time: (.+)|only real time was broken: the whole log has a serial order, but none in the order of its moments)$', re.M)
 CASES, SEED, SHOWN, LARGER, SAMPLE = 600, 1, 20, 40, 100
 TABLE = os.path.join(generate.EXAMPLES, 'README.md')
-# An example of which one level tells no name: a search alone shows it there.
-BY_SEARCH = {'crossed_readers.log'}
 # Small logs of which each level that is not kept has one fault: a read skew of which the two versions stand in the order of a session; an
 # update, and a write of another transaction that it missed, of which a third one sees too little; two versions of which neither can be the
 # first; a step by a read or by a session; circles of reads within a session; a long fork over an update; updates that miss a write of their
@@ -274,7 +272,7 @@ def wrong_names(program):
             status, said, _ = call(program, 'audit', '--only', '--level', level, '--format', 'json', text=text)
             if status == 1:
                 found.setdefault(json.loads(said)['known_as'], level)
-        if len(found) > 1 and name not in BY_SEARCH:
+        if len(found) > 1:
             yield '%s has several names: %r' % (name, found)
 
 

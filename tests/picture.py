@@ -351,7 +351,7 @@ class Checks:
                 except picture.scripts.Stop:
                     continue
                 about, told = '%s at %s' % (name, level), picture.told.of_part(report)
-                self.expect(told.code != picture.told.PART or level not in STRONG or report['explanation'] == [picture.told.BY_SEARCH], '%s: %r' % (about, report['explanation']))
+                self.expect(told.code != picture.told.PART or level not in STRONG or report['explanation'][:1 if level == 'prefix' else None] == [picture.told.BY_SEARCH], '%s: %r' % (about, report['explanation']))
                 page = picture.page_of_part(text.decode().splitlines(), report, about).html()
                 self.expect('<h1>%s: not kept' % levels.LEVELS[level] in page, '%s: no heading' % about)
                 self.met[told.code] += 1

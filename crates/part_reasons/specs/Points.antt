@@ -1,6 +1,6 @@
 -- Why a part has no order of its snapshots and commits, and what the field calls it.
 use Rattle.std.specs.Prelude.{◌≡◌, ℕ, ◌==◌, ◌||◌, Bool, true, false, List, [], ◌∷◌, ◌++◌, length, map}
-use Rattle.std.specs.Prelude.{if◌then◌else◌, codes, Option, None, IfSome, String}
+use Rattle.std.specs.Prelude.{if◌then◌else◌, codes, Option, None, Some, IfSome, String}
 use Rattle.std.specs.List.{starts_with}
 use Rattle.std.specs.Bool.{nat_eq}
 use Rattle.std.specs.Option.{option_map}
@@ -15,6 +15,11 @@ use Rattle.point_refutations.specs.Refuted.{is_refuted}
 use Rattle.tell_points.specs.Told.{name_line, refutation_text}
 use Rattle.tell_points.specs.Names.{refutation_name}
 use Rattle.call_options.specs.declared.format.Format.TheVariants.{Text}
+use Rattle.log_lines.specs.Rows.{Table, rows_of}
+use Rattle.log_lines.specs.declared.placed.PlacedHistory.{PlacedHistory}
+use Rattle.reason_laws.specs.Crossed.{AreCrossed}
+use Rattle.reason_laws.specs.declared.crossing.Crossing.{Crossing}
+use Rattle.tell_reasons.specs.Crossed.{crossing_text}
 use Rattle.judging.specs.declared.judged.Finding.TheVariants as finding
 use Rattle.judging.specs.declared.judged.RefutedPart.{RefutedPart}
 use Rattle.part_reasons.specs.Why.{table_of, anomaly_name, IsOwn, IsKnownAs, IsReasonTold, IsEvidenceTold}
@@ -90,11 +95,46 @@ pub record IsSerialTold
   pub text_is : text ≡ search_text said
   pub name_is : IsForbiddenName said name
 
--- where keys are not locked, nothing is said of serial orders
+-- ---- crossed reads
+
+abbrev pub crossing_name : Option (List ℕ)
+crossing_name = Some (codes "long fork (G-nonadjacent-item)")
+
+-- four transactions of these sessions that read all four pairs of two versions of a key and two of
+-- another, and the text that tells them by this table
+pub record IsCrossingTold (ss : List ClientSession) (table : Table) (text : List ℕ) : Type 0 where
+  pub crossing : Crossing
+  pub crossed : AreCrossed ss crossing
+  pub log : PlacedHistory
+  pub sessions : log.history.now ≡ ss
+  pub places : rows_of log.places.now ≡ table
+  pub text_is : text ≡ crossing_text log crossing
+
+pub record IsCrossedTold
+    (n : ℕ)
+    (known : List ClientSession)
+    (p : RefutedPart)
+    (name : Option (String Global))
+    (text : List ℕ) : Type 0 where
+  pub said : List ℕ
+  pub crossing : IsCrossingTold (map view p.part.items) (table_of n known p.flags) said
+  pub text_is : text ≡ search_text said
+  pub name_is : option_map string_bytes name ≡ crossing_name
+
+-- where keys are not locked, crossed reads alone are told, which leave no prefix order either
+pub data IsUnlockedTold
+    (n : ℕ)
+    (known : List ClientSession)
+    (p : RefutedPart)
+    (name : Option (String Global))
+    (text : List ℕ) : Type 0 where
+  of_crossing : IsCrossedTold n known p name text → IsUnlockedTold n known p name text
+  of_search : text ≡ search_text [] → name ≡ None → IsUnlockedTold n known p name text
+
 abbrev pub IsSearchTold : Bool → ℕ → ℕ → List ClientSession → RefutedPart → Option (String Global)
     → List ℕ → Type 0
 IsSearchTold true budget n known p name text = IsSerialTold budget n known p name text
-IsSearchTold false budget n known p name text = (text ≡ search_text []) × (name ≡ None)
+IsSearchTold false budget n known p name text = IsUnlockedTold n known p name text
 
 -- ---- what is said
 

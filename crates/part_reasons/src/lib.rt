@@ -9,6 +9,7 @@
 #![tactic(auto)]
 
 mod apart;
+mod crossed;
 mod drawing;
 mod explaining;
 mod overlooked;

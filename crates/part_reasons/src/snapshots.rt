@@ -15,6 +15,7 @@ ghost use Rattle.point_refutations.specs.Refuted.{is_refuted};
 ghost use Rattle.tell_points.specs.Told.{name_line};
 ghost use Rattle.part_reasons.specs.Points as spec;
 
+use crate::crossed::{crossing_name, crossing_of_part};
 use crate::explaining::{Explained, MANY_LINES, explain_serial, owned, places_of};
 use crate::overlooked::tell_evidence;
 use crate::own::is_own;
@@ -225,6 +226,31 @@ fn unless_allowed(name: Option<String>) -> Option<String>
     }
 }
 
+/// What is said where a search alone shows that a part has no prefix order: crossed reads rule that
+/// out too, where it has such.
+fn explain_unlocked(
+    alloc: Global,
+    version: Version,
+    sessions: &[Session],
+    refuted: &RefutedPart,
+) -> Result<Explained, AllocError>
+    requires legal { AllByRecursion IsLegal (map view refuted.now.part.items) }
+    requires made { IsMadeOf (map view sessions.now) refuted.now }
+    ensures said { IfOk result (λ told. spec.IsUnlockedTold (first_line version)
+        (map view sessions.now) refuted.now told.known_as told.text.items) }
+{
+    match crossing_of_part(alloc, version, sessions, refuted)? {
+        Some(crossing) => Ok(Explained {
+            text: text_of_search(alloc, &crossing)?,
+            known_as: owned(alloc, crossing_name())?,
+        }),
+        None => Ok(Explained {
+            text: text_of_search(alloc, b"")?,
+            known_as: None,
+        }),
+    }
+}
+
 /// What is said where a search alone shows that a part has no order of snapshots and commits.
 fn explain_search<R: Threads + Wait + Clock + Sync>(
     rt: &R,
@@ -241,10 +267,7 @@ fn explain_search<R: Threads + Wait + Clock + Sync>(
         (first_line version) (map view sessions.now) refuted.now told.known_as told.text.items) }
 {
     if !is_locked {
-        return Ok(Explained {
-            text: Vec::from_slice(alloc, NO_POINTS_LEFT)?,
-            known_as: None,
-        });
+        return explain_unlocked(alloc, version, sessions, refuted);
     }
     let serial = explain_serial(rt, alloc, version, sessions, refuted, means)?;
     Ok(Explained {
