@@ -52,6 +52,9 @@ public final class Jdbc implements AutoCloseable {
     private static final Set<String> IN_THE_WAY = new HashSet<>(Arrays.asList("90007", "90067", "90098", "90121", "90131", "XCL16", "55P03"));
     /** MariaDB has no code of its own for: changed since the snapshot, waited too long for a lock. */
     private static final Set<Integer> OF_MARIADB = new HashSet<>(Arrays.asList(1020, 1205));
+    /** H2 has none for: another client rolls this transaction back. It is a general error, and its words say so. */
+    private static final int OF_H2 = 50000;
+    private static final String ROLLING_BACK = "has status ROLLING_BACK";
 
     private static final Set<String> OURS = new HashSet<>(Arrays.asList("commit", "rollback", "close", "setAutoCommit"));
 
@@ -76,8 +79,9 @@ public final class Jdbc implements AutoCloseable {
     public static boolean isExpected(SQLException fault) {
         String state = String.valueOf(fault.getSQLState());
         return isRolledBack(fault) || state.startsWith("40") || state.startsWith("08") || state.startsWith("57") || state.startsWith("HYT") || IN_THE_WAY.contains(state)
-                || OF_MARIADB.contains(fault.getErrorCode()) && state.startsWith("HY") || fault instanceof SQLTransientException
-                || fault instanceof SQLRecoverableException;
+                || OF_MARIADB.contains(fault.getErrorCode()) && state.startsWith("HY")
+                || fault.getErrorCode() == OF_H2 && String.valueOf(fault.getMessage()).contains(ROLLING_BACK)
+                || fault instanceof SQLTransientException || fault instanceof SQLRecoverableException;
     }
 
     /** Makes a transaction and gives its outcome. An exception that is not to be expected goes on; the log has the transaction then too. */

@@ -46,6 +46,10 @@ prepareStatement HY000: abort, 1 connected
 createStatement HY000: abort, 1 connected
 prepareStatement HY000: thrown as it was, 1 connected
 createStatement HY000: abort, 1 connected
+prepareStatement HY000: abort, 1 connected
+createStatement HY000: abort, 1 connected
+prepareStatement HY000: thrown as it was, 1 connected
+createStatement HY000: abort, 1 connected
 prepareStatement 42S02: thrown as it was, 1 connected
 createStatement 42S02: abort, 1 connected
 prepareStatement 08006: abort, 1 connected
@@ -68,7 +72,7 @@ setAutoCommit null: abort, 2 connected
 setAutoCommit 42000: thrown as it was, 2 connected
 """
 # How the log has them, each with a second transaction: those that are thrown have their outcome too, and a commit that is rolled back is so again.
-OUTCOMES = {'commit': 44, 'abort': 41, 'unknown': 11}
+OUTCOMES = {'commit': 48, 'abort': 45, 'unknown': 11}
 
 
 def compiled(folder):

@@ -53,7 +53,7 @@ public final class Answers {
             ask(run, "commit", new SQLException("closed"), true, writes);
             ask(run, "commit", new IllegalStateException("made"), false, writes);
             for (SQLException fault : Arrays.asList(new SQLException("made", "40001"), new SQLException("made", "XCL16"), new SQLException("made", "90131"),
-                    new SQLException("made", "HY000", 1020), new SQLException("made", "HY000", 7), new SQLException("made", "42S02"), new SQLException("made", "08006"), new SQLException("made", "57014"))) {
+                    new SQLException("made", "HY000", 1020), new SQLException("made", "HY000", 7), new SQLException("Transaction 2 has status ROLLING_BACK, not OPEN", "HY000", 50000), new SQLException("made", "HY000", 50000), new SQLException("made", "42S02"), new SQLException("made", "08006"), new SQLException("made", "57014"))) {
                 ask(run, "prepareStatement", fault, false, (connection, txn) -> {
                     txn.write("x");
                     connection.prepareStatement("");
