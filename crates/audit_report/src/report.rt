@@ -1,5 +1,6 @@
 //! The report as text.
 
+ghost use Rattle.std.specs.List.{list_any};
 ghost use Rattle.std.specs.Prelude.{◌≡◌, ◌++◌, ◌<◌, OnOk, IfOk};
 ghost use Rattle.audit_report.specs.Report.{first_line, txn_text, txns_text, noun_of, part_text};
 ghost use Rattle.audit_report.specs.Report.{behind_comma, code_count, code_line, uncoded_line, codes_text};
@@ -10,7 +11,8 @@ ghost use Rattle.audit_report.specs.Report.{listed, codes_where, behind_first, l
 ghost use Rattle.audit_report.specs.Report.{level_row, weaker_text, short_title, found_text};
 ghost use Rattle.audit_report.specs.Report.{kept_line, shown_by, snapshot_row, broken_text, last_part};
 ghost use Rattle.audit_report.specs.Report.{lower_text, title_of, why_lowest, lowest_part};
-ghost use Rattle.audit_report.specs.Report.{weaker_words, is_some_kept, is_some_open, promise_text, blame_text};
+ghost use Rattle.audit_report.specs.Report.{weaker_words, is_some_kept, is_open, is_refuted, is_some_open};
+ghost use Rattle.audit_report.specs.Report.{promise_text, blame_text};
 ghost use Rattle.audit_report.specs.Lower.{or_above, weakest_of};
 ghost use Rattle.audit_report.specs.Words as spec;
 
@@ -497,7 +499,7 @@ fn put_lowest(
 
 /// What is told of the log without moments, and of weaker levels.
 fn weaker_words(told: &Told) -> [Option<Word>; 8]
-    ensures words { result.now ≡ weaker_words told.now }
+    ensures words { result ≡ weaker_words told.now }
 {
     let lower = &told.lower;
     [
@@ -519,14 +521,32 @@ fn is_some_kept(told: &Told) -> bool
     weaker_words(told).iter().any(|word| is_kept(*word))
 }
 
-/// Whether the log has no serial order, and something weaker was not decided.
+/// Whether it is told that a level was not decided.
+fn is_open(word: Option<Word>) -> bool
+    ensures { result ≡ is_open word }
+{
+    matches!(word, Some(Word::Unknown))
+}
+
+/// Whether a word says that there is no order.
+fn is_refuted(word: Word) -> bool
+    ensures { result ≡ is_refuted word }
+{
+    matches!(word, Word::NotSerializable)
+}
+
+/// Whether something weaker was not decided.
+fn is_one_open(told: &Told) -> bool
+    ensures { result ≡ list_any is_open (weaker_words told.now) }
+{
+    weaker_words(told).iter().any(|word| is_open(*word))
+}
+
+/// Whether the log has no order, and something weaker was not decided.
 fn is_some_open(told: &Told) -> bool
     ensures { result ≡ is_some_open told.now }
 {
-    matches!(word_of(&told.answer), Word::NotSerializable)
-        && weaker_words(told)
-            .iter()
-            .any(|word| matches!(*word, Some(Word::Unknown)))
+    is_refuted(word_of(&told.answer)) && is_one_open(told)
 }
 
 /// Appends which store promises no more than that.
