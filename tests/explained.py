@@ -1,7 +1,7 @@
 #!/usr/bin/env python3
 """explained.py PROGRAM [SEEDS]: what `explain` says of small logs, against the log's own lines.
 
-Each log of examples/, logs made by hand, and of each kind of made logs so many as SEEDS says (400 where it is not said) go through `check`
+Each log of examples/, logs made by hand, and of each kind of made logs so many as SEEDS says (250 where it is not said) go through `check`
 and `explain`, with 1 and 4 workers and each strategy in turn. The first lines of `explain` must be those of `check`, and its status too.
 Behind them, of an anomaly and of a cycle of known edges the text must be the one that a plain reading of the log's lines gives, to the
 byte. Where pruning ends in a cycle, or every cube is refuted, the steps and the tree may be others by the schedule; then each line is held
@@ -1445,7 +1445,7 @@ def on_the_page():
 def main():
     if '--help' in sys.argv:
         return print(__doc__)
-    program, seeds = os.path.abspath(sys.argv[1]), int(sys.argv[2]) if len(sys.argv) > 2 else 400
+    program, seeds = os.path.abspath(sys.argv[1]), int(sys.argv[2]) if len(sys.argv) > 2 else 250
     jobs = [(wanted, 'made by hand', text, ['--format', 'text'], ['not serializable: ' + said[0], *said[1:]]) for text, said in BY_HAND]
     jobs += [(sought, LOOKS, True), (sought, LOOKS + 1, False)]
     jobs += [(wanted, 'on the page', *it) for it in on_the_page()] + [(judged, place, *log) for place, log in enumerate(logs(seeds))]
