@@ -55,6 +55,8 @@ public final class Jdbc implements AutoCloseable {
     /** H2 has none for: another client rolls this transaction back. It is a general error, and its words say so. */
     private static final int OF_H2 = 50000;
     private static final String ROLLING_BACK = "has status ROLLING_BACK";
+    /** SQLite has no code of SQLSTATE, so its own name stands in front: another client holds the lock. Its commit() leaves all undone then. */
+    private static final String OF_SQLITE = "[SQLITE_BUSY";
 
     private static final Set<String> OURS = new HashSet<>(Arrays.asList("commit", "rollback", "close", "setAutoCommit"));
 
@@ -62,6 +64,8 @@ public final class Jdbc implements AutoCloseable {
     private final Connecting connecting;
     private Connection connection, watched;
     private boolean failed;
+    /** What a driver threw last that is no SQLException. */
+    private Throwable strange;
 
     public Jdbc(Recorder run, Connecting connecting) {
         session = run.session();
@@ -72,7 +76,8 @@ public final class Jdbc implements AutoCloseable {
      * constraint that was deferred. Any other leaves the outcome unknown. */
     public static boolean isRolledBack(SQLException fault) {
         String state = String.valueOf(fault.getSQLState());
-        return ROLLED_BACK.contains(state) || state.startsWith("23") || state.startsWith("40") && !state.equals("40003");
+        return ROLLED_BACK.contains(state) || state.startsWith("23") || state.startsWith("40") && !state.equals("40003")
+                || fault.getSQLState() == null && String.valueOf(fault.getMessage()).startsWith(OF_SQLITE);
     }
 
     /** Whether an exception is one that a test of several clients and broken connections has to expect, and no mistake in it. */
@@ -140,6 +145,7 @@ public final class Jdbc implements AutoCloseable {
                 rollBack();
                 return;
             }
+            strange = fault;
             boolean isToBeExpected = isToBeExpected(fault);
             txn.unknown();
             drop();
@@ -150,9 +156,11 @@ public final class Jdbc implements AutoCloseable {
         txn.commit();
     }
 
-    /** Whether an exception is to be expected by its codes, or since the connection is gone: MariaDB's driver has no code for that. */
+    /** Whether an exception is to be expected by its codes, or since the connection is gone: MariaDB's driver has no code for that, and HSQLDB's
+     * throws a NullPointerException. */
     private boolean isToBeExpected(Throwable fault) throws SQLException {
-        return fault instanceof SQLException && (isExpected((SQLException) fault) || connection != null && connection.isClosed());
+        boolean isGone = connection != null && connection.isClosed();
+        return fault instanceof SQLException ? isGone || isExpected((SQLException) fault) : isGone && fault == strange && fault instanceof RuntimeException;
     }
 
     /** The same object of a driver, which takes note of what fails, and leaves to this class what is its own. */
@@ -166,8 +174,9 @@ public final class Jdbc implements AutoCloseable {
                 failed &= !isBack;
                 return isWatched(method) && answer != null ? watched(answer, method.getReturnType()) : answer;
             } catch (InvocationTargetException fault) {
-                failed |= fault.getCause() instanceof SQLException;
-                throw fault.getCause();
+                failed = true;
+                strange = fault.getCause();
+                throw strange;
             }
         });
     }
@@ -184,7 +193,7 @@ public final class Jdbc implements AutoCloseable {
                 connection.rollback();
                 return;
             }
-        } catch (SQLException fault) {
+        } catch (SQLException | RuntimeException fault) {
             // it is of no use any more
         }
         drop();
@@ -196,12 +205,12 @@ public final class Jdbc implements AutoCloseable {
         connection = null;
         try {
             its.abort(Runnable::run);
-        } catch (SQLException | AbstractMethodError fault) {
+        } catch (SQLException | RuntimeException | AbstractMethodError fault) {
             // it is closed all the same
         }
         try {
             its.close();
-        } catch (SQLException fault) {
+        } catch (SQLException | RuntimeException fault) {
             // it was gone
         }
     }
@@ -215,7 +224,7 @@ public final class Jdbc implements AutoCloseable {
         try {
             connection.rollback();
             connection.close();
-        } catch (SQLException fault) {
+        } catch (SQLException | RuntimeException fault) {
             drop();
         }
     }

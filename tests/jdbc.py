@@ -2,7 +2,7 @@
 """jdbc.py PROGRAM: collect/Jdbc.java, over collect/Recorder.java.
 
 By a driver that is made here it is asked what becomes of a transaction where a statement, commit or rollback fails, for each code that it tells
-apart. Then the whole test that docs/COLLECTING.md has is compiled and run as it stands there. Then clients of H2, HSQLDB and Derby, embedded, run a small load at once, of which some break their connection off; PROGRAM must find that
+apart. Then the whole test that docs/COLLECTING.md has is compiled and run as it stands there. Then clients of H2, HSQLDB, Derby and SQLite, embedded, run a small load at once, of which some break their connection off; PROGRAM must find that
 its log keeps what the store promises. A compiler or a store that is not installed is passed over, with a line that says so. Last line: 'jdbc: N
 passed, M failed'."""
 import os, re, shutil, subprocess, sys, tempfile
@@ -12,10 +12,11 @@ TOP = os.path.dirname(HERE)
 JARS = '/usr/share/java'
 # What each store is started by, and its jar.
 STORES = {'H2': ('h2.jar', 'jdbc:h2:mem:load;DB_CLOSE_DELAY=-1'), 'HSQLDB': ('hsqldb.jar', 'jdbc:hsqldb:mem:load'),
-          'Derby': ('derby.jar', 'jdbc:derby:memory:load;create=true')}
+          'Derby': ('derby.jar', 'jdbc:derby:memory:load;create=true'), 'SQLite': ('xerial-sqlite-jdbc.jar', 'jdbc:sqlite:load.db')}
 # A way of each, and what its log must keep.
 WAYS = [('H2', '', 'serializable', 'snapshot'), ('HSQLDB', ';hsqldb.tx=mvcc', 'serializable', 'snapshot'),
-        ('HSQLDB', ';hsqldb.tx=locks', 'serializable', 'serializable'), ('Derby', '', 'serializable', 'serializable')]
+        ('HSQLDB', ';hsqldb.tx=locks', 'serializable', 'serializable'), ('Derby', '', 'serializable', 'serializable'),
+        ('SQLite', '', 'serializable', 'serializable')]
 LATE = 600
 # What comes of each: the outcome, how many connections there were for two transactions, and whether the first was broken off.
 ANSWERS = """none null: commit, 1 connected
@@ -35,7 +36,9 @@ commit XX000: thrown as it was, 2 connected, broken off
 commit null: thrown as it was, 2 connected, broken off
 commit HY000: unknown, 2 connected, broken off
 commit null: unknown, 2 connected, broken off
+commit null: abort, 1 connected
 commit java.lang.IllegalStateException: made: thrown as it was, 2 connected, broken off
+commit java.lang.IllegalStateException: made: unknown, 2 connected, broken off
 prepareStatement 40001: abort, 1 connected
 createStatement 40001: abort, 1 connected
 prepareStatement XCL16: abort, 1 connected
@@ -56,10 +59,15 @@ prepareStatement 08006: abort, 1 connected
 createStatement 08006: abort, 1 connected
 prepareStatement 57014: abort, 1 connected
 createStatement 57014: abort, 1 connected
+prepareStatement null: abort, 1 connected
+createStatement null: abort, 1 connected
 prepareStatement null: abort, 2 connected, broken off
+prepareStatement java.lang.NullPointerException: closed: abort, 2 connected, broken off
+prepareStatement java.lang.NullPointerException: made: thrown as it was, 1 connected
 createStatement 23505: commit, 1 connected
 closed null: abort, 2 connected, broken off
 body java.lang.IllegalStateException: made: thrown IllegalStateException, 1 connected
+prepareStatement null: thrown IllegalStateException, 2 connected, broken off
 aborts null: abort, 1 connected
 commits null: thrown Misuse, 1 connected
 closes null: thrown Misuse, 1 connected
@@ -72,7 +80,7 @@ setAutoCommit null: abort, 2 connected
 setAutoCommit 42000: thrown as it was, 2 connected
 """
 # How the log has them, each with a second transaction: those that are thrown have their outcome too, and a commit that is rolled back is so again.
-OUTCOMES = {'commit': 48, 'abort': 45, 'unknown': 11}
+OUTCOMES = {'commit': 54, 'abort': 52, 'unknown': 12}
 
 
 def compiled(folder):

@@ -15,7 +15,7 @@ import collections, html, html.parser, json, os, re, shutil, subprocess, sys, te
 HERE = os.path.dirname(os.path.abspath(__file__))
 TOP = os.path.dirname(HERE)
 sys.path.insert(0, HERE)
-import explained, generate, level_model, levels
+import explained, generate, level_model, levels, told_points
 from certificates import HEADING, WHY_NOT, Part
 
 sys.path.insert(0, os.path.join(TOP, 'tools'))
@@ -30,8 +30,8 @@ BROWSERS, AROUND = ('chromium-headless-shell', 'chromium'), 70
 ALONE = 'flock', '--no-fork', '/var/lib/apt'
 # What `check` and the headline of `audit` say of a log of which every cube is refuted.
 TREES = explained.EVERY_CUBE, 'not serializable: every order of its versions closes a cycle'
-# The levels of which each reason has a form that is drawn; below them lines are told.
-STRONG = 'strict-serializable', 'serializable', 'strict-snapshot', 'snapshot', 'prefix'
+# The levels of which each reason has a form that is drawn; at `prefix` evidence against a weaker level may stand, of which lines are told.
+STRONG = 'strict-serializable', 'serializable', 'strict-snapshot', 'snapshot'
 # At levels of snapshots: an edge, also as a step; and what closes a circle of which a first committer is supposed.
 POINTS = re.compile(r"^ *(?:\[[0-9]+\] )?(([0-9.]+)'s (snapshot|commit) before ([0-9.]+)'s (snapshot|commit): (?!.*cannot commit first:$).+)$", re.M)
 NOT_FIRST, WOULD = re.compile('([0-9.]+) cannot commit first:$', re.M), "would have overwritten"
@@ -345,13 +345,13 @@ class Checks:
         """The pages of each of these logs at each level that it does not keep."""
         for name, text in logs:
             path = self.put('page.log', text)
-            for level in list(levels.LEVELS)[:4]:  # of serial orders and of snapshots
+            for level in list(levels.LEVELS)[:5]:  # of serial orders and of points
                 try:
                     report = picture.scripts.audited(self.program, path, level)
                 except picture.scripts.Stop:
                     continue
                 about, told = '%s at %s' % (name, level), picture.told.of_part(report)
-                self.expect(told.code != picture.told.PART or level not in STRONG or report['explanation'][:1 if level == 'prefix' else None] == [picture.told.BY_SEARCH], '%s: %r' % (about, report['explanation']))
+                self.expect(told.code != picture.told.PART or level not in STRONG or report['explanation'] == [picture.told.BY_SEARCH], '%s: %r' % (about, report['explanation']))
                 page = picture.page_of_part(text.decode().splitlines(), report, about).html()
                 self.expect('<h1>%s: not kept' % levels.LEVELS[level] in page, '%s: no heading' % about)
                 self.met[told.code] += 1
@@ -529,6 +529,7 @@ def logs_of_levels():
     """Logs of which most break a level of snapshots, and a long one."""
     yield from generate.examples((1, 2, 3))
     yield from (('made log %d' % seed, level_model.points_text(seed)) for seed in range(1, 41))
+    yield from (('log of replicas %d' % seed, told_points.replicas_text(seed)) for seed in range(1, 31))
     text = long_log()
     last = text.decode().rstrip().split('\n')[-2].split(' ')[1]
     yield 'a long log', text + ('session 9\nbegin\nr %s 0\nw %s 9999999\ncommit\n' % (last, last)).encode()

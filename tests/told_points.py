@@ -1,12 +1,13 @@
 #!/usr/bin/env python3
-"""told_points.py PROGRAM [CASES] [--seed N]: what `audit --explain` tells at levels of snapshots, line by line, against the log.
+"""told_points.py PROGRAM [CASES] [--seed N]: what `audit --explain` tells at levels of points, line by line, against the log.
 
-Each log of examples/ and some hundred made ones, as tests/level_model.py has them, are asked for both levels of snapshots. Of each refuted one
-each told line must be so in the log: the transactions, lines, keys, identities and moments that it names, and that it follows from them that
+Each log of examples/ and some hundred made ones, as tests/level_model.py has them or of replicas, are asked for each level of points. Of each
+refuted one each told line must be so in the log: the transactions, lines, keys, identities and moments that it names, and that it follows from them that
 the one point stands before the other. Each step must follow from lines and from earlier steps, and each must be named; first stands a
-circle, or two that write a key of which neither can commit first, and behind it the steps. So no order is left. Nothing that is told may
+circle, or two that write a key of which neither can commit first, and behind it the steps. So no order is left. At `prefix` a step says only
+which of two commits first, and where evidence against a weaker level is told, tests/levels.py looks at it. Nothing that is told may
 name a lock. `explain --level` must say the same. Last line: 'told points: N passed, M failed'."""
-import argparse, collections, concurrent.futures, itertools, os, re, sys
+import argparse, collections, concurrent.futures, itertools, os, random, re, sys
 
 HERE = os.path.dirname(os.path.abspath(__file__))
 sys.path.insert(0, HERE)
@@ -15,7 +16,7 @@ from certificates import Part, call, must
 
 CASES, SEED, SHOWN = 600, 1, 20
 LANES = min(4, os.cpu_count())
-LEVELS = ('strict-snapshot', 'snapshot')
+LEVELS = ('strict-snapshot', 'snapshot', 'prefix')
 FORCED = 'these orders of snapshots and commits are forced:'
 LOST = "%s and %s read one version of %s and both overwrote it; neither saw the other's"
 # A circle of so many edges is told in a sentence too.
@@ -27,7 +28,7 @@ READS = '%s reads %s (\\d+) \\(line (\\d+)\\)' % (NAME, KEY)
 BOTH = 'both write %s \\(lines (\\d+) and (\\d+)\\)' % KEY
 SHOWN_STEP = re.compile("\\[(\\d+)\\] (%s before %s: .+)" % (POINT, POINT))
 WAY_STEP = re.compile("\\[(\\d+)\\] %s's commit before %s's snapshot:" % (NAME, NAME))
-FORCED_STEP = re.compile("\\[(\\d+)\\] %s's commit before %s's snapshot: %s, and %s cannot commit first:" % (NAME, NAME, BOTH, NAME))
+FORCED_STEP = re.compile("\\[(\\d+)\\] %s's commit before %s's (snapshot|commit): %s, and %s cannot commit first:" % (NAME, NAME, BOTH, NAME))
 NEITHER = re.compile('%s and %s %s, so one of them commits before the other takes its snapshot' % (NAME, NAME, BOTH))
 NOT_FIRST = re.compile('%s cannot commit first:' % NAME)
 WOULD = re.compile("    %s's snapshot comes after %s's commit, but %s of (\\d+\\.\\d+), which %s would have overwritten with (\\d+) \\(line (\\d+)\\):" % (NAME, NAME, READS, NAME))
@@ -40,12 +41,38 @@ BEHIND = re.compile('%s of %s, which by \\[(\\d+)\\] comes before (\\d+), which 
 MOMENTS = re.compile('%s ended at (\\d+) \\(line (\\d+)\\), %s began at (\\d+) \\(line (\\d+)\\)' % (NAME, NAME))
 SESSION, STEP = re.compile('session (\\d+)'), re.compile('by \\[(\\d+)\\]')
 WANTED = {'lost update (G-single)', 'read skew (G-single)', 'circular information flow (G1c)', 'long fork (G-nonadjacent-item)', 'aborted read (G1a)',
-          'intermediate read (G1b)', 'stale read (G-single-realtime)', 'steps', 'neither', 'circle', 'session', 'moments'}
+          'intermediate read (G1b)', 'stale read (G-single-realtime)', 'steps', 'neither', 'circle', 'session', 'moments', 'later', 'evidence'}
 
 
 # Two writers of a key: what the first sentence says begins with one of them and ends at the other.
 TWO_WRITERS = '\n'.join('session 1,begin,r z 2,r w 0,w k 10,commit,session 2,begin,r y 0,w k 11,w w 12,commit,session 3,begin,w y 1,w z 2,commit,'.split(',')).encode()
 TWO_SAID = "in short: 1.1 and 2.1 both wrote k. If 1.1 came first, 2.1 did not see 3.1's y; 1.1 saw 3.1's z. If 2.1 came first, 1.1 did not see 2.1's w"
+
+
+def replicas_text(seed):
+    """A log of a store with some replicas, each of which shows the transactions of the others later, in an order of its own. It mostly keeps
+    causal consistency and breaks prefix consistency."""
+    r = random.Random(seed)
+    keys, stores = 'xyzk'[:r.randint(2, 4)], [{} for _ in range(r.randint(2, 3))]
+    late, sessions, wid = [[] for _ in stores], [(number, []) for number in range(1, r.randint(2, 5) + 1)], 0
+    for turn in range(r.randint(5, 14)):
+        number, transactions = r.choice(sessions)
+        place = (number - 1) % len(stores) if r.random() < 0.9 else r.randrange(len(stores))
+        while late[place] and r.random() < 0.6:
+            stores[place].update(late[place].pop(0 if r.random() < 0.7 else r.randrange(len(late[place]))))
+        ops, own = [], {}
+        for key in r.choices(keys, k=r.randint(1, 4)):
+            if r.random() < 0.55:
+                ops.append(('r', key, own.get(key, stores[place].get(key, 0))))
+            else:
+                wid += 1
+                own[key] = wid
+                ops.append(('w', key, wid))
+        stores[place].update(own)
+        for other, waiting in enumerate(late):
+            waiting += [own] if own and other != place else []
+        transactions.append(reference.Transaction(tuple(ops), 'commit', None, None))
+    return generate.text_of([it for it in sessions if it[1]])
 
 
 class Log:
@@ -93,6 +120,8 @@ class Telling:
     def __init__(self, log, names, lines, level):
         self.log, self.names, self.left, self.level = log, names, list(lines), level
         self.steps, self.named, self.met, self.told, self.sides, self.alone = {}, set(), set(), [], [], []
+        # The point of the other one before which a step says that one commits.
+        self.behind = 'commit' if level == 'prefix' else 'snapshot'
         if FORCED in self.left:  # told last, and read first
             at = self.left.index(FORCED)
             self.left = self.left[at + 1:] + self.left[:at]
@@ -147,7 +176,7 @@ class Telling:
         else:
             found = STEP.fullmatch(reason)
             must(found, 'no reason: %r' % reason)
-            is_right = self.step(found[1]) == (one[0], other[0]) and shape == ('commit', 'snapshot')
+            is_right = self.step(found[1]) == (one[0], other[0]) and shape == ('commit', self.behind)
         must(is_right, 'that does not follow: %s before %s: %s' % (one, other, reason))
 
     def step(self, number):
@@ -199,14 +228,14 @@ class Telling:
         return [it + CONCLUSION * (is_circle and len(words) > 2) for it in said]
 
     def not_first(self, node, other):
-        """Why a node cannot commit before another takes its snapshot."""
+        """Why a node cannot commit before that point of another."""
         found, self.told = WOULD.fullmatch(self.left[0]), []
         if not found:
             first, last = self.way('    ')
             self.sides.append([self.words(*edge) for edge in self.told])
             # of each side that is one edge: a read of a version that its reader and the other one overwrite
             self.alone += [OVERWRITES.fullmatch(reason) for _, _, reason in self.told if len(self.told) == 1]
-            must(self.leads((other, 'snapshot'), first) and self.leads(last, (node, 'commit')), 'this leads from %s to %s' % (first, last))
+            must(self.leads((other, self.behind), first) and self.leads(last, (node, 'commit')), 'this leads from %s to %s' % (first, last))
             return
         self.left.pop(0)
         reader, writer, again, key, wid, line, of, writer_again, new, at = found.groups()
@@ -220,9 +249,10 @@ class Telling:
         while self.left and self.left[0].startswith('['):
             line = self.left.pop(0)
             if found := FORCED_STEP.fullmatch(line):
-                number, first, second, key, at, at_second, again = found.groups()
+                number, first, second, point, key, at, at_second, again = found.groups()
                 self.log.must_both(first, second, key, at, at_second)
-                must(again == second, line)
+                must((again, point) == (second, self.behind), line)
+                self.met |= {'later'} if point == 'commit' else set()
                 self.not_first(second, first)
             elif found := WAY_STEP.fullmatch(line):
                 number, first, second = found.groups()
@@ -285,12 +315,14 @@ def told(program, text, level):
     must('\n'.join(['', *lines[1:3 + len(why)], '']) in again or not log.nodes, '`explain --level` says something else: %r' % again)
     try:
         if why[0] == BY_SEARCH:
-            must(why[1] == 'why they have no serial order either:' and not any('(G2-' in line for line in why), 'told: %r' % why)
+            must(why[1:2] == ['why they have no serial order either:'] and not any('(G2-' in line for line in why), 'told: %r' % why)
             return {'by a search'}
         if code and re.fullmatch('A[1-6]', code):
             for wid, line in re.findall(r'reads %s (\d+) \(line (\d+)\)' % KEY[1:-1], '\n'.join(why)):
                 must(log.lines[int(line) - 1].split(' ')[::2] == ['r', wid], 'line %s is another one: %r' % (line, why))
             return {line[len('known as: '):] for line in why if line.startswith('known as: ')} | {code}
+        if level == 'prefix' and not any("'s commit" in line or "'s snapshot" in line for line in why):
+            return {'evidence'}
         telling = Telling(log, names, why, level)
         telling.all()
         return telling.met
@@ -313,7 +345,9 @@ def main():
     words.add_argument('--seed', type=int, default=SEED, help='from which number they are made (%(default)s)')
     words = words.parse_args()
     texts = list(generate.examples((1, 2, 3))) + [('two writers', TWO_WRITERS)]
-    texts += [('made log %d' % seed, level_model.points_text(seed)) for seed in range(words.seed, words.seed + words.cases)]
+    seeds = range(words.seed, words.seed + words.cases)
+    texts += [('made log %d' % seed, level_model.points_text(seed)) for seed in seeds]
+    texts += [('log of replicas %d' % seed, replicas_text(seed)) for seed in seeds[::2]]
     program, faults, met = os.path.abspath(words.program), [], collections.Counter()
     with concurrent.futures.ProcessPoolExecutor(LANES) as pool:
         for fault, what in pool.map(judged, [(program, name, text) for name, text in texts], chunksize=10):

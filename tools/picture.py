@@ -49,14 +49,16 @@ KINDS = {
     'version order': "the first one saw the key's initial value, or an update of it; the second one wrote the key and had not read it",
     'moments': 'the first one was committed before the second one began',
     'forced': 'a step of pruning keeps it: the other way is impossible',
-    'first committer': 'both write one key, and a step says which of them commits before the other takes its snapshot',
+    'first committer': 'both write one key, and a step says which of them commits first',
     'decided': 'it holds in this branch: an order of two versions is supposed',
     'otherwise': 'what would hold the other way, and cannot',
 }
 STEP = ('Suppose that of %s the version of %s came before that of %s. Then %s would have to stand before %s '
         '(dashed). But %s stands before %s, by the bold arrows. So it is the other way round, and this step keeps that.')
-FIRST_COMMITTER = ('Both %s and %s write %s. Suppose that %s committed before %s took its snapshot (dashed). A circle closes then, by the bold arrows. '
+FIRST_COMMITTER = ('Both %s and %s write %s. Suppose that %s committed before %s %s (dashed). A circle closes then, by the bold arrows. '
                    'So it is the other way round, and this step keeps that.')
+# What a transaction did at each of its points.
+DONE = {'snapshot': 'took its snapshot', 'commit': 'committed'}
 READING = ('Each column is a session, and time runs downwards, %s. <code>r KEY ID</code> read the write with this identity, <code>w KEY ID</code> '
            'wrote it, as in the log. What is told is bold; pale boxes are neighbours in the session. Point at an operation to see its key '
            '(underlined) and its identity (filled) wherever they stand; click to keep that.')
@@ -352,8 +354,8 @@ def scene_of_side(history, side, title, is_supposed=True):
     scene, node, other = Scene(history, title), side.node, side.other
     scene.add_edges(side.walk)
     if is_supposed:
-        said = "supposed: %s's commit before %s's snapshot: both write %s" % (node, other, side.key)
-        ends = [history.point(node, 'commit'), history.point(other, 'snapshot')]
+        said = "supposed: %s's commit before %s's %s: both write %s" % (node, other, side.end, side.key)
+        ends = [history.point(node, 'commit'), history.point(other, side.end)]
         scene.add(Arrow(node, other, 'decided', 'supposed: commits first', said, *ends, look='otherwise', number=side.line))
         for name in (node, other):
             scene.tell(name, history.first(name, 'w', side.key)[0])
@@ -444,7 +446,9 @@ class Page:
         drawing, bold = '', lambda *its: tuple(element('b', escape(it)) for it in its)
         if isinstance(step, told.PointStep):
             one, other = step.second, step.first
-            words = FIRST_COMMITTER % bold(one, other, step.side.key, one, other) if step.is_supposed else escape(step.said)
+            words = escape(step.said)
+            if step.is_supposed:
+                words = FIRST_COMMITTER % (*bold(one, other, step.side.key, one, other), DONE[step.side.end])
             drawing = self.picture(scene_of_side(self.history, step.side, 'Step %d' % step.number, step.is_supposed)) if draw else drawing
         else:
             words = STEP % bold(step.key, step.second, step.first, step.late, step.first, step.first, step.late)

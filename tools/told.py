@@ -64,7 +64,7 @@ NOT_FIRST = re.compile('%s cannot commit first:' % NODE)
 WOULD = re.compile(r"%s's snapshot comes after %s's commit, but %s reads %s [0-9]+ \(line %s\) of %s, which %s would have overwritten with "
                    r'[0-9]+ \(line %s\):' % (NODE, NODE, NODE, KEY, NUMBER, NODE, NODE, NUMBER))
 FORCED_POINTS = re.compile('these orders of snapshots and commits are forced:')
-POINT_STEP = re.compile(r"\[%s\] %s's commit before %s's snapshot:(?: (.+))?" % (NUMBER, NODE, NODE))
+POINT_STEP = re.compile(r"\[%s\] %s's commit before %s:(?: (.+))?" % (NUMBER, NODE, POINT))
 STEP_OF_BOTH = re.compile('%s, and %s cannot commit first:' % (BOTH, NODE))
 BY_SEARCH, NEITHER_SERIAL = 'no order of their snapshots and commits is left: a search shows it', 'why they have no serial order either:'
 # The code of a log of which every cube is refuted: it has none of its own. Those of points, and of a part of which nothing is told that has a form.
@@ -128,7 +128,7 @@ class Step:
 
 @dataclass
 class Side:
-    """Why `node` cannot commit before `other` takes its snapshot: the walk leads from that snapshot to the node's commit. Where `reader` is named,
+    """Why `node` cannot commit before the `end` of `other`, its snapshot or its commit: the walk leads from that to the node's commit. Where `reader` is named,
     it read a version of the node in one line, which the other would have overwritten in another; then the walk leads from the other's commit to
     the reader's snapshot. A step that needs no supposition has its walk alone, from `other` to `node`."""
     line: int
@@ -138,11 +138,12 @@ class Side:
     key: Optional[str] = None
     reader: Optional[str] = None
     lines: tuple = ()
+    end: str = 'snapshot'
 
 
 @dataclass
 class PointStep:
-    """The commit of `first` comes before the snapshot of `second`. Where `is_supposed`, since both write a key and `side` says why not the other
+    """The commit of `first` comes before the snapshot, or the commit, of `second`. Where `is_supposed`, since both write a key and `side` says why not the other
     way; else by the walk of `side`."""
     line: int
     number: int
@@ -262,11 +263,11 @@ class Reader:
             step = self.next(POINT_STEP)
             if step is None:
                 return found
-            line, number, first, second, said = step
+            line, number, first, second, end, said = step
             both = STEP_OF_BOTH.fullmatch(said or '')
-            shown = [Edge(line, first, second, said, *kind_of(said), ('commit', 'snapshot'))] if said and not both else []
+            shown = [Edge(line, first, second, said, *kind_of(said), ('commit', end))] if said and not both else []
             side = Side(line, second, first, shown) if shown else self.side(line, second, first)
-            side.key = both[1] if both else side.key
+            side.key, side.end = both[1] if both else side.key, end
             found.append(PointStep(line, int(number), first, second, self.lines[line - 1], side, both is not None))
 
     def cycle(self, depth=0):

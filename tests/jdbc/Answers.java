@@ -51,9 +51,12 @@ public final class Answers {
                 ask(run, "commit", new SQLException("made", state), false, writes);
             ask(run, "commit", new SQLTransientConnectionException("made", "HY000", 1205), false, writes);
             ask(run, "commit", new SQLException("closed"), true, writes);
+            ask(run, "commit", new SQLException("[SQLITE_BUSY] The database file is locked"), false, writes);
             ask(run, "commit", new IllegalStateException("made"), false, writes);
+            ask(run, "commit", new IllegalStateException("made"), true, writes);
             for (SQLException fault : Arrays.asList(new SQLException("made", "40001"), new SQLException("made", "XCL16"), new SQLException("made", "90131"),
-                    new SQLException("made", "HY000", 1020), new SQLException("made", "HY000", 7), new SQLException("Transaction 2 has status ROLLING_BACK, not OPEN", "HY000", 50000), new SQLException("made", "HY000", 50000), new SQLException("made", "42S02"), new SQLException("made", "08006"), new SQLException("made", "57014"))) {
+                    new SQLException("made", "HY000", 1020), new SQLException("made", "HY000", 7), new SQLException("Transaction 2 has status ROLLING_BACK, not OPEN", "HY000", 50000), new SQLException("made", "HY000", 50000), new SQLException("made", "42S02"), new SQLException("made", "08006"), new SQLException("made", "57014"),
+                    new SQLException("[SQLITE_BUSY_SNAPSHOT] Another database connection has already written to the database"))) {
                 ask(run, "prepareStatement", fault, false, (connection, txn) -> {
                     txn.write("x");
                     connection.prepareStatement("");
@@ -68,6 +71,8 @@ public final class Answers {
                 });
             }
             ask(run, "prepareStatement", new SQLException("closed"), true, (connection, txn) -> connection.prepareStatement(""));
+            ask(run, "prepareStatement", new NullPointerException("closed"), true, (connection, txn) -> connection.prepareStatement(""));
+            ask(run, "prepareStatement", new NullPointerException("made"), false, (connection, txn) -> connection.prepareStatement(""));
             ask(run, "createStatement", new SQLException("back to a savepoint", "23505"), false, (connection, txn) -> {
                 txn.write("x");
                 try {
@@ -79,6 +84,13 @@ public final class Answers {
             ask(run, "closed", null, true, writes);
             ask(run, "body", new IllegalStateException("made"), false, (connection, txn) -> {
                 throw new IllegalStateException("made");
+            });
+            ask(run, "prepareStatement", new SQLException("closed"), true, (connection, txn) -> {
+                try {
+                    connection.prepareStatement("");
+                } catch (SQLException caught) {
+                    throw new IllegalStateException("of the body itself");
+                }
             });
             ask(run, "aborts", null, false, (connection, txn) -> txn.abort());
             ask(run, "commits", null, false, (connection, txn) -> connection.commit());

@@ -212,12 +212,12 @@ abbrev pub is_open : Option Word → Bool
 is_open (Some word.Unknown) = true
 is_open _ = false
 
-abbrev pub is_refuted : Word → Bool
-is_refuted word.NotSerializable = true
-is_refuted _ = false
+abbrev pub is_order_refuted : Word → Bool
+is_order_refuted word.NotSerializable = true
+is_order_refuted _ = false
 
 abbrev pub is_some_open : Told → Bool
-is_some_open told = is_refuted (word_of told.answer) && list_any is_open (weaker_words told)
+is_some_open told = is_order_refuted (word_of told.answer) && list_any is_open (weaker_words told)
 
 abbrev pub promise_text : Option Word → List ℕ
 promise_text without = if is_kept without then codes "a store that promises no strict level"

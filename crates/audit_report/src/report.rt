@@ -11,7 +11,7 @@ ghost use Rattle.audit_report.specs.Report.{listed, codes_where, behind_first, l
 ghost use Rattle.audit_report.specs.Report.{level_row, weaker_text, short_title, found_text};
 ghost use Rattle.audit_report.specs.Report.{kept_line, shown_by, snapshot_row, broken_text, last_part};
 ghost use Rattle.audit_report.specs.Report.{lower_text, title_of, why_lowest, lowest_part};
-ghost use Rattle.audit_report.specs.Report.{weaker_words, is_some_kept, is_open, is_refuted, is_some_open};
+ghost use Rattle.audit_report.specs.Report.{weaker_words, is_some_kept, is_open, is_order_refuted, is_some_open};
 ghost use Rattle.audit_report.specs.Report.{promise_text, blame_text};
 ghost use Rattle.audit_report.specs.Lower.{or_above, weakest_of};
 ghost use Rattle.audit_report.specs.Words as spec;
@@ -529,8 +529,8 @@ fn is_open(word: Option<Word>) -> bool
 }
 
 /// Whether a word says that there is no order.
-fn is_refuted(word: Word) -> bool
-    ensures { result ≡ is_refuted word }
+fn is_order_refuted(word: Word) -> bool
+    ensures { result ≡ is_order_refuted word }
 {
     matches!(word, Word::NotSerializable)
 }
@@ -546,7 +546,7 @@ fn is_one_open(told: &Told) -> bool
 fn is_some_open(told: &Told) -> bool
     ensures { result ≡ is_some_open told.now }
 {
-    is_refuted(word_of(&told.answer)) && is_one_open(told)
+    is_order_refuted(word_of(&told.answer)) && is_one_open(told)
 }
 
 /// Appends which store promises no more than that.

@@ -1,32 +1,60 @@
 -- The nodes at places.
-use Rattle.std.proofs.Common.{◌≡◌, ℕ, zero, suc, ◌+◌, ◌<◌, ◌≤◌, true, List, [], ◌∷◌, length, Option, Some, None, refl, sym, ap, ◌∙◌, subst, inl, inr, arith}
-use Rattle.std.specs.Prelude.{slice_get, option_and_then, map}
-use Rattle.std.specs.List.{Contains}
+use Rattle.std.proofs.Common.{◌≡◌, ℕ, zero, suc, ◌+◌, ◌<◌, ◌≤◌, Bool, true, false, ◌&&◌, ◌||◌, List, [], ◌∷◌, length, Option, Some, None, refl, sym, ap, ◌∙◌, subst, inl, inr, arith, map}
+use Rattle.std.specs.Prelude.{slice_get, option_and_then}
+use Rattle.std.specs.List.{Contains, filter, enumerate_from, list_any}
 use Rattle.std.specs.Option.{option_map_or}
-use Rattle.std.proofs.lemmas.Bool.{cases_Bool, cases_order}
-use Rattle.std.proofs.lemmas.Option.{same_Some, slice_get_within}
-use Rattle.list_lemmas.proofs.Elements.{behind, contains_at, same_item}
+use Rattle.std.proofs.lemmas.Bool.{cases_order, and_parts, false≢true, cond-true}
+use Rattle.std.proofs.lemmas.Option.{same_Some, cond_some, slice_get_within, slice_get-get_or}
+use Rattle.list_lemmas.proofs.Elements.{contains_at, same_item, mapped, some_at}
 use Rattle.session_log.specs.Text.{ClientSession, Transaction}
+use Rattle.session_log.specs.declared.session.Op.{Op}
 use Rattle.serializability.proofs.Places.{Apart-from_IsDistinct}
 use Rattle.log_definitions.specs.Unknown.{is_committed}
 use Rattle.log_definitions.specs.Serial.{Committed, committed_of, committed_in, node_of, session_of, ops_of}
-use Rattle.log_definitions.proofs.Settled.{IsLearnt}
 use Rattle.log_laws.specs.Logs.{IsSoundLog, IsLearntLog}
-use Rattle.log_laws.proofs.Txns.{split}
-use Rattle.log_laws.proofs.Lists.{in_flat}
-use Rattle.log_laws.proofs.Moments.{place_in}
+use Rattle.log_laws.proofs.Lists.{in_flat, of_flat, kept as kept_by, of_kept, of_mapped}
 use Rattle.log_laws.proofs.Orders.{InOrder, pair_at, one_place}
-use Rattle.log_laws.proofs.Sessions.{nodes_from, nodes_of, in_order}
-use Rattle.log_laws.proofs.Shifted.{nodes_are}
+use Rattle.log_laws.proofs.Sessions.{nodes_from, in_order}
+use Rattle.level_laws.proofs.Nodes.{nodes_are, is_node}
 use Rattle.node_names.specs.Names.{node_at}
-use Rattle.level_refutations.specs.declared.evidence.TxnAt.{TxnAt}
+use Rattle.level_refutations.specs.declared.evidence.{TxnAt.TxnAt}
 use Rattle.level_refutations.specs.Places.{kept, kept_at, txn_at}
+use Rattle.level_refutations.specs.Whys.{place}
 use Rattle.level_refutations.specs.Laws.{Stands}
 
--- ---- options
+-- ---- options, tests and lists
 pub and_then_some : {A B : Type 0} (f : A → Option B) (o : Option A) (b : B) → option_and_then f o ≡ Some b → (a : A) × (o ≡ Some a) × (f a ≡ Some b)
 and_then_some f None b e = cc
 and_then_some f (Some a) b e = (a, refl, e)
+
+pub map_or_true : {X : Type 0} (f : X → Bool) (o : Option X) → option_map_or f o false ≡ true → (x : X) × (o ≡ Some x) × (f x ≡ true)
+map_or_true f None t = absurd (false≢true t)
+map_or_true f (Some x) t = (x, refl, t)
+
+pub four_parts : (a b c d : Bool) → (a && (b && (c && d))) ≡ true → (a ≡ true) × (b ≡ true) × (c ≡ true) × (d ≡ true)
+four_parts a b c d t =
+    let p = and_parts a (b && (c && d)) t in
+    let q = and_parts b (c && d) p.1 in
+    let r = and_parts c d q.1 in
+    (p.0, q.0, r.0, r.1)
+
+pub any_map : {X Y : Type 0} (p : Y → Bool) (f : X → Y) (xs : List X) → list_any p (map f xs) ≡ list_any (λ x. p (f x)) xs
+any_map p f [] = refl
+any_map p f (x ∷ xs) = ap (λ b. p (f x) || b) (any_map p f xs)
+
+pub index_of : {X : Type 0} (xs : List X) (x : X) → Contains xs x → (i : ℕ) × (slice_get xs i ≡ Some x)
+index_of xs x c = (c.0, slice_get-get_or xs c.0 x c.1 ∙ ap Some c.2)
+
+-- an item with its number
+pub numbered_at : {X : Type 0} (n i j : ℕ) (xs : List X) (x : X) → slice_get xs i ≡ Some x → n + i ≡ j → slice_get (enumerate_from n xs) i ≡ Some (j, x)
+numbered_at n i j [] x e f = cc
+numbered_at n zero j (y ∷ xs) x e f = let here : n ≡ j = omega (arith, f) in ap (λ k. Some (k, y)) here ∙ ap (λ z. Some (j, z)) (same_Some y x e)
+numbered_at n (suc i) j (y ∷ xs) x e f = numbered_at (n + 1) i j xs x e (omega (arith, f))
+
+pub of_numbered : {X : Type 0} (n i : ℕ) (xs : List X) (p : ℕ × X) → slice_get (enumerate_from n xs) i ≡ Some p → (slice_get xs i ≡ Some p.1) × (p.0 ≡ n + i)
+of_numbered n i [] p e = cc
+of_numbered n zero (y ∷ xs) p e = let same = same_Some (n, y) p e in let here : n ≡ n + 0 = omega arith in (ap (λ q. Some q.1) same, sym (ap (λ q. q.0) same) ∙ here)
+of_numbered n (suc i) (y ∷ xs) p e = let r = of_numbered (n + 1) i xs p e in let number = r.1 in (r.0, omega (arith, number))
 
 -- ---- the transaction at a place
 pub record At (ss : List ClientSession) (at : TxnAt) (t : Transaction) : Type 0 where
@@ -35,51 +63,48 @@ pub record At (ss : List ClientSession) (at : TxnAt) (t : Transaction) : Type 0 
   pub stands : slice_get session.txns at.txn ≡ Some t
   pub committed : is_committed t ≡ true
 
-kept_is : (t u : Transaction) → kept t ≡ Some u → (t ≡ u) × (is_committed t ≡ true)
-kept_is t u e = elim (cases_Bool (is_committed t)) [
-  | inl c ↦ let f : Some t ≡ Some u = rw c at e in (same_Some t u f, c)
-  | inr c ↦ let f : None ≡ Some u = rw c at e in cc
-]
-
 pub at_place : (ss : List ClientSession) (at : TxnAt) (t : Transaction) → txn_at ss at ≡ Some t → At ss at t
 at_place ss at t e =
     let s = and_then_some (λ (s : ClientSession). kept_at s.txns at.txn) (slice_get ss at.session) t e in
     let u = and_then_some kept (slice_get s.0.txns at.txn) t s.2 in
-    let k = kept_is u.0 t u.2 in
-    record { session = s.0; picked = s.1; stands = u.1 ∙ ap Some k.0; committed = ap is_committed (sym k.0) ∙ k.1 }
+    let k = cond_some (is_committed u.0) u.0 t u.2 in
+    record { session = s.0; picked = s.1; stands = u.1 ∙ ap Some k.1; committed = ap is_committed (sym k.1) ∙ k.0 }
+
+pub found_at : (ss : List ClientSession) (i j : ℕ) (s : ClientSession) (t : Transaction) → slice_get ss i ≡ Some s → slice_get s.txns j ≡ Some t → is_committed t ≡ true → txn_at ss (place i j) ≡ Some t
+found_at ss i j s t e f c = ap (option_and_then (λ (x : ClientSession). kept_at x.txns j)) e ∙ ap (option_and_then kept) f ∙ cond-true (is_committed t) (Some t) None c
 
 -- ---- its node
-node_from : (number n i : ℕ) (ts : List Transaction) (t : Transaction) → slice_get ts i ≡ Some t → is_committed t ≡ true → Contains (nodes_from number n ts) (node_at number (n + i) t)
-node_from number n i [] t e c = cc
-node_from number n zero (u ∷ ts) t e c =
-    let same = same_Some u t e in
-    let here : n ≡ n + 0 = omega arith in
-    let is : is_committed u ≡ true = ap is_committed same ∙ c in
-    rw is (0, omega arith, ap (λ m. node_at number m u) here ∙ ap (node_at number (n + 0)) same)
-node_from number n (suc i) (u ∷ ts) t e c =
-    let next : (n + 1) + i ≡ n + suc i = omega arith in
-    let later = subst (λ m. Contains (nodes_from number (n + 1) ts) (node_at number m t)) next (node_from number (n + 1) i ts t e c) in
-    elim (cases_Bool (is_committed u)) [
-      | inl is ↦ rw is (behind (node_at number n u) (nodes_from number (n + 1) ts) (node_at number (n + suc i) t) later)
-      | inr is ↦ rw is later
-    ]
+abbrev made : ℕ → ℕ × Transaction → Committed
+made number p = node_at number p.0 p.1
 
-pub are_nodes : (ss : List ClientSession) → IsLearntLog ss → committed_in ss ≡ nodes_of ss
-are_nodes ss learnt = nodes_are ss (split IsLearnt ss learnt)
+abbrev is_kept : ℕ × Transaction → Bool
+is_kept p = is_committed p.1
 
-pub node_there : (ss : List ClientSession) (k : ℕ) (c : Committed) → slice_get (committed_in ss) k ≡ Some c → node_of ss (suc k) ≡ Some c
+node_from : (number n i j : ℕ) (ts : List Transaction) (t : Transaction) → slice_get ts i ≡ Some t → is_committed t ≡ true → n + i ≡ j → Contains (nodes_from number n ts) (node_at number j t)
+node_from number n i j ts t e c f =
+    let all = enumerate_from n ts in
+    mapped (made number) (filter is_kept all) (j, t) (kept_by is_kept all (j, t) (contains_at all i (j, t) (numbered_at n i j ts t e f)) c)
+
+place_from : (number n : ℕ) (ts : List Transaction) (c : Committed) → Contains (nodes_from number n ts) c → (i : ℕ) × (t : Transaction) × (slice_get ts i ≡ Some t) × (is_committed t ≡ true) × (c ≡ node_at number (n + i) t)
+place_from number n ts c d =
+    let all = enumerate_from n ts in
+    let m = of_mapped (made number) (filter is_kept all) c d in
+    let k = of_kept is_kept all m.0 m.1 in
+    let x = index_of all m.0 k.0 in
+    let w = of_numbered n x.0 ts m.0 x.1 in
+    (x.0, m.0.1, w.0, k.1, sym m.2 ∙ ap (λ j. node_at number j m.0.1) w.1)
+
+node_there : (ss : List ClientSession) (k : ℕ) (c : Committed) → slice_get (committed_in ss) k ≡ Some c → node_of ss (suc k) ≡ Some c
 unfolding node_of
 node_there ss k c e = e
 
 pub standing : (ss : List ClientSession) (at : TxnAt) (t : Transaction) → IsLearntLog ss → txn_at ss at ≡ Some t → (v : ℕ) × Stands ss at v
 standing ss at t learnt e =
     let p = at_place ss at t e in
-    let own = node_from p.session.number 1 at.txn p.session.txns t p.stands p.committed in
-    let same : 1 + at.txn ≡ at.txn + 1 = omega arith in
     let node = node_at p.session.number (at.txn + 1) t in
-    let here = subst (λ m. Contains (committed_of p.session) (node_at p.session.number m t)) same own in
+    let here : Contains (committed_of p.session) node = node_from p.session.number 1 at.txn (at.txn + 1) p.session.txns t p.stands p.committed (omega arith) in
     let all = in_flat committed_of ss p.session node (contains_at ss at.session p.session p.picked) here in
-    let k = place_in (committed_in ss) node (subst (λ l. Contains l node) (sym (are_nodes ss learnt)) all) in
+    let k = index_of (committed_in ss) node (subst (λ l. Contains l node) (sym (nodes_are ss learnt)) all) in
     (suc k.0, record { session = p.session; txn = t; picked = p.picked; found = e; node = node_there ss k.0 node k.1 })
 
 -- ---- what is known of it
@@ -90,18 +115,18 @@ pub session_is : (ss : List ClientSession) (at : TxnAt) (v : ℕ) (s : Stands ss
 session_is ss at v s = ap (λ o. option_map_or (λ (c : Committed). c.session) o 0) s.node
 
 -- a node is numbered from 1
-pub record Numbered (ss : List ClientSession) (v : ℕ) (c : Committed) : Type 0 where
+record Numbered (ss : List ClientSession) (v : ℕ) (c : Committed) : Type 0 where
   pub index : ℕ
   pub number : v ≡ suc index
   pub stands : slice_get (committed_in ss) index ≡ Some c
 
-pub numbered : (ss : List ClientSession) (v : ℕ) (c : Committed) → node_of ss v ≡ Some c → Numbered ss v c
+numbered : (ss : List ClientSession) (v : ℕ) (c : Committed) → node_of ss v ≡ Some c → Numbered ss v c
 unfolding node_of
 numbered ss zero c e = cc
 numbered ss (suc k) c e = record { index = k; number = refl; stands = e }
 
-pub by_place : (ss : List ClientSession) → IsSoundLog ss → IsLearntLog ss → InOrder (committed_in ss)
-by_place ss sound learnt = subst InOrder (sym (are_nodes ss learnt)) (in_order ss (Apart-from_IsDistinct (map (λ (s : ClientSession). s.number) ss) sound.sessions))
+by_place : (ss : List ClientSession) → IsSoundLog ss → IsLearntLog ss → InOrder (committed_in ss)
+by_place ss sound learnt = subst InOrder (sym (nodes_are ss learnt)) (in_order ss (Apart-from_IsDistinct (map (λ (s : ClientSession). s.number) ss) sound.sessions))
 
 -- a place has one node
 pub one_node : (ss : List ClientSession) (at : TxnAt) (u v : ℕ) → IsSoundLog ss → IsLearntLog ss → Stands ss at u → Stands ss at v → u ≡ v
@@ -114,23 +139,32 @@ one_node ss at u v sound learnt s r =
     let y = numbered ss v node (r.node ∙ ap Some same) in
     x.number ∙ ap suc (one_place (committed_in ss) x.index y.index node (by_place ss sound learnt) x.stands y.stands) ∙ sym y.number
 
--- of one session, the one that stands before the other has the lower number
+-- of one session, the one with the lower number has the lower place there
+pub lower : (ss : List ClientSession) (a b : TxnAt) (u v : ℕ) → IsSoundLog ss → IsLearntLog ss → (s : Stands ss a u) (r : Stands ss b v) → s.session.number ≡ r.session.number → u < v → a.txn < b.txn
+lower ss a b u v sound learnt s r e lt =
+    let one = node_at s.session.number (a.txn + 1) s.txn in
+    let other = node_at r.session.number (b.txn + 1) r.txn in
+    let x = numbered ss u one s.node in
+    let y = numbered ss v other r.node in
+    let f = x.number in
+    let g = y.number in
+    let less : x.index < y.index = omega (arith, f, g, lt) in
+    let places : a.txn + 1 < b.txn + 1 = pair_at (λ c d. c.session ≡ d.session → c.place < d.place) (committed_in ss) x.index y.index one other (by_place ss sound learnt) x.stands y.stands less e in
+    omega (arith, places)
+
+-- and the other way round
 pub in_session : (ss : List ClientSession) (a b : TxnAt) (u v : ℕ) → IsSoundLog ss → IsLearntLog ss → Stands ss a u → Stands ss b v → a.session ≡ b.session → a.txn < b.txn → u < v
 in_session ss a b u v sound learnt s r e lt =
-    let x = numbered ss u (node_at s.session.number (a.txn + 1) s.txn) s.node in
-    let y = numbered ss v (node_at r.session.number (b.txn + 1) r.txn) r.node in
     let session = same_item ss b.session s.session r.session (ap (slice_get ss) (sym e) ∙ s.picked) r.picked in
-    let number : s.session.number ≡ r.session.number = ap (λ (z : ClientSession). z.number) session in
-    elim (cases_order x.index y.index) [
+    let number : r.session.number ≡ s.session.number = ap (λ (z : ClientSession). z.number) (sym session) in
+    elim (cases_order u v) [
       | inl same ↦
-          let nodes = same_item (committed_in ss) y.index (node_at s.session.number (a.txn + 1) s.txn) (node_at r.session.number (b.txn + 1) r.txn) (ap (slice_get (committed_in ss)) (sym same) ∙ x.stands) y.stands in
-          let place : a.txn + 1 ≡ b.txn + 1 = ap (λ (c : Committed). c.place) nodes in
-          absurd (omega (arith, place, lt))
+          let nodes = same_Some (node_at s.session.number (a.txn + 1) s.txn) (node_at r.session.number (b.txn + 1) r.txn) (sym s.node ∙ ap (node_of ss) same ∙ r.node) in
+          let places : a.txn + 1 ≡ b.txn + 1 = ap (λ (c : Committed). c.place) nodes in
+          absurd (omega (arith, places, lt))
       | inr apart ↦ elim apart [
-        | inl less ↦ let p = x.number in let q = y.number in omega (arith, less, p, q)
-        | inr more ↦
-            let place = pair_at (λ a b. a.session ≡ b.session → a.place < b.place) (committed_in ss) y.index x.index (node_at r.session.number (b.txn + 1) r.txn) (node_at s.session.number (a.txn + 1) s.txn) (by_place ss sound learnt) y.stands x.stands more (sym number) in
-            absurd (omega (arith, place, lt))
+        | inl less ↦ less
+        | inr more ↦ let back = lower ss b a v u sound learnt r s number more in absurd (omega (arith, back, lt))
       ]
     ]
 
@@ -141,3 +175,24 @@ within ss at v s =
     let lt = slice_get_within (committed_in ss) x.index (node_at s.session.number (at.txn + 1) s.txn) x.stands in
     let e = x.number in
     (omega (arith, e), omega (arith, e, lt))
+
+-- ---- its place
+place_of_node : (ss : List ClientSession) (v : ℕ) (c : Committed) → IsLearntLog ss → node_of ss v ≡ Some c → (at : TxnAt) × Stands ss at v
+place_of_node ss v c learnt e =
+    let x = numbered ss v c e in
+    let f = of_flat committed_of ss c (subst (λ l. Contains l c) (nodes_are ss learnt) (contains_at (committed_in ss) x.index c x.stands)) in
+    let s = index_of ss f.0 f.1 in
+    let p = place_from f.0.number 1 f.0.txns c f.2 in
+    let number : 1 + p.0 ≡ p.0 + 1 = omega arith in
+    (place s.0 p.0, record { session = f.0; txn = p.1; picked = s.1; found = found_at ss s.0 p.0 f.0 p.1 s.1 p.2 p.3; node = e ∙ ap Some (p.4 ∙ ap (λ j. node_at f.0.number j p.1) number) })
+
+-- of one of 1 to n
+pub place_within : (ss : List ClientSession) (v : ℕ) → IsLearntLog ss → 0 < v → v ≤ length (committed_in ss) → (at : TxnAt) × Stands ss at v
+place_within ss zero learnt low high = absurd (omega (arith, low))
+place_within ss (suc i) learnt low high =
+    let c = some_at (committed_in ss) i (omega (arith, high)) in
+    place_of_node ss (suc i) c.0 learnt (node_there ss i c.0 c.1)
+
+-- of one with operations
+pub place_with : (ss : List ClientSession) (v : ℕ) (op : Op) → IsLearntLog ss → Contains (ops_of ss v) op → (at : TxnAt) × Stands ss at v
+place_with ss v op learnt c = let is = is_node ss v op c in place_within ss v learnt is.0 is.1

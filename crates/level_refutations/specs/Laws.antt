@@ -1,6 +1,5 @@
 -- What the edges of evidence say of nodes, and what follows of each order of a level.
-use Rattle.std.specs.Prelude.{◌≡◌, ◌≢◌, ◌⊎◌, ◌↔◌, ℕ, ◌+◌, IsTrue, List, length, Some, None}
-use Rattle.std.specs.Prelude.{slice_get}
+use Rattle.std.specs.Prelude.{◌≡◌, ◌≢◌, ◌⊎◌, ◌↔◌, ℕ, ◌+◌, IsTrue, List, length, Some, None, slice_get}
 use Rattle.std.specs.List.{Contains}
 use Rattle.session_log.specs.Text.{ClientSession, Transaction}
 use Rattle.session_log.specs.declared.session.Op.{Op}
@@ -10,18 +9,11 @@ use Rattle.log_definitions.specs.Serial.{committed_in, node_of, ops_of}
 use Rattle.log_laws.specs.Logs.{IsSoundLog, IsLearntLog}
 use Rattle.node_names.specs.Names.{node_at}
 use Rattle.seen_laws.specs.declared.level.Level.{Level}
-use Rattle.seen_laws.specs.Seen.{last_write, ReadsBehind, WritesKey, ReadsFrom, IsEarlier, Sees}
-use Rattle.seen_laws.specs.Seen.{IsLevelOrder, HasLevelOrder}
-use Rattle.level_refutations.specs.declared.evidence.TxnAt.{TxnAt}
-use Rattle.level_refutations.specs.declared.evidence.Edge.{Edge}
-use Rattle.level_refutations.specs.declared.evidence.Evidence.{Evidence}
+use Rattle.seen_laws.specs.Seen.{last_write, ReadsBehind, WritesKey, ReadsFrom, IsEarlier, Sees, IsLevelOrder, HasLevelOrder}
+use Rattle.level_refutations.specs.declared.evidence.{TxnAt.TxnAt, OpAt.OpAt, Hop.Hop, Step.Step, Edge.Edge, Evidence.Evidence}
 use Rattle.level_refutations.specs.Places.{txn_at}
-use Rattle.level_refutations.specs.declared.evidence.OpAt.{OpAt}
-use Rattle.level_refutations.specs.declared.evidence.Hop.{Hop}
-use Rattle.level_refutations.specs.declared.evidence.Step.{Step}
-use Rattle.level_refutations.specs.Edges.{is_edge, is_step, is_forced_by, is_initial_by}
-use Rattle.level_refutations.specs.Edges.{edge_from, edge_to}
-use Rattle.level_refutations.specs.Faults.{is_fault}
+use Rattle.level_refutations.specs.Edges.{is_edge, is_step, is_forced_by, is_initial_by, edge_from, edge_to}
+use Rattle.level_refutations.specs.Whys.{is_fault}
 use Rattle.level_refutations.specs.Refuted.{is_refuted}
 
 -- node v is the committed transaction at this place

@@ -2,9 +2,9 @@
 
 ghost use Rattle.std.specs.Prelude.{◌≡◌, length, IfOk};
 
-use crate::evidence::{Edge, Evidence, Fault, Hop, Overlooked, TxnAt};
+use crate::evidence::{Edge, Evidence, Fault, Overlooked, TxnAt};
 use crate::places::op_at;
-use session_log::{Op, Session, Txn};
+use session_log::{Op, Session};
 use std::alloc::{AllocError, Global};
 
 /// A flag for each transaction, in a row for each session.
@@ -27,23 +27,15 @@ fn name(rows: &mut [Vec<bool>], at: TxnAt) {
     }
 }
 
-/// Whether the transaction writes under this identity, by an operation of any key.
-fn has_written(txn: &Txn, wid: u64) -> bool {
-    for op in &txn.ops {
-        if let Op::Write { wid: written, .. } = op
-            && *written == wid
-        {
-            return true;
-        }
-    }
-    false
-}
-
-/// Names each transaction that writes under this identity, committed or not.
+/// Names each transaction that writes under this identity, committed or not, by an operation of any
+/// key.
 fn name_writers(rows: &mut [Vec<bool>], sessions: &[Session], wid: u64) {
     for (session, s) in sessions.iter().enumerate() {
         for (txn, t) in s.txns.iter().enumerate() {
-            if has_written(t, wid) {
+            if t.ops
+                .iter()
+                .any(|op| matches!(op, Op::Write { wid: w, .. } if *w == wid))
+            {
                 name(rows, TxnAt { session, txn });
             }
         }
@@ -59,26 +51,20 @@ fn name_fault(rows: &mut [Vec<bool>], sessions: &[Session], fault: Fault) {
     }
 }
 
-fn name_hop(rows: &mut [Vec<bool>], hop: Hop) {
-    name(rows, hop.from);
-    name(rows, hop.to);
-}
-
 fn name_overlooked(rows: &mut [Vec<bool>], overlooked: &Overlooked) {
     name(rows, overlooked.read.txn);
     name(rows, overlooked.write.txn);
     for hop in &overlooked.path {
-        name_hop(rows, *hop);
+        name(rows, hop.from);
+        name(rows, hop.to);
     }
 }
 
 fn name_edge(rows: &mut [Vec<bool>], edge: &Edge) {
-    match edge {
-        Edge::Known(hop) => name_hop(rows, *hop),
-        Edge::Forced { overlooked, found } => {
-            name(rows, found.txn);
-            name_overlooked(rows, overlooked);
-        }
+    name(rows, edge.from());
+    name(rows, edge.to());
+    if let Edge::Forced { overlooked, .. } = edge {
+        name_overlooked(rows, overlooked);
     }
 }
 

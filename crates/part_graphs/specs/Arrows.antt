@@ -20,9 +20,6 @@ anti_dependency_look = codes "anti-dependency\" color=\"red"
 abbrev pub version_order_look : List ℕ
 version_order_look = codes "version order\" color=\"darkgreen"
 
-abbrev pub moments_look : List ℕ
-moments_look = codes "moments\" color=\"purple"
-
 -- ---- arrows
 
 -- `"1.1" -> "2.1" [label="read" color="blue"];`
@@ -30,17 +27,10 @@ unfoldable pub arrow : Table → List ClientSession → TxnAt → TxnAt → List
 arrow table ss from to look = codes "\"" ++ (name_text table ss from ++ (codes "\" -> \""
     ++ (name_text table ss to ++ (codes "\" [label=\"" ++ (look ++ codes "\"];\n")))))
 
-abbrev pub txn_of : PointAt → TxnAt
-txn_of (Snapshot at) = at
-txn_of (Commit at) = at
-
-abbrev pub port : PointAt → List ℕ
-port (Snapshot at) = codes "\":snapshot"
-port (Commit at) = codes "\":commit"
-
 -- `"1.1":commit`
-abbrev pub end_text : Table → List ClientSession → PointAt → List ℕ
-end_text table ss p = codes "\"" ++ name_text table ss (txn_of p) ++ port p
+unfoldable pub end_text : Table → List ClientSession → PointAt → List ℕ
+end_text table ss (Snapshot at) = codes "\"" ++ (name_text table ss at ++ codes "\":snapshot")
+end_text table ss (Commit at) = codes "\"" ++ (name_text table ss at ++ codes "\":commit")
 
 -- `"1.1":commit -> "2.1":snapshot`
 abbrev pub ends_text : Table → List ClientSession → PointAt → PointAt → List ℕ

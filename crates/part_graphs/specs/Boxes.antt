@@ -2,13 +2,10 @@
 -- their lines, and how it ended, if it is not committed.
 use Rattle.std.specs.Prelude.{ℕ, ◌+◌, List, [], ◌∷◌, ◌++◌, codes, decimal}
 use Rattle.session_log.specs.Text.{ClientSession, Transaction}
-use Rattle.session_log.specs.declared.session.Op.{Op}
-use Rattle.session_log.specs.declared.session.Op.TheVariants.{Read, Write}
-use Rattle.session_log.specs.declared.session.Outcome.{Outcome}
+use Rattle.session_log.specs.declared.session.{Outcome.Outcome, Op.Op, Op.TheVariants.Read, Op.TheVariants.Write}
 use Rattle.session_log.specs.declared.session.Outcome.TheVariants.{Commit, Abort, Unknown}
 use Rattle.log_lines.specs.Rows.{Table}
-use Rattle.level_refutations.specs.declared.evidence.TxnAt.{TxnAt}
-use Rattle.level_refutations.specs.declared.evidence.OpAt.{OpAt}
+use Rattle.level_refutations.specs.declared.evidence.{TxnAt.TxnAt, OpAt.OpAt}
 use Rattle.level_refutations.specs.Edges.{op_of}
 use Rattle.tell_evidence.specs.Rows.{line_of, key_at, wid_at}
 use Rattle.tell_evidence.specs.Sentences.{name_text, in_line}

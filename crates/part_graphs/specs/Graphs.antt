@@ -4,9 +4,7 @@ use Rattle.std.specs.Prelude.{ℕ, ◌==◌, if◌then◌else◌, List, [], ◌�
 use Rattle.std.specs.List.{flat_map}
 use Rattle.session_log.specs.Text.{ClientSession}
 use Rattle.log_lines.specs.Rows.{Table}
-use Rattle.level_refutations.specs.declared.evidence.Overlooked.{Overlooked}
-use Rattle.level_refutations.specs.declared.evidence.Edge.{Edge}
-use Rattle.level_refutations.specs.declared.evidence.Evidence.{Evidence}
+use Rattle.level_refutations.specs.declared.evidence.{Overlooked.Overlooked, Edge.Edge, Evidence.Evidence}
 use Rattle.level_refutations.specs.declared.evidence.Evidence.TheVariants as evidence
 use Rattle.point_refutations.specs.declared.refutation.Refutation.{Refutation}
 use Rattle.tell_evidence.specs.Evidence.{evidence_text}

@@ -22,9 +22,6 @@ pub const ANTI_DEPENDENCY: &[u8] = b"anti-dependency\" color=\"red";
 /// The same of two versions of a key.
 pub const VERSION_ORDER: &[u8] = b"version order\" color=\"darkgreen";
 
-/// The same of moments.
-pub const MOMENTS: &[u8] = b"moments\" color=\"purple";
-
 /// Appends an arrow between two transactions, with this label and colour.
 #[tactic(auto, unfolding(crate::specs::Arrows::arrow))]
 pub fn put_arrow(
@@ -43,6 +40,7 @@ pub fn put_arrow(
 }
 
 /// Appends an end of an arrow: a point of a transaction.
+#[tactic(auto, unfolding(crate::specs::Arrows::end_text))]
 fn put_end(out: &mut Vec<u8>, log: &Log<'_>, point: PointAt) -> Result<(), AllocError>
     ensures put { OnOk result (out.new.items ≡ out.old.items
         ++ spec.end_text (rows_of log.now.places.now) (map view log.now.sessions.now) point) }

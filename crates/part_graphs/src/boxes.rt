@@ -6,7 +6,7 @@ ghost use Rattle.log_lines.specs.Rows.{rows_of};
 ghost use Rattle.part_graphs.specs.Boxes as spec;
 
 use level_refutations::{OpAt, TxnAt};
-use session_log::{Op, Outcome, Session, Txn};
+use session_log::{Op, Outcome, Txn};
 use std::alloc::AllocError;
 use tell_evidence::{Log, tell};
 
@@ -35,8 +35,7 @@ fn put_op(out: &mut Vec<u8>, log: &Log<'_>, at: OpAt, op: &Op) -> Result<(), All
     ensures put { OnOk result (out.new.items ≡ out.old.items ++ spec.op_text
         (rows_of log.now.places.now) (map view log.now.sessions.now) at op.now) }
 {
-    let word = op_word(op);
-    tell!(out, log; Text(word), Key(at), Text(b" "), Wid(at), AtLine(at))
+    tell!(out, log; Text(op_word(op)), Key(at), Text(b" "), Wid(at), AtLine(at))
 }
 
 /// Appends the operations of a transaction.
@@ -87,8 +86,7 @@ fn put_begin(out: &mut Vec<u8>, log: &Log<'_>, look: Look, at: TxnAt) -> Result<
     ensures put { OnOk result (out.new.items ≡ out.old.items ++ spec.box_begin
         (rows_of log.now.places.now) (map view log.now.sessions.now) look at) }
 {
-    let begin = label_begin(look);
-    tell!(out, log; Text(b"\""), Name(at), Text(begin), Name(at))
+    tell!(out, log; Text(b"\""), Name(at), Text(label_begin(look)), Name(at))
 }
 
 /// Appends the end of a box, of a transaction with this outcome.
@@ -96,9 +94,7 @@ fn put_begin(out: &mut Vec<u8>, log: &Log<'_>, look: Look, at: TxnAt) -> Result<
 fn put_end(out: &mut Vec<u8>, log: &Log<'_>, look: Look, outcome: Outcome) -> Result<(), AllocError>
     ensures put { OnOk result (out.new.items ≡ out.old.items ++ spec.box_end look outcome) }
 {
-    let words = outcome_text(outcome);
-    let end = label_end(look);
-    tell!(out, log; Text(words), Text(end))
+    tell!(out, log; Text(outcome_text(outcome)), Text(label_end(look)))
 }
 
 /// Appends the box of a transaction.
@@ -139,27 +135,13 @@ fn put_session(
     Ok(())
 }
 
-/// Appends the boxes of these sessions, which are those of the log.
-fn put_sessions(
-    out: &mut Vec<u8>,
-    log: &Log<'_>,
-    look: Look,
-    sessions: &[Session],
-) -> Result<(), AllocError>
-    ensures put { OnOk result (out.new.items ≡ out.old.items ++ spec.sessions_boxes
-        (rows_of log.now.places.now) (map view log.now.sessions.now) look 0
-        (map view sessions.now)) }
-{
-    for i in 0..sessions.len() {
-        put_session(out, log, look, i, &sessions[i].txns)?;
-    }
-    Ok(())
-}
-
 /// Appends a box for each transaction of the log.
 pub fn put_boxes(out: &mut Vec<u8>, log: &Log<'_>, look: Look) -> Result<(), AllocError>
     ensures put { OnOk result (out.new.items ≡ out.old.items ++ spec.boxes_text
         (rows_of log.now.places.now) (map view log.now.sessions.now) look) }
 {
-    put_sessions(out, log, look, log.sessions)
+    for i in 0..log.sessions.len() {
+        put_session(out, log, look, i, &log.sessions[i].txns)?;
+    }
+    Ok(())
 }

@@ -23,12 +23,6 @@ const BEGIN: &[u8] = b"digraph explanation {\nnode [shape=box];\n";
 const BEGIN_LINES: &[u8] =
     b"strict digraph explanation {\nnode [shape=box];\n\"anomaly\" [label=\"";
 
-/// The end of such a graph.
-const END_LINES: &[u8] = b"\"];\n}\n";
-
-/// The end of a graph.
-const END: &[u8] = b"}\n";
-
 /// A graph without boxes.
 pub fn empty_graph(alloc: Global) -> Result<Vec<u8>, AllocError>
     ensures graph { IfOk result (λ graph. graph.items ≡ spec.empty_graph) }
@@ -55,7 +49,7 @@ pub fn search_graph(
     out.extend_from_slice(words)?;
     out.extend_from_slice(BEGIN)?;
     put_boxes(&mut out, &Log { sessions, places }, Look::Plain)?;
-    out.extend_from_slice(END)?;
+    out.extend_from_slice(b"}\n")?;
     Ok(out)
 }
 
@@ -75,7 +69,7 @@ pub fn refutation_graph(
     out.extend_from_slice(BEGIN)?;
     put_boxes(&mut out, &log, Look::Points)?;
     put_refutation(&mut out, &log, refutation)?;
-    out.extend_from_slice(END)?;
+    out.extend_from_slice(b"}\n")?;
     Ok(out)
 }
 
@@ -93,17 +87,6 @@ fn put_label(out: &mut Vec<u8>, lines: &[u8]) -> Result<(), AllocError>
     Ok(())
 }
 
-/// Lines in the one box of a graph.
-fn lines_graph(alloc: Global, lines: &[u8]) -> Result<Vec<u8>, AllocError>
-    ensures graph { IfOk result (λ graph. graph.items ≡ spec.lines_graph lines.now) }
-{
-    let mut out = Vec::new(alloc);
-    out.extend_from_slice(BEGIN_LINES)?;
-    put_label(&mut out, lines)?;
-    out.extend_from_slice(END_LINES)?;
-    Ok(out)
-}
-
 /// A circle as a graph.
 fn circle_graph(alloc: Global, log: &Log<'_>, edges: &[Edge]) -> Result<Vec<u8>, AllocError>
     ensures graph { IfOk result (λ graph. graph.items ≡ spec.circle_graph
@@ -113,7 +96,7 @@ fn circle_graph(alloc: Global, log: &Log<'_>, edges: &[Edge]) -> Result<Vec<u8>,
     out.extend_from_slice(BEGIN)?;
     put_boxes(&mut out, log, Look::Plain)?;
     put_circle(&mut out, log, edges)?;
-    out.extend_from_slice(END)?;
+    out.extend_from_slice(b"}\n")?;
     Ok(out)
 }
 
@@ -126,7 +109,7 @@ fn initial_graph(alloc: Global, log: &Log<'_>, it: &Overlooked) -> Result<Vec<u8
     out.extend_from_slice(BEGIN)?;
     put_boxes(&mut out, log, Look::Plain)?;
     put_initial(&mut out, log, it)?;
-    out.extend_from_slice(END)?;
+    out.extend_from_slice(b"}\n")?;
     Ok(out)
 }
 
@@ -146,7 +129,11 @@ pub fn evidence_graph(
     match evidence {
         Evidence::Fault(_) => {
             let text = evidence_text(alloc, sessions, places, evidence)?;
-            lines_graph(alloc, &text)
+            let mut out = Vec::new(alloc);
+            out.extend_from_slice(BEGIN_LINES)?;
+            put_label(&mut out, &text)?;
+            out.extend_from_slice(b"\"];\n}\n")?;
+            Ok(out)
         }
         Evidence::Circle(edges) => circle_graph(alloc, &log, edges),
         Evidence::Initial(overlooked) => initial_graph(alloc, &log, overlooked),

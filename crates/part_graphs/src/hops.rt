@@ -40,6 +40,7 @@ fn put_path(out: &mut Vec<u8>, log: &Log<'_>, path: &[Hop]) -> Result<(), AllocE
 }
 
 /// Appends the read of what it names, and by which it sees what it overlooks.
+#[tactic(auto, unfolding(crate::specs::Hops::found_arrows))]
 fn put_found(
     out: &mut Vec<u8>,
     log: &Log<'_>,

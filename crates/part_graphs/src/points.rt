@@ -1,11 +1,12 @@
 //! The arrows of a refutation by points.
 
 ghost use Rattle.std.specs.Prelude.{◌≡◌, ◌++◌, map, OnOk};
+ghost use Rattle.std.specs.List.{flat_map};
 ghost use Rattle.session_log.specs.Text.{view};
 ghost use Rattle.log_lines.specs.Rows.{rows_of};
 ghost use Rattle.part_graphs.specs.Points as spec;
 
-use crate::arrows::{ANTI_DEPENDENCY, MOMENTS, READ, SESSION, VERSION_ORDER, put_ends};
+use crate::arrows::{ANTI_DEPENDENCY, READ, SESSION, VERSION_ORDER, put_ends};
 use level_refutations::TxnAt;
 use point_refutations::{
     Against, Edge, Ending, Overwritten, PointAt, Refutation, Since, Step, Why, edge_from, edge_to,
@@ -46,9 +47,9 @@ fn put_look(out: &mut Vec<u8>, log: &Log<'_>, why: Why) -> Result<(), AllocError
 {
     match why {
         Why::Session => tell!(out, log; Text(SESSION)),
-        Why::Moments => tell!(out, log; Text(MOMENTS)),
+        Why::Moments => tell!(out, log; Text(b"moments\" color=\"purple")),
         Why::Read { .. } => tell!(out, log; Text(READ)),
-        Why::Step(step) => put_forced(out, log, step),
+        Why::Step(step) | Why::Later(step) => put_forced(out, log, step),
         Why::Missed(missed) => put_missed(out, log, missed.since),
     }
 }
@@ -100,26 +101,20 @@ fn put_supposed(
     put_supposed_look(out, log, first)
 }
 
-/// Appends the arrow from which a circle goes on, if one of two transactions commits first: to the
-/// other one, or from a read that finds what the first one wrote.
+/// Appends the arrow from which a circle goes on, if one of two transactions commits first: to this
+/// point of the other one, or from a read that finds what the first one wrote.
 fn put_supposition(
     out: &mut Vec<u8>,
     log: &Log<'_>,
     first: TxnAt,
-    other: TxnAt,
+    point: PointAt,
     overwritten: Option<Overwritten>,
 ) -> Result<(), AllocError>
     ensures put { OnOk result (out.new.items ≡ out.old.items ++ spec.supposition
-        (rows_of log.now.places.now) (map view log.now.sessions.now) first other overwritten) }
+        (rows_of log.now.places.now) (map view log.now.sessions.now) first point overwritten) }
 {
     match overwritten {
-        None => put_supposed(
-            out,
-            log,
-            first,
-            PointAt::Commit(first),
-            PointAt::Snapshot(other),
-        ),
+        None => put_supposed(out, log, first, PointAt::Commit(first), point),
         Some(it) => put_supposed(
             out,
             log,
@@ -135,13 +130,13 @@ fn put_against(
     out: &mut Vec<u8>,
     log: &Log<'_>,
     first: TxnAt,
-    other: TxnAt,
+    point: PointAt,
     against: &Against,
 ) -> Result<(), AllocError>
     ensures put { OnOk result (out.new.items ≡ out.old.items ++ spec.against_arrows
-        (rows_of log.now.places.now) (map view log.now.sessions.now) first other against.now) }
+        (rows_of log.now.places.now) (map view log.now.sessions.now) first point against.now) }
 {
-    put_supposition(out, log, first, other, against.overwritten)?;
+    put_supposition(out, log, first, point, against.overwritten)?;
     put_way(out, log, &against.edges)
 }
 
@@ -153,15 +148,20 @@ fn put_step(out: &mut Vec<u8>, log: &Log<'_>, step: &Step) -> Result<(), AllocEr
     match step {
         Step::Shown { edges, .. } => put_way(out, log, edges),
         Step::Forced { both, against } => {
-            put_against(out, log, both.other.txn, both.one.txn, against)
+            let point = PointAt::Snapshot(both.one.txn);
+            put_against(out, log, both.other.txn, point, against)
+        }
+        Step::Later { both, against } => {
+            let point = PointAt::Commit(both.one.txn);
+            put_against(out, log, both.other.txn, point, against)
         }
     }
 }
 
 /// Appends the same of each step.
 fn put_steps(out: &mut Vec<u8>, log: &Log<'_>, steps: &[Step]) -> Result<(), AllocError>
-    ensures put { OnOk result (out.new.items ≡ out.old.items ++ spec.steps_arrows
-        (rows_of log.now.places.now) (map view log.now.sessions.now) steps.now) }
+    ensures put { OnOk result (out.new.items ≡ out.old.items ++ flat_map (spec.step_arrows
+        (rows_of log.now.places.now) (map view log.now.sessions.now)) steps.now) }
 {
     for step in steps {
         put_step(out, log, step)?;
@@ -181,8 +181,9 @@ fn put_ending(out: &mut Vec<u8>, log: &Log<'_>, ending: &Ending) -> Result<(), A
             not_one,
             not_other,
         } => {
-            put_against(out, log, both.one.txn, both.other.txn, not_one)?;
-            put_against(out, log, both.other.txn, both.one.txn, not_other)
+            let (one, other) = (both.one.txn, both.other.txn);
+            put_against(out, log, one, PointAt::Snapshot(other), not_one)?;
+            put_against(out, log, other, PointAt::Snapshot(one), not_other)
         }
     }
 }

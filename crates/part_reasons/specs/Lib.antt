@@ -3,3 +3,4 @@ pub mod Drawn
 pub mod Why
 pub mod Points
 pub mod Said
+pub mod Shown

@@ -7,21 +7,19 @@ ghost use Rattle.session_log.specs.Version.{first_line};
 ghost use Rattle.judging.specs.Made.{IsMadeOf};
 ghost use Rattle.level_refutations.specs.Refuted.{is_refuted};
 ghost use Rattle.point_refutations.specs.Refuted as by_points;
-ghost use Rattle.part_reasons.specs.Why.{table_of};
+ghost use Rattle.part_reasons.specs.Why.{table_of, IsOwn};
 ghost use Rattle.part_graphs.specs.Graphs.{search_graph};
 ghost use Rattle.part_reasons.specs.Drawn as spec;
 
 use crate::explaining::{MANY_LINES, SEARCH_SHOWS, places_of};
-use crate::own::is_own;
 use crate::serial::tell_serial;
+use crate::shown::{Shown, evidence_of, shown_of};
 use crate::snapshots::NO_POINTS_LEFT;
 use call_options::Format;
 use deciding::Means;
 use judging::{Finding, JudgeMeans, Level, RefutedPart};
-use level_proposals::{Proposal, find_break};
 use level_refutations::Evidence;
 use part_graphs::{empty_graph, evidence_graph, refutation_graph, search_graph};
-use point_proposals::propose;
 use point_refutations::Refutation;
 use seen_laws::Level as Weaker;
 use session_log::{Session, Version, line_count};
@@ -117,26 +115,6 @@ fn draw_evidence(
     Ok(Some(graph))
 }
 
-/// The same, where some is found.
-fn draw_break(
-    alloc: Global,
-    version: Version,
-    sessions: &[Session],
-    refuted: &RefutedPart,
-    below: Weaker,
-) -> Result<Option<Vec<u8>>, AllocError>
-    requires made { IsMadeOf (map view sessions.now) refuted.now }
-    ensures drawn { IfOk result (λ some. IfSome some (λ graph. spec.IsEvidenceDrawn below
-        (first_line version) (map view sessions.now) refuted.now graph.items)) }
-{
-    if let Proposal::Evidence(evidence) = find_break(alloc, below, &refuted.part)?
-        && level_refutations::refutes(below, &refuted.part, &evidence)
-    {
-        return draw_evidence(alloc, version, sessions, refuted, below, &evidence);
-    }
-    Ok(None)
-}
-
 /// Why a part has no order of a level below prefix.
 fn draw_below(
     alloc: Global,
@@ -149,10 +127,12 @@ fn draw_below(
     ensures drawn { IfOk result (λ graph. spec.IsBelowDrawn below (first_line version)
         (map view sessions.now) refuted.now graph.items) }
 {
-    match draw_break(alloc, version, sessions, refuted, below)? {
-        Some(graph) => Ok(graph),
-        None => draw_search(alloc, version, sessions, refuted, SEARCH_SHOWS),
+    if let Some(evidence) = evidence_of(alloc, refuted, below)?
+        && let Some(graph) = draw_evidence(alloc, version, sessions, refuted, below, &evidence)?
+    {
+        return Ok(graph);
     }
+    draw_search(alloc, version, sessions, refuted, SEARCH_SHOWS)
 }
 
 /// A refutation by points that is right.
@@ -178,27 +158,7 @@ fn draw_refutation(
     Ok(Some(graph))
 }
 
-/// The same, where one is found.
-fn draw_proposal(
-    alloc: Global,
-    version: Version,
-    sessions: &[Session],
-    refuted: &RefutedPart,
-    is_locked: bool,
-) -> Result<Option<Vec<u8>>, AllocError>
-    requires made { IsMadeOf (map view sessions.now) refuted.now }
-    ensures drawn { IfOk result (λ some. IfSome some (λ graph. spec.IsRefutationDrawn is_locked
-        (first_line version) (map view sessions.now) refuted.now graph.items)) }
-{
-    if let Some(refutation) = propose(alloc, &refuted.part, is_locked)?
-        && point_refutations::refutes(is_locked, &refuted.part, &refutation)
-    {
-        return draw_refutation(alloc, version, sessions, refuted, is_locked, &refutation);
-    }
-    Ok(None)
-}
-
-/// Why a part has no serial order, where an anomaly was found, and is the part's own.
+/// Why a part has no serial order, where the anomaly that was found is its own.
 fn draw_anomaly<R: Threads + Wait + Clock + Sync>(
     rt: &R,
     alloc: Global,
@@ -206,22 +166,49 @@ fn draw_anomaly<R: Threads + Wait + Clock + Sync>(
     sessions: &[Session],
     refuted: &RefutedPart,
     means: &Means,
+) -> Result<Vec<u8>, AllocError>
+    requires legal { AllByRecursion IsLegal (map view refuted.now.part.items) }
+    requires made { IsMadeOf (map view sessions.now) refuted.now }
+    requires own { IsOwn refuted.now }
+    ensures drawn { IfOk result (λ graph. spec.IsAnomalyDrawn means.now.budget
+        (first_line version) (map view sessions.now) refuted.now graph.items) }
+{
+    let graph = tell_serial(rt, alloc, version, sessions, refuted, Format::Dot, means)?;
+    Ok(graph)
+}
+
+/// What shows that a part has no order of its snapshots and commits; nothing where a search alone does, or
+/// the log has too many lines.
+fn draw_shown<R: Threads + Wait + Clock + Sync>(
+    rt: &R,
+    alloc: Global,
+    version: Version,
+    sessions: &[Session],
+    refuted: &RefutedPart,
+    is_locked: bool,
+    means: &Means,
 ) -> Result<Option<Vec<u8>>, AllocError>
     requires legal { AllByRecursion IsLegal (map view refuted.now.part.items) }
     requires made { IsMadeOf (map view sessions.now) refuted.now }
-    ensures drawn { IfOk result (λ some. IfSome some (λ graph. spec.IsAnomalyDrawn means.now.budget
-        (first_line version) (map view sessions.now) refuted.now graph.items)) }
+    ensures drawn { IfOk result (λ some. IfSome some (λ graph. spec.IsPointsDrawn is_locked
+        means.now.budget (first_line version) (map view sessions.now) refuted.now graph.items)) }
 {
-    let own = is_own(alloc, refuted)?;
-    if !own {
-        return Ok(None);
+    match shown_of(alloc, refuted, is_locked)? {
+        Shown::Anomaly(_) => {
+            let graph = draw_anomaly(rt, alloc, version, sessions, refuted, means)?;
+            Ok(Some(graph))
+        }
+        Shown::Points(refutation) => {
+            draw_refutation(alloc, version, sessions, refuted, is_locked, &refutation)
+        }
+        Shown::Evidence(evidence) => {
+            draw_evidence(alloc, version, sessions, refuted, Weaker::Causal, &evidence)
+        }
+        Shown::Search => Ok(None),
     }
-    let graph = tell_serial(rt, alloc, version, sessions, refuted, Format::Dot, means)?;
-    Ok(Some(graph))
 }
 
-/// Why a part has no snapshot order, or no prefix order where keys are not locked: an anomaly, a
-/// refutation by points, or evidence against a weaker level; else that a search shows it.
+/// Why a part has no snapshot order, or no prefix order where keys are not locked.
 fn draw_points<R: Threads + Wait + Clock + Sync>(
     rt: &R,
     alloc: Global,
@@ -236,13 +223,7 @@ fn draw_points<R: Threads + Wait + Clock + Sync>(
     ensures drawn { IfOk result (λ graph. spec.IsPointsDrawn is_locked means.now.budget
         (first_line version) (map view sessions.now) refuted.now graph.items) }
 {
-    if let Some(graph) = draw_anomaly(rt, alloc, version, sessions, refuted, means)? {
-        return Ok(graph);
-    }
-    if let Some(graph) = draw_proposal(alloc, version, sessions, refuted, is_locked)? {
-        return Ok(graph);
-    }
-    match draw_break(alloc, version, sessions, refuted, Weaker::Causal)? {
+    match draw_shown(rt, alloc, version, sessions, refuted, is_locked, means)? {
         Some(graph) => Ok(graph),
         None => draw_search(alloc, version, sessions, refuted, NO_POINTS_LEFT),
     }

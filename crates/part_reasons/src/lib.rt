@@ -15,6 +15,7 @@ mod explaining;
 mod overlooked;
 mod own;
 mod serial;
+mod shown;
 mod snapshots;
 mod whys;
 

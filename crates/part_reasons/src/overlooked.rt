@@ -8,9 +8,9 @@ ghost use Rattle.level_refutations.specs.Refuted.{is_refuted};
 ghost use Rattle.part_reasons.specs.Why.{IsEvidenceTold, IsSaidBelow};
 
 use crate::explaining::{Explained, MANY_LINES, owned, places_of, searched};
+use crate::shown::evidence_of;
 use judging::RefutedPart;
-use level_proposals::{Proposal, find_break};
-use level_refutations::{Evidence, refutes};
+use level_refutations::Evidence;
 use seen_laws::Level;
 use session_log::{Session, Version, line_count};
 use std::alloc::{AllocError, Global};
@@ -18,7 +18,7 @@ use tell_evidence::{evidence_name, evidence_text};
 
 /// What evidence that is right says of a part of these sessions, which are those of a log of this
 /// version; nothing where they have too many lines.
-fn told(
+pub fn tell_evidence(
     alloc: Global,
     version: Version,
     sessions: &[Session],
@@ -40,27 +40,6 @@ fn told(
     Ok(Some(Explained { text, known_as }))
 }
 
-/// Evidence that a part of these sessions, which are those of a log of this version with their outcomes
-/// known, has no order of a level below prefix; nothing where there is none.
-pub fn tell_evidence(
-    alloc: Global,
-    version: Version,
-    sessions: &[Session],
-    refuted: &RefutedPart,
-    below: Level,
-) -> Result<Option<Explained>, AllocError>
-    requires made { IsMadeOf (map view sessions.now) refuted.now }
-    ensures told { IfOk result (λ some. IfSome some (λ told. IsEvidenceTold below
-        (first_line version) (map view sessions.now) refuted.now told.known_as told.text.items)) }
-{
-    if let Proposal::Evidence(evidence) = find_break(alloc, below, &refuted.part)?
-        && refutes(below, &refuted.part, &evidence)
-    {
-        return told(alloc, version, sessions, refuted, below, &evidence);
-    }
-    Ok(None)
-}
-
 /// Why a part of these sessions has no order of a level below prefix.
 pub fn explain_below(
     alloc: Global,
@@ -73,8 +52,10 @@ pub fn explain_below(
     ensures said { IfOk result (λ told. IsSaidBelow below (first_line version)
         (map view sessions.now) refuted.now told.known_as told.text.items) }
 {
-    match tell_evidence(alloc, version, sessions, refuted, below)? {
-        Some(told) => Ok(told),
-        None => searched(alloc),
+    if let Some(evidence) = evidence_of(alloc, refuted, below)?
+        && let Some(told) = tell_evidence(alloc, version, sessions, refuted, below, &evidence)?
+    {
+        return Ok(told);
     }
+    searched(alloc)
 }

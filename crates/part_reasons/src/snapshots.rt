@@ -18,12 +18,11 @@ ghost use Rattle.part_reasons.specs.Points as spec;
 use crate::crossed::{crossing_name, crossing_of_part};
 use crate::explaining::{Explained, MANY_LINES, explain_serial, owned, places_of};
 use crate::overlooked::tell_evidence;
-use crate::own::is_own;
+use crate::shown::{Shown, shown_of};
 use crate::whys::anomaly_name;
 use deciding::Means;
-use judging::{Finding, RefutedPart};
-use point_proposals::propose;
-use point_refutations::{Refutation, refutes};
+use judging::RefutedPart;
+use point_refutations::Refutation;
 use seen_laws::Level as Weaker;
 use session_history::Anomaly;
 use session_log::{Session, Version, line_count, next_line};
@@ -88,50 +87,6 @@ fn tell_anomaly<R: Threads + Wait + Clock + Sync>(
     })
 }
 
-/// The same, where this anomaly, which was found, is the part's own.
-fn tell_own<R: Threads + Wait + Clock + Sync>(
-    rt: &R,
-    alloc: Global,
-    version: Version,
-    sessions: &[Session],
-    refuted: &RefutedPart,
-    anomaly: Anomaly,
-    means: &Means,
-) -> Result<Option<Explained>, AllocError>
-    requires legal { AllByRecursion IsLegal (map view refuted.now.part.items) }
-    requires made { IsMadeOf (map view sessions.now) refuted.now }
-    requires found { refuted.now.finding ≡ finding.Anomaly anomaly }
-    ensures told { IfOk result (λ some. IfSome some (λ told. spec.IsAnomalyTold means.now.budget
-        (first_line version) (map view sessions.now) refuted.now told.known_as told.text.items)) }
-{
-    let own = is_own(alloc, refuted)?;
-    if !own {
-        return Ok(None);
-    }
-    let told = tell_anomaly(rt, alloc, version, sessions, refuted, anomaly, means)?;
-    Ok(Some(told))
-}
-
-/// The same, where an anomaly was found, and is the part's own.
-fn explain_anomaly<R: Threads + Wait + Clock + Sync>(
-    rt: &R,
-    alloc: Global,
-    version: Version,
-    sessions: &[Session],
-    refuted: &RefutedPart,
-    means: &Means,
-) -> Result<Option<Explained>, AllocError>
-    requires legal { AllByRecursion IsLegal (map view refuted.now.part.items) }
-    requires made { IsMadeOf (map view sessions.now) refuted.now }
-    ensures told { IfOk result (λ some. IfSome some (λ told. spec.IsAnomalyTold means.now.budget
-        (first_line version) (map view sessions.now) refuted.now told.known_as told.text.items)) }
-{
-    if let Finding::Anomaly(anomaly) = refuted.finding {
-        return tell_own(rt, alloc, version, sessions, refuted, anomaly, means);
-    }
-    Ok(None)
-}
-
 /// What a refutation by points that is right says of a part.
 fn tell_refutation(
     alloc: Global,
@@ -153,26 +108,6 @@ fn tell_refutation(
     let text = refutation_text(alloc, &refuted.part, &places, refutation)?;
     let known_as = owned(alloc, refutation_name(&refuted.part, refutation))?;
     Ok(Some(Explained { text, known_as }))
-}
-
-/// The same, where one is found.
-fn explain_points(
-    alloc: Global,
-    version: Version,
-    sessions: &[Session],
-    refuted: &RefutedPart,
-    is_locked: bool,
-) -> Result<Option<Explained>, AllocError>
-    requires made { IsMadeOf (map view sessions.now) refuted.now }
-    ensures told { IfOk result (λ some. IfSome some (λ told. spec.IsRefutationTold is_locked
-        (first_line version) (map view sessions.now) refuted.now told.known_as told.text.items)) }
-{
-    if let Some(refutation) = propose(alloc, &refuted.part, is_locked)?
-        && refutes(is_locked, &refuted.part, &refutation)
-    {
-        return tell_refutation(alloc, version, sessions, refuted, is_locked, &refutation);
-    }
-    Ok(None)
 }
 
 /// Whether a name that snapshot isolation allows stands in a line.
@@ -276,8 +211,38 @@ fn explain_search<R: Threads + Wait + Clock + Sync>(
     })
 }
 
-/// Why a part has no snapshot order, or no prefix order where keys are not locked: by an anomaly, by
-/// a refutation by points, or by evidence against a weaker level; else that a search shows it.
+/// What shows it, in lines; nothing where a search alone does, or the log has too many lines.
+fn tell_shown<R: Threads + Wait + Clock + Sync>(
+    rt: &R,
+    alloc: Global,
+    version: Version,
+    sessions: &[Session],
+    refuted: &RefutedPart,
+    is_locked: bool,
+    means: &Means,
+) -> Result<Option<Explained>, AllocError>
+    requires legal { AllByRecursion IsLegal (map view refuted.now.part.items) }
+    requires made { IsMadeOf (map view sessions.now) refuted.now }
+    ensures said { IfOk result (λ some. IfSome some (λ told. spec.IsSaidOfPoints is_locked
+        means.now.budget (first_line version) (map view sessions.now) refuted.now told.known_as
+        told.text.items)) }
+{
+    match shown_of(alloc, refuted, is_locked)? {
+        Shown::Anomaly(anomaly) => {
+            let told = tell_anomaly(rt, alloc, version, sessions, refuted, anomaly, means)?;
+            Ok(Some(told))
+        }
+        Shown::Points(refutation) => {
+            tell_refutation(alloc, version, sessions, refuted, is_locked, &refutation)
+        }
+        Shown::Evidence(evidence) => {
+            tell_evidence(alloc, version, sessions, refuted, Weaker::Causal, &evidence)
+        }
+        Shown::Search => Ok(None),
+    }
+}
+
+/// Why a part has no snapshot order, or no prefix order where keys are not locked.
 pub fn explain_snapshot<R: Threads + Wait + Clock + Sync>(
     rt: &R,
     alloc: Global,
@@ -292,13 +257,7 @@ pub fn explain_snapshot<R: Threads + Wait + Clock + Sync>(
     ensures said { IfOk result (λ told. spec.IsSaidOfPoints is_locked means.now.budget
         (first_line version) (map view sessions.now) refuted.now told.known_as told.text.items) }
 {
-    if let Some(told) = explain_anomaly(rt, alloc, version, sessions, refuted, means)? {
-        return Ok(told);
-    }
-    if let Some(told) = explain_points(alloc, version, sessions, refuted, is_locked)? {
-        return Ok(told);
-    }
-    match tell_evidence(alloc, version, sessions, refuted, Weaker::Causal)? {
+    match tell_shown(rt, alloc, version, sessions, refuted, is_locked, means)? {
         Some(told) => Ok(told),
         None => explain_search(rt, alloc, version, sessions, refuted, is_locked, means),
     }

@@ -17,12 +17,15 @@ pub enum Why<'a> {
     /// The first reads from its snapshot what the second overwrites, or what by a step comes before
     /// what the second writes: the read, and the write.
     Missed(Access<'a>, Access<'a>),
-    /// Both write a key, and a step says which commits first.
+    /// Both write a key, and a step says which commits before the other takes its snapshot.
     Written,
+    /// Both write a key, and a step says which commits before the other commits.
+    Later,
 }
 
-/// The commit of one node stands before the snapshot of another; or, where the one misses a write of
-/// the other, its snapshot before the other's commit.
+/// The commit of one node stands before the snapshot of another; or, if no more is known of two that
+/// write a key, before its commit; or, where the one misses a write of the other, its snapshot before
+/// the other's commit.
 #[derive(Clone, Copy)]
 pub struct Edge<'a> {
     pub first: Node<'a>,
@@ -129,10 +132,10 @@ impl<'a> Graph<'a> {
             why,
             step,
         };
-        let (from, to) = if edge.is_missed() {
-            (first.snapshot(), second.commit())
-        } else {
-            (first.commit(), second.snapshot())
+        let (from, to) = match why {
+            Why::Missed(..) => (first.snapshot(), second.commit()),
+            Why::Later => (first.commit(), second.commit()),
+            _ => (first.commit(), second.snapshot()),
         };
         if let Some(row) = self.edges.get_mut(from)
             && let Some(cell) = row.get_mut(to)

@@ -17,6 +17,7 @@ const MANY_OPS: usize = 4_000;
 struct Telling<'a, 'b> {
     alloc: Global,
     part: &'b Part<'a>,
+    is_locked: bool,
     needed: &'b [usize],
 }
 
@@ -41,6 +42,11 @@ impl<'a, 'b> Telling<'a, 'b> {
         self.needed.iter().filter(|it| **it < step).count()
     }
 
+    /// The same of the step of an edge.
+    fn index_of(&self, edge: &Edge<'a>) -> usize {
+        edge.step.map_or(0, |step| self.index(step))
+    }
+
     /// Why what is read is older than what a node writes.
     fn since(&self, read: &Access<'a>, writer: Node<'a>, step: Option<usize>) -> Since {
         match (step, same_of(&self.part.reads, writer, read)) {
@@ -54,7 +60,8 @@ impl<'a, 'b> Telling<'a, 'b> {
         match edge.why {
             Why::Session => told::Why::Session,
             Why::Moments => told::Why::Moments,
-            Why::Written => told::Why::Step(edge.step.map_or(0, |step| self.index(step))),
+            Why::Written => told::Why::Step(self.index_of(edge)),
+            Why::Later => told::Why::Later(self.index_of(edge)),
             Why::Read(read, write) => told::Why::Read {
                 write: write.op,
                 read: read.op,
@@ -106,7 +113,7 @@ impl<'a, 'b> Telling<'a, 'b> {
 
     fn step(&self, step: &Step<'a>) -> Result<Option<told::Step>, AllocError> {
         let Pair { first, second, key } = step.pair;
-        if !step.is_forced {
+        if self.is_locked && !step.is_forced {
             return Ok(Some(told::Step::Shown {
                 first: first.at,
                 second: second.at,
@@ -117,7 +124,11 @@ impl<'a, 'b> Telling<'a, 'b> {
             return Ok(None);
         };
         let against = self.against(&step.way)?;
-        Ok(Some(told::Step::Forced { both, against }))
+        Ok(Some(if self.is_locked {
+            told::Step::Forced { both, against }
+        } else {
+            told::Step::Later { both, against }
+        }))
     }
 
     /// A circle, which ends with an edge that misses a write, where there is one.
@@ -176,6 +187,7 @@ fn needed_by(
 fn tell<'a>(
     alloc: Global,
     part: &Part<'a>,
+    is_locked: bool,
     found: &[Step<'a>],
     ending: &Ending<'a>,
 ) -> Result<Option<Refutation>, AllocError> {
@@ -183,6 +195,7 @@ fn tell<'a>(
     let telling = Telling {
         alloc,
         part,
+        is_locked,
         needed: &needed,
     };
     let mut steps = Vec::new(alloc);
@@ -211,7 +224,7 @@ pub fn propose(
         return Ok(None);
     }
     match refute(alloc, &part, is_locked)? {
-        Some((steps, ending)) => tell(alloc, &part, &steps, &ending),
+        Some((steps, ending)) => tell(alloc, &part, is_locked, &steps, &ending),
         None => Ok(None),
     }
 }

@@ -18,12 +18,13 @@ pub struct Pair<'a> {
     pub key: &'a [u8],
 }
 
-/// Of two that write a key the first commits before the second takes its snapshot.
+/// Of two that write a key the first commits before the second takes its snapshot; or, where keys are
+/// not locked, before it commits.
 #[derive(Drop)]
 pub struct Step<'a> {
     pub pair: Pair<'a>,
     /// Whether it is so since the second cannot commit first; else the way leads from the first
-    /// one's commit to the second one's snapshot.
+    /// one's commit to that point of the second one.
     pub is_forced: bool,
     pub way: Way<'a>,
 }
@@ -60,13 +61,14 @@ impl Ending<'_> {
 struct Search<'a, 'b> {
     alloc: Global,
     part: &'b Part<'a>,
+    is_locked: bool,
     graph: Graph<'a>,
     steps: Vec<Step<'a>>,
     open: Vec<Pair<'a>>,
 }
 
 impl<'a, 'b> Search<'a, 'b> {
-    /// What a part itself says, with no step. Where keys are not locked, no two are open.
+    /// What a part itself says, with no step.
     fn of(
         alloc: Global,
         part: &'b Part<'a>,
@@ -75,8 +77,7 @@ impl<'a, 'b> Search<'a, 'b> {
         let mut open = Vec::new(alloc);
         for first in part.nodes.iter().copied() {
             for second in part.nodes.iter().copied() {
-                if is_locked
-                    && first.number != second.number
+                if first.number != second.number
                     && let Some(key) = part.both_write(first, second)
                 {
                     open.push(Pair { first, second, key })?;
@@ -86,14 +87,24 @@ impl<'a, 'b> Search<'a, 'b> {
         Ok(Search {
             alloc,
             part,
+            is_locked,
             graph: Graph::of(alloc, part)?,
             steps: Vec::new(alloc),
             open,
         })
     }
 
-    /// Why a node cannot commit before another takes its snapshot: a way from the other's snapshot to
-    /// its commit. Or somebody reads what it wrote, so that his snapshot would stand before the
+    /// The point of a node before which another one that writes its key commits.
+    fn point(&self, node: Node<'a>) -> usize {
+        if self.is_locked {
+            node.snapshot()
+        } else {
+            node.commit()
+        }
+    }
+
+    /// Why a node cannot commit before this point of another: a way from that point to its commit. Or
+    /// somebody reads what it wrote, so that his snapshot would stand before the
     /// other's commit; then it is a way from that commit to that snapshot.
     fn way_against(
         &self,
@@ -108,7 +119,7 @@ impl<'a, 'b> Search<'a, 'b> {
             .filter(|read| same_of(&part.writes, first, read).is_some())
             .filter_map(|read| Some((*read, part.first_write(second, read.key)?)))
             .min_by_key(|(read, _)| graph.cost(from, read.node.snapshot()));
-        let plain = graph.cost(second.snapshot(), first.commit());
+        let plain = graph.cost(self.point(second), first.commit());
         if let Some((read, write)) = best
             && let to = read.node.snapshot()
             && graph.cost(from, to).saturating_add(READ_COST) < plain
@@ -122,14 +133,14 @@ impl<'a, 'b> Search<'a, 'b> {
             let way = graph.way(self.alloc, from, to)?;
             return Ok(way.map(|way| Way { overwritten, ..way }));
         }
-        graph.way(self.alloc, second.snapshot(), first.commit())
+        graph.way(self.alloc, self.point(second), first.commit())
     }
 
     /// Each two that write a key, of whom what is known shows which commits first.
     fn shown(&self) -> Result<Vec<Step<'a>>, AllocError> {
         let mut shown = Vec::new(self.alloc);
         for pair in self.open.iter().copied() {
-            let (from, to) = (pair.first.commit(), pair.second.snapshot());
+            let (from, to) = (pair.first.commit(), self.point(pair.second));
             if let Some(way) = self.graph.way(self.alloc, from, to)? {
                 let is_forced = false;
                 shown.push(Step {
@@ -143,7 +154,8 @@ impl<'a, 'b> Search<'a, 'b> {
     }
 
     /// Each two that write a key, of whom one cannot commit first; and the two of whom neither can,
-    /// where there are such: those that are told for least.
+    /// where there are such: those that are told for least. Where keys are not locked, what follows
+    /// of these closes a circle.
     fn forced(&self) -> Result<(Vec<Step<'a>>, Option<Neither<'a>>), AllocError> {
         let (mut forced, mut neither, mut least) = (Vec::new(self.alloc), None, usize::MAX);
         for pair in self.open.iter().copied() {
@@ -158,6 +170,11 @@ impl<'a, 'b> Search<'a, 'b> {
             ) {
                 (None, None) => {}
                 (None, Some(way)) => forced.push(Step {
+                    pair,
+                    is_forced,
+                    way,
+                })?,
+                (Some(_), Some(way)) if !self.is_locked => forced.push(Step {
                     pair,
                     is_forced,
                     way,
@@ -191,7 +208,12 @@ impl<'a, 'b> Search<'a, 'b> {
     fn take(&mut self, taken: Step<'a>) -> Result<(), AllocError> {
         let Pair { first, second, .. } = taken.pair;
         let step = Some(self.steps.len());
-        self.graph.add(first, second, Why::Written, step);
+        let written = if self.is_locked {
+            Why::Written
+        } else {
+            Why::Later
+        };
+        self.graph.add(first, second, written, step);
         for read in self.part.reads.iter().copied() {
             if read.node.number != second.number
                 && same_of(&self.part.writes, first, &read).is_some()

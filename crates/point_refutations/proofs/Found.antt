@@ -1,36 +1,24 @@
 -- What an external read finds, by the places of points.
-use Rattle.std.proofs.Common.{◌≡◌, ◌⊎◌, ℕ, suc, ◌*◌, ◌<◌, ◌≤◌, Bool, true, false, List, ◌∷◌, length, map, eqb, eqb-true, Option, Some, None, refl, sym, ap, ◌∙◌, subst, inl, inr, arith, take}
-use Rattle.std.specs.List.{Contains}
-use Rattle.std.specs.Option.{option_map_or}
-use Rattle.std.specs.Str.{bytes_eq}
-use Rattle.std.proofs.lemmas.Bool.{cases_order, and_parts, false≢true}
-use Rattle.std.proofs.lemmas.Slice.Eq.{bytes_eq-Decides}
+use Rattle.std.proofs.Common.{◌≡◌, ◌≢◌, ◌⊎◌, ℕ, suc, ◌*◌, ◌<◌, ◌≤◌, Bool, true, false, List, ◌∷◌, length, map, eqb-true, Option, Some, None, refl, sym, ap, ◌∙◌, subst, inl, inr, arith, take}
+use Rattle.std.specs.{List.Contains, Option.option_map_or}
+use Rattle.std.proofs.lemmas.{Bool.cases_order, Bool.and_parts, Bool.false≢true, Slice.Eq.bytes_eq-Decides}
 use Rattle.session_log.specs.Text.{ClientSession, Transaction}
-use Rattle.session_log.specs.declared.session.Op.TheVariants.{Read, Write}
-use Rattle.serializability.proofs.Places.{Apart-from_IsDistinct}
-use Rattle.serializability.proofs.Once.{places_apart}
-use Rattle.serializability.proofs.Serial.{behind_zero}
-use Rattle.log_definitions.specs.Unknown.{ops_in}
-use Rattle.log_definitions.specs.WellFormed.{written}
-use Rattle.log_definitions.specs.Serial.{committed_in, ops_of}
-use Rattle.log_definitions.proofs.Members.{member}
-use Rattle.log_definitions.proofs.Chosen.{Has-written}
+use Rattle.session_log.specs.declared.session.{Op.TheVariants.Read, Op.TheVariants.Write}
+use Rattle.serializability.proofs.{Places.Apart-from_IsDistinct, Once.places_apart, Serial.behind_zero}
+use Rattle.log_definitions.specs.{Unknown.ops_in, WellFormed.written, Serial.committed_in, Serial.ops_of}
+use Rattle.log_definitions.proofs.{Members.member, Chosen.Has-written}
 use Rattle.log_laws.specs.Logs.{IsSoundLog, IsLearntLog}
 use Rattle.level_laws.specs.Snapshot.{Point, snapshot, commit, number, IsPointOrder}
-use Rattle.level_laws.proofs.Arith.{commit_snapshot}
-use Rattle.level_laws.proofs.Intervals.{place}
-use Rattle.level_laws.proofs.Nodes.{is_node, op_in_log}
+use Rattle.level_laws.proofs.{Arith.same_commit, Arith.commit_snapshot, Intervals.place, Nodes.is_node, Nodes.op_in_log}
 use Rattle.level_laws.proofs.Orders.{before_place, lo_snapshot, lo_commit}
-use Rattle.seen_laws.specs.Seen.{WritesKey}
-use Rattle.seen_laws.proofs.Snapshots.{met}
+use Rattle.seen_laws.{specs.Seen.WritesKey, proofs.Snapshots.met}
 use Rattle.level_refutations.specs.declared.evidence.OpAt.{OpAt}
-use Rattle.level_refutations.specs.Places.{txn_at, op_at, is_named, is_external_in, is_external, is_of_key}
-use Rattle.level_refutations.specs.Laws.{Stands}
-use Rattle.level_refutations.proofs.Standing.{standing, within}
-use Rattle.level_refutations.proofs.Steps.{has_op, node_of_op, named}
+use Rattle.level_refutations.specs.{Places.txn_at, Places.op_at, Places.is_named, Places.is_external_in}
+use Rattle.level_refutations.specs.{Places.is_external, Places.is_of_key, Laws.Stands}
+use Rattle.level_refutations.proofs.{Standing.standing, Standing.within, Steps.has_op, Steps.node_of_op, Steps.named}
 use Rattle.level_refutations.proofs.Sights.{External, external_at, of_key, same_read}
 use Rattle.level_refutations.proofs.Forced.{last_written, wrote_once}
-use Rattle.point_refutations.specs.Edges.{reads_same, read_same, is_same_read}
+use Rattle.point_refutations.specs.Edges.{both_are, reads_same, is_same_read}
 
 -- ---- an order of points, where keys are locked or not
 pub record Given (ss : List ClientSession) : Type 0 where
@@ -60,6 +48,21 @@ behind ss g u v is lo never = elim (cases_order (place g.points (commit u)) (pla
     differ same =
         places_apart (2 * length (committed_in ss)) (map number g.points) g.is.once (number (commit u)) (number (snapshot v)) high (commit_snapshot u v lo)
         (behind_zero (map number g.points) (number (commit u)) (lo_commit u is.0) ∙ ap suc same ∙ sym (behind_zero (map number g.points) (number (snapshot v)) (lo_snapshot v lo)))
+
+-- of two nodes one commits first
+pub one_commits : (ss : List ClientSession) (g : Given ss) (u v : ℕ) → (0 < u) × (u ≤ length (committed_in ss)) → 0 < v → u ≢ v → (place g.points (commit u) < place g.points (commit v)) ⊎ (place g.points (commit v) < place g.points (commit u))
+one_commits ss g u v is lo apart = elim (cases_order (place g.points (commit u)) (place g.points (commit v))) [
+  | inl same ↦ absurd (differ same)
+  | inr less ↦ less
+]
+  where
+    high : number (commit u) ≤ 2 * length (committed_in ss)
+    high = let hi = is.1 in omega (arith, hi)
+
+    differ : place g.points (commit u) ≡ place g.points (commit v) → ⊥
+    differ same =
+        places_apart (2 * length (committed_in ss)) (map number g.points) g.is.once (number (commit u)) (number (commit v)) high (λ e. apart (same_commit u v e))
+        (behind_zero (map number g.points) (number (commit u)) (lo_commit u is.0) ∙ ap suc same ∙ sym (behind_zero (map number g.points) (number (commit v)) (lo_commit v lo)))
 
 -- ---- an external read
 -- node v finds what node t writes, and whoever overwrites it commits behind the snapshot
@@ -108,6 +111,19 @@ pub some_where : {X : Type 0} (f : X → Bool) (o : Option X) → option_map_or 
 some_where f None t = absurd (false≢true t)
 some_where f (Some x) t = (x, refl, t)
 
+-- both are there, and stand so
+pub record There {A : Type 0} (f : A → A → Bool) (a b : Option A) : Type 0 where
+  pub one : A
+  pub other : A
+  pub first : a ≡ Some one
+  pub second : b ≡ Some other
+  pub so : f one other ≡ true
+
+pub there : {A : Type 0} (f : A → A → Bool) (a b : Option A) → both_are f a b ≡ true → There f a b
+there f (Some x) (Some y) t = record { one = x; other = y; first = refl; second = refl; so = t }
+there f (Some x) None t = absurd (false≢true t)
+there f None b t = absurd (false≢true t)
+
 pub record Reader (ss : List ClientSession) (at : OpAt) : Type 0 where
   pub node : ℕ
   pub stands : Stands ss at.txn node
@@ -144,6 +160,6 @@ writer_of_key ss write read v e learnt t =
 
 pub same_reads : (ss : List ClientSession) (one other : OpAt) (u v : ℕ) (e : External ss one u) (f : External ss other v) → is_same_read ss one other ≡ true → (e.key ≡ f.key) × (e.wid ≡ f.wid)
 same_reads ss one other u v e f t =
-    let same : reads_same (Read e.key e.wid) (Read f.key f.wid) ≡ true = ap (λ o. read_same o (Some (Read f.key f.wid))) (sym e.stands) ∙ ap (read_same (op_at ss one)) (sym f.stands) ∙ t in
-    let p = and_parts (bytes_eq e.key f.key) (eqb e.wid f.wid) same in
+    let same : reads_same (Read e.key e.wid) (Read f.key f.wid) ≡ true = ap (λ o. both_are reads_same o (Some (Read f.key f.wid))) (sym e.stands) ∙ ap (both_are reads_same (op_at ss one)) (sym f.stands) ∙ t in
+    let p = and_parts _ _ same in
     ((bytes_eq-Decides e.key f.key).0 p.0, eqb-true e.wid f.wid p.1)

@@ -1,4 +1,3 @@
 mod Found
 mod Ways
 mod Orderless
-mod Needed

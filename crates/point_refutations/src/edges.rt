@@ -1,8 +1,8 @@
 //! Edges between points, and ways along them.
 
-ghost use Rattle.std.specs.Prelude.{◌≡◌, map, Option};
+ghost use Rattle.std.specs.{Prelude.◌≡◌, Prelude.map, Prelude.Option, List.list_any};
 ghost use Rattle.session_log.specs.Text.{view};
-ghost use Rattle.level_refutations.specs.Edges.{is_session_step};
+ghost use Rattle.level_refutations.specs.Edges.{is_session_step, op_of};
 ghost use Rattle.point_refutations.specs.Edges as spec;
 
 use crate::refutation::{Edge, Missed, PointAt, Since, Step, Why};
@@ -11,22 +11,36 @@ use level_refutations::{
 };
 use session_log::{Op, Session, is_earlier};
 
-/// Whether the step with this index says that the one commits before the other takes its snapshot.
-fn is_by_step(steps: &[Step], index: usize, from: TxnAt, to: TxnAt) -> bool
-    ensures { result ≡ spec.is_by_step steps.now index from to }
+/// Whether a step says that the one commits before the other.
+fn is_order(from: TxnAt, to: TxnAt, step: &Step) -> bool
+    ensures { result ≡ spec.is_order from to step.now }
 {
-    if index >= steps.len() {
-        return false;
-    }
-    let step = &steps[index];
     is_same(step.first(), from) && is_same(step.second(), to)
 }
 
-/// Whether the read finds the write in the snapshot of its transaction.
-fn is_found_there(sessions: &[Session], write: OpAt, read: OpAt) -> bool
-    ensures { result ≡ spec.is_found_there (map view sessions.now) write read }
+/// Whether the step with this index does.
+fn is_later(steps: &[Step], index: usize, from: TxnAt, to: TxnAt) -> bool
+    ensures { result ≡ spec.is_later steps.now index from to }
 {
-    is_external(sessions, read) && is_named(sessions, write, read)
+    steps
+        .get(index)
+        .is_some_and(|step| is_order(from, to, step))
+}
+
+/// Whether it says that the one commits before the other takes its snapshot.
+fn is_by_step(steps: &[Step], index: usize, from: TxnAt, to: TxnAt) -> bool
+    ensures { result ≡ spec.is_by_step steps.now index from to }
+{
+    steps
+        .get(index)
+        .is_some_and(|step| is_order(from, to, step) && step.says_snapshot())
+}
+
+/// The operation of a transaction with this index.
+pub fn op_of(txn: TxnAt, op: usize) -> OpAt
+    ensures { result ≡ op_of txn op }
+{
+    OpAt { txn, op }
 }
 
 /// Whether the read names this write, or the initial value.
@@ -53,12 +67,9 @@ fn reads_same(one: &Op, other: &Op) -> bool
 pub fn is_same_read(sessions: &[Session], one: OpAt, other: OpAt) -> bool
     ensures { result ≡ spec.is_same_read (map view sessions.now) one other }
 {
-    let Some(read) = op_at(sessions, one) else {
-        return false;
-    };
-    match op_at(sessions, other) {
-        Some(also) => reads_same(read, also),
-        None => false,
+    match (op_at(sessions, one), op_at(sessions, other)) {
+        (Some(one), Some(other)) => reads_same(one, other),
+        _ => false,
     }
 }
 
@@ -76,13 +87,10 @@ fn is_since(
     match since {
         Since::Initial => found.is_none(),
         Since::ReadToo(op) => {
-            let also = OpAt { txn: to, op };
+            let also = op_of(to, op);
             is_external(sessions, also) && is_same_read(sessions, read, also)
         }
-        Since::Step(index) => match found {
-            Some(write) => is_by_step(steps, index, write.txn, to),
-            None => false,
-        },
+        Since::Step(index) => found.is_some_and(|write| is_later(steps, index, write.txn, to)),
     }
 }
 
@@ -90,14 +98,7 @@ fn is_since(
 fn misses(sessions: &[Session], steps: &[Step], from: TxnAt, to: TxnAt, missed: Missed) -> bool
     ensures { result ≡ spec.misses (map view sessions.now) steps.now from to missed }
 {
-    let read = OpAt {
-        txn: from,
-        op: missed.read,
-    };
-    let write = OpAt {
-        txn: to,
-        op: missed.write,
-    };
+    let (read, write) = (op_of(from, missed.read), op_of(to, missed.write));
     !is_same(from, to)
         && is_external(sessions, read)
         && is_found(sessions, read, missed.found)
@@ -115,19 +116,6 @@ fn is_session_step(sessions: &[Session], from: TxnAt, to: TxnAt) -> bool
         && is_node(sessions, to)
 }
 
-/// Whether the one ended before the other began.
-fn is_moment_step(sessions: &[Session], from: TxnAt, to: TxnAt) -> bool
-    ensures { result ≡ spec.is_moment_step (map view sessions.now) from to }
-{
-    let Some(first) = txn_at(sessions, from) else {
-        return false;
-    };
-    match txn_at(sessions, to) {
-        Some(second) => is_earlier(first.ended, second.begun),
-        None => false,
-    }
-}
-
 /// Whether the log or one of these steps shows it.
 fn is_edge(sessions: &[Session], steps: &[Step], edge: Edge) -> bool
     ensures { result ≡ spec.is_edge (map view sessions.now) steps.now edge }
@@ -135,15 +123,16 @@ fn is_edge(sessions: &[Session], steps: &[Step], edge: Edge) -> bool
     let Edge { from, to, why } = edge;
     match why {
         Why::Session => is_session_step(sessions, from, to),
-        Why::Moments => is_moment_step(sessions, from, to),
+        Why::Moments => match (txn_at(sessions, from), txn_at(sessions, to)) {
+            (Some(one), Some(other)) => is_earlier(one.ended, other.begun),
+            _ => false,
+        },
         Why::Read { write, read } => {
-            let write = OpAt {
-                txn: from,
-                op: write,
-            };
-            is_found_there(sessions, write, OpAt { txn: to, op: read })
+            let (write, read) = (op_of(from, write), op_of(to, read));
+            is_external(sessions, read) && is_named(sessions, write, read)
         }
         Why::Step(index) => is_by_step(steps, index, from, to),
+        Why::Later(index) => is_later(steps, index, from, to),
         Why::Missed(missed) => misses(sessions, steps, from, to, missed),
     }
 }
@@ -163,7 +152,7 @@ pub fn edge_to(edge: Edge) -> PointAt
     ensures { result ≡ spec.edge_to edge }
 {
     match edge.why {
-        Why::Missed(_) => PointAt::Commit(edge.to),
+        Why::Missed(_) | Why::Later(_) => PointAt::Commit(edge.to),
         _ => PointAt::Snapshot(edge.to),
     }
 }
@@ -173,10 +162,8 @@ fn leads_on(one: PointAt, other: PointAt) -> bool
     ensures { result ≡ spec.leads_on one other }
 {
     match (one, other) {
-        (PointAt::Snapshot(a), PointAt::Snapshot(b)) => is_same(a, b),
-        (PointAt::Snapshot(a), PointAt::Commit(b)) => is_same(a, b),
         (PointAt::Commit(_), PointAt::Snapshot(_)) => false,
-        (PointAt::Commit(a), PointAt::Commit(b)) => is_same(a, b),
+        _ => is_same(one.txn(), other.txn()),
     }
 }
 
@@ -214,14 +201,9 @@ fn meets(one: Edge, other: Edge) -> bool
 
 /// Whether the edge meets one of these.
 fn meets_some(one: Edge, edges: &[Edge]) -> bool
-    ensures { result ≡ spec.meets_some one edges.now }
+    ensures { result ≡ list_any (spec.meets one) edges.now }
 {
-    for edge in edges {
-        if meets(one, *edge) {
-            return true;
-        }
-    }
-    false
+    edges.iter().any(|edge| meets(one, *edge))
 }
 
 /// Whether no two of these edges meet.

@@ -14,7 +14,7 @@ mod needs;
 mod refutation;
 mod refuting;
 
-pub use edges::{edge_from, edge_to, is_same_read};
+pub use edges::{edge_from, edge_to, is_same_read, op_of};
 pub use refutation::{
     Against, Both, Edge, Ending, Missed, Overwritten, PointAt, Refutation, Since, Step, Why,
 };

@@ -3,18 +3,20 @@
 ghost use Rattle.std.specs.Prelude.{◌≡◌};
 ghost use Rattle.point_refutations.specs.Refuted as spec;
 
-use crate::refutation::{Edge, Ending, Since, Step, Why};
+use crate::refutation::{Edge, Ending, Missed, Since, Step, Why};
 
 /// Whether an edge is by this step.
 fn rests_on(index: usize, why: Why) -> bool
     ensures { result ≡ spec.rests_on index why }
 {
     match why {
-        Why::Step(step) => step == index,
-        Why::Missed(missed) => match missed.since {
-            Since::Step(step) => step == index,
-            Since::Initial | Since::ReadToo(_) => false,
-        },
+        Why::Step(step) | Why::Later(step) => step == index,
+        Why::Missed(
+            Missed {
+                since: Since::Step(step),
+                ..
+            },
+        ) => step == index,
         _ => false,
     }
 }
@@ -23,12 +25,7 @@ fn rests_on(index: usize, why: Why) -> bool
 fn some_rests_on(index: usize, edges: &[Edge]) -> bool
     ensures { result ≡ spec.some_rests_on index edges.now }
 {
-    for edge in edges {
-        if rests_on(index, edge.why) {
-            return true;
-        }
-    }
-    false
+    edges.iter().any(|edge| rests_on(index, edge.why))
 }
 
 /// Whether an edge of a step is.
@@ -37,7 +34,9 @@ fn step_rests_on(index: usize, step: &Step) -> bool
 {
     match step {
         Step::Shown { edges, .. } => some_rests_on(index, edges),
-        Step::Forced { against, .. } => some_rests_on(index, &against.edges),
+        Step::Forced { against, .. } | Step::Later { against, .. } => {
+            some_rests_on(index, &against.edges)
+        }
     }
 }
 
@@ -45,12 +44,7 @@ fn step_rests_on(index: usize, step: &Step) -> bool
 fn one_rests_on(index: usize, steps: &[Step]) -> bool
     ensures { result ≡ spec.one_rests_on index steps.now }
 {
-    for step in steps {
-        if step_rests_on(index, step) {
-            return true;
-        }
-    }
-    false
+    steps.iter().any(|step| step_rests_on(index, step))
 }
 
 /// Whether the ending does.
@@ -76,12 +70,7 @@ fn is_needed(index: usize, steps: &[Step], ending: &Ending) -> bool
 
 /// Whether the ending or a step rests on each of these steps.
 pub fn are_needed(steps: &[Step], ending: &Ending) -> bool
-    ensures { result ≡ spec.are_needed steps.now ending.now 0 steps.now }
+    ensures { result ≡ spec.are_needed steps.now ending.now }
 {
-    for i in 0..steps.len() {
-        if !is_needed(i, steps, ending) {
-            return false;
-        }
-    }
-    true
+    (0..steps.len()).all(|index| is_needed(index, steps, ending))
 }

@@ -1,7 +1,7 @@
 //! Refutations by points: places of the log, from which each edge follows.
 
 ghost use Rattle.std.specs.Prelude.{◌≡◌};
-ghost use Rattle.point_refutations.specs.Edges.{first_of, second_of};
+ghost use Rattle.point_refutations.specs.Edges.{first_of, second_of, says_snapshot, txn_of};
 
 use level_refutations::{OpAt, TxnAt};
 
@@ -12,6 +12,17 @@ pub enum PointAt {
     Commit(TxnAt),
 }
 
+impl PointAt {
+    /// Whose point it is.
+    pub fn txn(self) -> TxnAt
+        ensures { result ≡ txn_of self }
+    {
+        match self {
+            PointAt::Snapshot(at) | PointAt::Commit(at) => at,
+        }
+    }
+}
+
 /// Why what a read finds is older than what another transaction writes.
 #[derive(Clone, Copy, Debug, PartialEq, Eq)]
 pub enum Since {
@@ -19,7 +30,7 @@ pub enum Since {
     Initial,
     /// Operation of this index of the other one reads it too.
     ReadToo(usize),
-    /// By the step of this index its writer commits before the other one takes its snapshot.
+    /// By the step of this index its writer commits before the other one does.
     Step(usize),
 }
 
@@ -46,12 +57,15 @@ pub enum Why {
     Read { write: usize, read: usize },
     /// By the step of this index.
     Step(usize),
+    /// By the step of this index the other one commits later.
+    Later(usize),
     /// A read of its snapshot misses a write of the other one.
     Missed(Missed),
 }
 
-/// The commit of one transaction stands before the snapshot of another; or, if the one misses a
-/// write of the other, its snapshot before the other's commit.
+/// The commit of one transaction stands before the snapshot of another, or, by a step that says no
+/// more, before its commit; or, if the one misses a write of the other, its snapshot before the
+/// other's commit.
 #[derive(Clone, Copy, Debug, PartialEq, Eq)]
 pub struct Edge {
     pub from: TxnAt,
@@ -77,16 +91,17 @@ pub struct Overwritten {
     pub write: OpAt,
 }
 
-/// Why one transaction cannot commit before another one takes its snapshot: edges lead from that
-/// snapshot to its commit. Or somebody reads what it wrote and the other one would have overwritten:
-/// then they lead from the other one's commit to the reader's snapshot.
+/// Why one transaction cannot commit before another one takes its snapshot, or commits: edges lead
+/// from that point to its commit. Or somebody reads what it wrote and the other one would have
+/// overwritten: then they lead from the other one's commit to the reader's snapshot.
 #[derive(Debug, Drop)]
 pub struct Against {
     pub overwritten: Option<Overwritten>,
     pub edges: Vec<Edge>,
 }
 
-/// One transaction commits before another, which writes one of its keys too, takes its snapshot.
+/// One transaction commits before another, which writes one of its keys too, takes its snapshot; or,
+/// also where keys are not locked, before that one commits.
 #[derive(Debug, Drop)]
 pub enum Step {
     /// Edges lead from the commit to the snapshot.
@@ -95,8 +110,13 @@ pub enum Step {
         second: TxnAt,
         edges: Vec<Edge>,
     },
-    /// Both write one key, and the other one cannot commit first.
+    /// Both write one key, and the other one cannot commit before this one takes its snapshot.
     Forced {
+        both: Both,
+        against: Against,
+    },
+    /// Both write one key, and the other one cannot commit before this one commits.
+    Later {
         both: Both,
         against: Against,
     },
@@ -109,18 +129,25 @@ impl Step {
     {
         match self {
             Step::Shown { first, .. } => *first,
-            Step::Forced { both, .. } => both.one.txn,
+            Step::Forced { both, .. } | Step::Later { both, .. } => both.one.txn,
         }
     }
 
-    /// The one that takes its snapshot later.
+    /// The one that takes its snapshot, or commits, later.
     pub fn second(&self) -> TxnAt
         ensures { result ≡ second_of self.now }
     {
         match self {
             Step::Shown { second, .. } => *second,
-            Step::Forced { both, .. } => both.other.txn,
+            Step::Forced { both, .. } | Step::Later { both, .. } => both.other.txn,
         }
+    }
+
+    /// Whether the other one takes its snapshot later, and does not only commit later.
+    pub fn says_snapshot(&self) -> bool
+        ensures { result ≡ says_snapshot self.now }
+    {
+        !matches!(self, Step::Later { .. })
     }
 }
 

@@ -26,56 +26,36 @@ fn writes_same(one: &Op, other: &Op) -> bool
 fn is_both(sessions: &[Session], both: Both) -> bool
     ensures { result ≡ spec.is_both (map view sessions.now) both }
 {
-    if is_same(both.one.txn, both.other.txn) {
-        return false;
-    }
-    let Some(one) = op_at(sessions, both.one) else {
-        return false;
-    };
-    match op_at(sessions, both.other) {
-        Some(other) => writes_same(one, other),
-        None => false,
-    }
+    !is_same(both.one.txn, both.other.txn)
+        && match (op_at(sessions, both.one), op_at(sessions, both.other)) {
+            (Some(one), Some(other)) => writes_same(one, other),
+            _ => false,
+        }
 }
 
 /// Whether the operation and one of these write one key.
 fn writes_too(op: &Op, others: &[Op]) -> bool
     ensures { result ≡ spec.writes_too op.now others.now }
 {
-    for other in others {
-        if writes_same(op, other) {
-            return true;
-        }
-    }
-    false
+    others.iter().any(|other| writes_same(op, other))
 }
 
 /// Whether one of these and one of those do.
 fn write_some(ops: &[Op], others: &[Op]) -> bool
     ensures { result ≡ spec.write_some ops.now others.now }
 {
-    for op in ops {
-        if writes_too(op, others) {
-            return true;
-        }
-    }
-    false
+    ops.iter().any(|op| writes_too(op, others))
 }
 
 /// Whether these are two transactions that write some key.
 fn are_writers(sessions: &[Session], one: TxnAt, other: TxnAt) -> bool
     ensures { result ≡ spec.are_writers (map view sessions.now) one other }
 {
-    if is_same(one, other) {
-        return false;
-    }
-    let Some(first) = txn_at(sessions, one) else {
-        return false;
-    };
-    match txn_at(sessions, other) {
-        Some(second) => write_some(&first.ops, &second.ops),
-        None => false,
-    }
+    !is_same(one, other)
+        && match (txn_at(sessions, one), txn_at(sessions, other)) {
+            (Some(one), Some(other)) => write_some(&one.ops, &other.ops),
+            _ => false,
+        }
 }
 
 /// Whether a read of another transaction finds what the late one writes, and the other one writes
@@ -91,22 +71,20 @@ fn is_overwritten(sessions: &[Session], late: TxnAt, other: TxnAt, it: Overwritt
         && !is_same(it.read.txn, other)
 }
 
-/// Whether the late one cannot commit before the other one takes its snapshot.
+/// Whether the late one cannot commit before this point of the other one.
 fn is_against(
     sessions: &[Session],
     steps: &[Step],
     late: TxnAt,
     other: TxnAt,
+    point: PointAt,
     against: &Against,
 ) -> bool
-    ensures { result ≡ spec.is_against (map view sessions.now) steps.now late other against.now }
+    ensures { result ≡ spec.is_against (map view sessions.now) steps.now late other point against.now }
 {
     let edges = &against.edges;
     match against.overwritten {
-        None => {
-            let (from, to) = (PointAt::Snapshot(other), PointAt::Commit(late));
-            is_simple_way(sessions, steps, from, edges, to)
-        }
+        None => is_simple_way(sessions, steps, point, edges, PointAt::Commit(late)),
         Some(it) => {
             let (from, to) = (PointAt::Commit(other), PointAt::Snapshot(it.read.txn));
             is_overwritten(sessions, late, other, it)
@@ -132,9 +110,16 @@ fn is_step(is_locked: bool, sessions: &[Session], earlier: &[Step], step: &Step)
                 && is_simple_way(sessions, earlier, from, edges, to)
         }
         Step::Forced { both, against } => {
+            let (late, other) = (both.other.txn, both.one.txn);
+            let point = PointAt::Snapshot(other);
             is_locked
                 && is_both(sessions, *both)
-                && is_against(sessions, earlier, both.other.txn, both.one.txn, against)
+                && is_against(sessions, earlier, late, other, point, against)
+        }
+        Step::Later { both, against } => {
+            let (late, other) = (both.other.txn, both.one.txn);
+            let point = PointAt::Commit(other);
+            is_both(sessions, *both) && is_against(sessions, earlier, late, other, point, against)
         }
     }
 }
@@ -176,8 +161,22 @@ fn is_ending(is_locked: bool, sessions: &[Session], steps: &[Step], ending: &End
             let (one, other) = (both.one.txn, both.other.txn);
             is_locked
                 && is_both(sessions, *both)
-                && is_against(sessions, steps, one, other, not_one)
-                && is_against(sessions, steps, other, one, not_other)
+                && is_against(
+                    sessions,
+                    steps,
+                    one,
+                    other,
+                    PointAt::Snapshot(other),
+                    not_one,
+                )
+                && is_against(
+                    sessions,
+                    steps,
+                    other,
+                    one,
+                    PointAt::Snapshot(one),
+                    not_other,
+                )
         }
     }
 }

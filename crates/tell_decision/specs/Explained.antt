@@ -12,7 +12,8 @@ use Rattle.reasons.specs.Runs.{without_runs}
 use Rattle.tell_reasons.specs.Anomalies.{anomaly_text}
 use Rattle.tell_reasons.specs.Crossed.{crossing_text}
 use Rattle.tell_steps.specs.Lines.{HasEnds}
-use Rattle.tell_steps.specs.Steps.{IsLineTold, IsDeadTold}
+use Rattle.tell_steps.specs.Rounds.{IsDeadTold}
+use Rattle.tell_steps.specs.Steps.{IsLineTold}
 use Rattle.tell_steps.specs.declared.item.Item.{Item}
 use Rattle.tell_steps.specs.declared.item.Item.TheVariants.{Step, Edge}
 use Rattle.serializability.specs.Polygraph.{Choice}

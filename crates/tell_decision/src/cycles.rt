@@ -8,7 +8,8 @@ ghost use Rattle.reduction.specs.Chained.{IsKnownCycle};
 ghost use Rattle.reduction.specs.Outcome.{IsDeadHistory, IsOpenHistory};
 ghost use Rattle.tell_reasons.specs.declared.why.Why.TheVariants as why;
 ghost use Rattle.tell_steps.specs.Lines.{Stands, LineStands};
-ghost use Rattle.tell_steps.specs.Steps.{IsWhy, IsLineTold, IsDeadTold};
+ghost use Rattle.tell_steps.specs.Rounds.{IsDeadTold};
+ghost use Rattle.tell_steps.specs.Steps.{IsWhy, IsLineTold};
 ghost use Rattle.tell_trees.specs.Trees.{IsTreeTold};
 ghost use Rattle.tell_decision.specs.Explained.{IsRoundTold};
 

@@ -1,25 +1,16 @@
 -- How evidence against a level is told: in a sentence, and then each edge with its lines.
-use Rattle.std.specs.Prelude.{ℕ, ◌==◌, ◌&&◌, Bool, true, false, List, [], ◌∷◌, ◌++◌, length}
-use Rattle.std.specs.Prelude.{codes, decimal}
-use Rattle.std.specs.Prelude.{Option, None, Some, if◌then◌else◌}
+use Rattle.std.specs.Prelude.{ℕ, ◌==◌, ◌&&◌, Bool, List, [], ◌∷◌, ◌++◌, length, codes, decimal, if◌then◌else◌}
 use Rattle.session_log.specs.Text.{ClientSession}
 use Rattle.session_log.specs.declared.session.Outcome.{Outcome}
 use Rattle.session_log.specs.declared.session.Outcome.TheVariants.{Commit, Abort, Unknown}
 use Rattle.log_lines.specs.Rows.{Table}
-use Rattle.level_refutations.specs.declared.evidence.TxnAt.{TxnAt}
-use Rattle.level_refutations.specs.declared.evidence.OpAt.{OpAt}
-use Rattle.level_refutations.specs.declared.evidence.Overlooked.{Overlooked}
-use Rattle.level_refutations.specs.declared.evidence.Edge.{Edge}
+use Rattle.level_refutations.specs.declared.evidence.{TxnAt.TxnAt, OpAt.OpAt, Overlooked.Overlooked, Edge.Edge, Fault.Fault, Why.Why, Evidence.Evidence}
 use Rattle.level_refutations.specs.declared.evidence.Edge.TheVariants as edge
-use Rattle.level_refutations.specs.declared.evidence.Fault.{Fault}
-use Rattle.level_refutations.specs.declared.evidence.Why.{Why}
 use Rattle.level_refutations.specs.declared.evidence.Why.TheVariants as why
-use Rattle.level_refutations.specs.declared.evidence.Evidence.{Evidence}
 use Rattle.level_refutations.specs.declared.evidence.Evidence.TheVariants as evidence
 use Rattle.level_refutations.specs.Edges.{op_of, edge_from, edge_to}
 use Rattle.tell_evidence.specs.Rows.{end_of, outcome_at, line_of, key_at, wid_at}
-use Rattle.tell_evidence.specs.Sentences.{name_text, in_line, version_text, does_text, wrote_text}
-use Rattle.tell_evidence.specs.Sentences.{hop_line, path_lines, stands_behind, reads_it}
+use Rattle.tell_evidence.specs.Sentences.{name_text, in_line, version_text, does_text, wrote_text, hop_line, path_lines, stands_behind, reads_it}
 
 -- ---- reads that overlook a write
 
@@ -114,28 +105,14 @@ abbrev pub short_known : Table → List ClientSession → List Edge → List ℕ
 short_known table ss [] = []
 short_known table ss (e ∷ edges) = short_hops table ss e
 
-abbrev pub is_forced_edge : Edge → Bool
-is_forced_edge (edge.Known hop) = false
-is_forced_edge (edge.Forced o found) = true
-
-abbrev pub first_forced : List Edge → Option Edge
-first_forced [] = None
-first_forced (e ∷ edges) = if is_forced_edge e then Some e else first_forced edges
-
-abbrev pub short_edge : Table → List ClientSession → Edge → List ℕ
-short_edge table ss (edge.Known hop) = []
-short_edge table ss (edge.Forced o found) = short_forced table ss o found
-
-abbrev pub short_by : Table → List ClientSession → List Edge → Option Edge → List ℕ
-short_by table ss edges None = short_known table ss edges
-short_by table ss edges (Some e) = short_edge table ss e
-
--- in a sentence: by the first edge that is forced
-abbrev pub short_circle : Table → List ClientSession → List Edge → List ℕ
-short_circle table ss edges = short_by table ss edges (first_forced edges)
+-- in a sentence: by the first of these edges that is forced, or of all where there is none
+abbrev pub short_by : Table → List ClientSession → List Edge → List Edge → List ℕ
+short_by table ss all [] = short_known table ss all
+short_by table ss all (edge.Known hop ∷ edges) = short_by table ss all edges
+short_by table ss all (edge.Forced o found ∷ edges) = short_forced table ss o found
 
 abbrev pub circle_text : Table → List ClientSession → List Edge → List ℕ
-circle_text table ss edges = short_circle table ss edges ++ edges_text table ss edges
+circle_text table ss edges = short_by table ss edges edges ++ edges_text table ss edges
     ++ clash_text table ss edges
 
 -- ---- faults
@@ -149,50 +126,32 @@ short_why (why.Overwritten write later) =
     codes " reads a version that its writer overwrote before committing\n"
 short_why (why.OwnLater write) = codes " reads what it writes itself only later\n"
 
--- `, but wrote x 7 before (line 8)`
-unfoldable pub missed_text : Table → List ClientSession → OpAt → List ℕ
-missed_text table ss write =
-    codes ", but wrote " ++ (key_at ss write ++ (codes " " ++ (decimal (wid_at ss write)
-    ++ (codes " before" ++ in_line (line_of table write)))))
-
 -- `, and 2.1 was aborted (line 5)`
-unfoldable pub abort_text : Table → List ClientSession → TxnAt → List ℕ
-abort_text table ss at = codes ", and " ++ (name_text table ss at ++ (codes " was aborted"
+unfoldable pub outcome_text : Table → List ClientSession → TxnAt → Outcome → List ℕ
+outcome_text table ss at Commit = []
+outcome_text table ss at Abort = codes ", and " ++ (name_text table ss at ++ (codes " was aborted"
     ++ in_line (end_of table at)))
-
-unfoldable pub unknown_text : Table → List ClientSession → TxnAt → List ℕ
-unknown_text table ss at = codes ", and the outcome of " ++ (name_text table ss at
+outcome_text table ss at Unknown = codes ", and the outcome of " ++ (name_text table ss at
     ++ (codes " is unknown" ++ in_line (end_of table at)))
 
-abbrev pub outcome_text : Table → List ClientSession → TxnAt → Outcome → List ℕ
-outcome_text table ss at Commit = []
-outcome_text table ss at Abort = abort_text table ss at
-outcome_text table ss at Unknown = unknown_text table ss at
-
--- `, which 2.1 wrote (line 4), and 2.1 was aborted (line 5)`
-abbrev pub aborted_text : Table → List ClientSession → OpAt → List ℕ
-aborted_text table ss write = wrote_text table ss write
-    ++ outcome_text table ss write.txn (outcome_at ss write.txn)
-
--- `, which 2.1 wrote (line 4) and overwrote with 6 (line 5)`
-unfoldable pub overwritten_text : Table → List ClientSession → OpAt → OpAt → List ℕ
-overwritten_text table ss write later =
-    wrote_text table ss write ++ (codes " and overwrote with " ++ (decimal (wid_at ss later)
-    ++ in_line (line_of table later)))
-
--- `, which it writes itself only later (line 10)`
-unfoldable pub later_text : Table → List ClientSession → OpAt → List ℕ
-later_text table ss write = codes ", which it writes itself only later"
-    ++ in_line (line_of table write)
-
--- what is wrong with the read
-abbrev pub why_text : Table → List ClientSession → OpAt → Why → List ℕ
-why_text table ss read (why.MissesOwn write) = missed_text table ss (op_of read.txn write)
+-- what is wrong with the read: `, but wrote x 7 before (line 8)`,
+-- `, which 2.1 wrote (line 4), and 2.1 was aborted (line 5)`,
+-- `, which 2.1 wrote (line 4) and overwrote with 6 (line 5)`,
+-- or `, which it writes itself only later (line 10)`
+unfoldable pub why_text : Table → List ClientSession → OpAt → Why → List ℕ
+why_text table ss read (why.MissesOwn write) =
+    codes ", but wrote " ++ (key_at ss (op_of read.txn write) ++ (codes " "
+    ++ (decimal (wid_at ss (op_of read.txn write)) ++ (codes " before"
+    ++ in_line (line_of table (op_of read.txn write))))))
 why_text table ss read why.Unwritten = codes ", which nobody wrote"
-why_text table ss read (why.Aborted write) = aborted_text table ss write
-why_text table ss read (why.Overwritten write later) = overwritten_text table ss write
-    (op_of write.txn later)
-why_text table ss read (why.OwnLater write) = later_text table ss (op_of read.txn write)
+why_text table ss read (why.Aborted write) = wrote_text table ss write
+    ++ outcome_text table ss write.txn (outcome_at ss write.txn)
+why_text table ss read (why.Overwritten write later) =
+    wrote_text table ss write ++ (codes " and overwrote with "
+    ++ (decimal (wid_at ss (op_of write.txn later))
+    ++ in_line (line_of table (op_of write.txn later))))
+why_text table ss read (why.OwnLater write) = codes ", which it writes itself only later"
+    ++ in_line (line_of table (op_of read.txn write))
 
 unfoldable pub short_fault : Table → List ClientSession → OpAt → List ℕ → List ℕ
 short_fault table ss read words = codes "in short: " ++ (name_text table ss read.txn ++ (words

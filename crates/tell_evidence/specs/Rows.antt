@@ -1,15 +1,14 @@
 -- What stands at a place of a log, and where: what stands nowhere has number 0, line 0 and no key.
 use Rattle.std.specs.Prelude.{ℕ, List, [], slice_get, Option, option_and_then, unwrap_or}
 use Rattle.std.specs.Option.{option_map_or}
-use Rattle.session_log.specs.Text.{ClientSession, Transaction, key_of}
+use Rattle.session_log.specs.Text.{ClientSession, key_of}
 use Rattle.session_log.specs.declared.session.Op.{Op}
 use Rattle.session_log.specs.declared.session.Op.TheVariants.{Read, Write}
 use Rattle.session_log.specs.declared.session.Outcome.{Outcome}
 use Rattle.session_log.specs.declared.session.Outcome.TheVariants.{Abort}
 use Rattle.log_lines.specs.Rows.{TxnRow, Table, no_row, line_at}
-use Rattle.level_refutations.specs.declared.evidence.TxnAt.{TxnAt}
-use Rattle.level_refutations.specs.declared.evidence.OpAt.{OpAt}
-use Rattle.level_refutations.specs.Whys.{any_at}
+use Rattle.level_refutations.specs.declared.evidence.{TxnAt.TxnAt, OpAt.OpAt}
+use Rattle.level_refutations.specs.Places.{any_at}
 
 -- the number of the session with this index
 abbrev pub number_at : List ClientSession → ℕ → ℕ
@@ -23,11 +22,9 @@ abbrev pub row_of : Table → TxnAt → TxnRow
 row_of table at = unwrap_or (row_at table at) no_row
 
 -- how it ended
-abbrev pub outcome_in : List Transaction → ℕ → Outcome
-outcome_in ts i = option_map_or (λ t. t.outcome) (slice_get ts i) Abort
-
 abbrev pub outcome_at : List ClientSession → TxnAt → Outcome
-outcome_at ss at = option_map_or (λ s. outcome_in s.txns at.txn) (slice_get ss at.session) Abort
+outcome_at ss at = option_map_or (λ s. option_map_or (λ t. t.outcome) (slice_get s.txns at.txn) Abort)
+    (slice_get ss at.session) Abort
 
 -- the line at which it begins
 abbrev pub begin_of : Table → TxnAt → ℕ

@@ -1,13 +1,9 @@
 -- Sentences of what evidence names. Transactions have their names in the log, as `2.7`: the number of
 -- the session, and the place there. Operations stand with their lines.
-use Rattle.std.specs.Prelude.{ℕ, ◌==◌, Bool, false, if◌then◌else◌, List, [], ◌∷◌, ◌++◌}
-use Rattle.std.specs.Prelude.{codes, decimal}
+use Rattle.std.specs.Prelude.{ℕ, ◌==◌, Bool, false, if◌then◌else◌, List, [], ◌∷◌, ◌++◌, codes, decimal}
 use Rattle.session_log.specs.Text.{ClientSession}
 use Rattle.log_lines.specs.Rows.{Table}
-use Rattle.level_refutations.specs.declared.evidence.TxnAt.{TxnAt}
-use Rattle.level_refutations.specs.declared.evidence.OpAt.{OpAt}
-use Rattle.level_refutations.specs.declared.evidence.Hop.{Hop}
-use Rattle.level_refutations.specs.declared.evidence.Step.{Step}
+use Rattle.level_refutations.specs.declared.evidence.{TxnAt.TxnAt, OpAt.OpAt, Hop.Hop, Step.Step}
 use Rattle.level_refutations.specs.declared.evidence.Step.TheVariants as step
 use Rattle.level_refutations.specs.Edges.{op_of}
 use Rattle.tell_evidence.specs.Rows.{number_at, row_of, line_of, key_at, wid_at}
@@ -40,28 +36,14 @@ unfoldable pub wrote_text : Table → List ClientSession → OpAt → List ℕ
 wrote_text table ss write = codes ", which " ++ name_text table ss write.txn ++ codes " wrote"
     ++ in_line (line_of table write)
 
--- `2.7 reads x 4 (line 90), which 1.2 wrote (line 12)`
-unfoldable pub reads_text : Table → List ClientSession → OpAt → OpAt → List ℕ
-reads_text table ss read write = does_text table ss (codes " reads ") read
-    ++ wrote_text table ss write
-
--- `1.3 wrote x (line 19)`
-unfoldable pub writes_text : Table → List ClientSession → OpAt → List ℕ
-writes_text table ss write = name_text table ss write.txn ++ codes " wrote " ++ key_at ss write
-    ++ in_line (line_of table write)
-
 -- ---- hops
 
--- `1.3 comes after 1.2 in session 1`
-unfoldable pub after_text : Table → List ClientSession → TxnAt → TxnAt → List ℕ
-after_text table ss from to = name_text table ss to ++ codes " comes after "
+-- `1.3 comes after 1.2 in session 1`, or `2.7 reads x 4 (line 90), which 1.2 wrote (line 12)`
+unfoldable pub step_text : Table → List ClientSession → TxnAt → TxnAt → Step → List ℕ
+step_text table ss from to step.Session = name_text table ss to ++ codes " comes after "
     ++ name_text table ss from ++ codes " in session " ++ decimal (number_at ss from.session)
-
--- by a session, or by a read
-abbrev pub step_text : Table → List ClientSession → TxnAt → TxnAt → Step → List ℕ
-step_text table ss from to step.Session = after_text table ss from to
-step_text table ss from to (step.Read write read) = reads_text table ss (op_of to read)
-    (op_of from write)
+step_text table ss from to (step.Read write read) =
+    does_text table ss (codes " reads ") (op_of to read) ++ wrote_text table ss (op_of from write)
 
 -- a hop on a line
 abbrev pub hop_line : Table → List ClientSession → Hop → List ℕ
@@ -83,10 +65,10 @@ abbrev pub reads_it : OpAt → List Hop → Bool
 reads_it write [] = false
 reads_it write (hop ∷ hops) = is_of_write write.op hop.step
 
--- that a write is there, where its path does not tell it
-abbrev pub write_line : Table → List ClientSession → OpAt → List Hop → List ℕ
-write_line table ss write path = if reads_it write path then [] else writes_text table ss write
-    ++ codes "\n"
+-- that a write is there, where its path does not tell it: `1.3 wrote x (line 19)`
+unfoldable pub write_line : Table → List ClientSession → OpAt → List Hop → List ℕ
+write_line table ss write path = if reads_it write path then [] else name_text table ss write.txn
+    ++ codes " wrote " ++ key_at ss write ++ in_line (line_of table write) ++ codes "\n"
 
 -- a write, and each hop of the path from it to the transaction that overlooks it
 abbrev pub path_lines : Table → List ClientSession → OpAt → List Hop → List ℕ

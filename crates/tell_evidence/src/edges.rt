@@ -1,93 +1,46 @@
 //! Edges, circles of them, and reads of the initial value that overlook a write.
 
-ghost use Rattle.std.specs.Prelude.{◌≡◌, ◌++◌, map, Some, None, OnOk, MatchOption};
+ghost use Rattle.std.specs.Prelude.{◌≡◌, ◌++◌, map, OnOk};
 ghost use Rattle.session_log.specs.Text.{view};
 ghost use Rattle.log_lines.specs.Rows.{rows_of};
-ghost use Rattle.level_refutations.specs.Edges.{edge_from, edge_to};
-ghost use Rattle.tell_evidence.specs.Evidence.{forced_text, is_read_too, short_twice, short_sight};
-ghost use Rattle.tell_evidence.specs.Evidence.{short_forced, short_initial};
-ghost use Rattle.tell_evidence.specs.Evidence.{lines_initial, initial_text, edge_text, edges_text};
-ghost use Rattle.tell_evidence.specs.Evidence.{before_text, behind_and, clash_text, short_hops};
-ghost use Rattle.tell_evidence.specs.Evidence.{short_known, is_forced_edge, first_forced};
-ghost use Rattle.tell_evidence.specs.Evidence.{short_edge, short_circle, circle_text};
+ghost use Rattle.tell_evidence.specs.Evidence as spec;
 
 use crate::paths::{put_hop, reads_it, stands_behind};
 use crate::phrases::{Log, put};
 use crate::tell;
-use level_refutations::{Edge, OpAt, Overlooked, TxnAt};
+use level_refutations::{Edge, OpAt, Overlooked};
 use std::alloc::AllocError;
-
-/// Appends an edge that is forced.
-#[tactic(auto, unfolding(crate::specs::Evidence::forced_text))]
-fn put_forced(
-    out: &mut Vec<u8>,
-    log: &Log<'_>,
-    it: &Overlooked,
-    found: OpAt,
-) -> Result<(), AllocError>
-    ensures put { OnOk result (out.new.items ≡ out.old.items ++ forced_text
-        (rows_of log.now.places.now) (map view log.now.sessions.now) it.now found) }
-{
-    tell!(out, log;
-        Path(it), Does(b" reads ", it.read), Wrote(found), Text(b"\nso "),
-        Version(it.write), Text(b" has to be older than "), Version(found), Text(b"\n"))
-}
 
 /// Whether a read overlooks a write that its own transaction reads too.
 fn is_read_too(it: &Overlooked) -> bool
-    ensures { result ≡ is_read_too it.now }
+    ensures { result ≡ spec.is_read_too it.now }
 {
     it.path.len() == 1 && reads_it(it.write, &it.path)
 }
 
-/// Appends two reads of one key in a sentence.
-#[tactic(auto, unfolding(crate::specs::Evidence::short_twice))]
-fn put_short_twice(
-    out: &mut Vec<u8>,
-    log: &Log<'_>,
-    it: &Overlooked,
-    found: OpAt,
-) -> Result<(), AllocError>
-    ensures put { OnOk result (out.new.items ≡ out.old.items ++ short_twice
-        (rows_of log.now.places.now) (map view log.now.sessions.now) it.now found) }
-{
-    tell!(out, log;
-        Text(b"in short: "), Name(it.read.txn), Text(b" reads two versions of "), Key(it.read),
-        Text(b": that of "), Name(it.write.txn), Text(b", and the older one of "),
-        Name(found.txn), Text(b"\n"))
-}
-
-/// Appends a read that overlooks a write which it sees in a sentence.
-#[tactic(auto, unfolding(crate::specs::Evidence::short_sight))]
-fn put_short_sight(
-    out: &mut Vec<u8>,
-    log: &Log<'_>,
-    it: &Overlooked,
-    found: OpAt,
-) -> Result<(), AllocError>
-    ensures put { OnOk result (out.new.items ≡ out.old.items ++ short_sight
-        (rows_of log.now.places.now) (map view log.now.sessions.now) it.now found) }
-{
-    tell!(out, log;
-        Text(b"in short: "), Name(it.read.txn), Text(stands_behind(&it.path)), Name(it.write.txn),
-        Text(b", which wrote "), Key(it.write), Text(b", but reads the older "), Key(found),
-        Text(b" of "), Name(found.txn), Text(b"\n"))
-}
-
-/// Appends a forced edge of a circle in a sentence.
+/// Appends a forced edge of a circle in a sentence: two reads of one key, or a read that overlooks a
+/// write which it sees.
+#[tactic(auto, unfolding(crate::specs::Evidence::short_twice, crate::specs::Evidence::short_sight))]
 fn put_short_forced(
     out: &mut Vec<u8>,
     log: &Log<'_>,
     it: &Overlooked,
     found: OpAt,
 ) -> Result<(), AllocError>
-    ensures put { OnOk result (out.new.items ≡ out.old.items ++ short_forced
+    ensures put { OnOk result (out.new.items ≡ out.old.items ++ spec.short_forced
         (rows_of log.now.places.now) (map view log.now.sessions.now) it.now found) }
 {
     if is_read_too(it) {
-        put_short_twice(out, log, it, found)
+        tell!(out, log;
+            Text(b"in short: "), Name(it.read.txn), Text(b" reads two versions of "), Key(it.read),
+            Text(b": that of "), Name(it.write.txn), Text(b", and the older one of "),
+            Name(found.txn), Text(b"\n"))
     } else {
-        put_short_sight(out, log, it, found)
+        tell!(out, log;
+            Text(b"in short: "), Name(it.read.txn), Text(stands_behind(&it.path)),
+            Name(it.write.txn), Text(b", which wrote "), Key(it.write),
+            Text(b", but reads the older "), Key(found),
+            Text(b" of "), Name(found.txn), Text(b"\n"))
     }
 }
 
@@ -95,7 +48,7 @@ fn put_short_forced(
 #[tactic(auto, unfolding(crate::specs::Evidence::short_initial))]
 fn put_short_initial(out: &mut Vec<u8>, log: &Log<'_>, it: &Overlooked) -> Result<(), AllocError>
     ensures put { OnOk result (out.new.items ≡ out.old.items
-        ++ short_initial (rows_of log.now.places.now) (map view log.now.sessions.now) it.now) }
+        ++ spec.short_initial (rows_of log.now.places.now) (map view log.now.sessions.now) it.now) }
 {
     tell!(out, log;
         Text(b"in short: "), Name(it.read.txn), Text(stands_behind(&it.path)), Name(it.write.txn),
@@ -103,42 +56,41 @@ fn put_short_initial(out: &mut Vec<u8>, log: &Log<'_>, it: &Overlooked) -> Resul
         Key(it.read), Text(b"\n"))
 }
 
-/// Appends by which path a read sees a write, what it names, and what it should name.
+/// Appends a read of the initial value that overlooks a write: in a sentence, and then by which path
+/// it sees the write, what it names, and what it should name.
 #[tactic(auto, unfolding(crate::specs::Evidence::lines_initial))]
-fn put_lines_initial(out: &mut Vec<u8>, log: &Log<'_>, it: &Overlooked) -> Result<(), AllocError>
+pub fn put_initial(out: &mut Vec<u8>, log: &Log<'_>, it: &Overlooked) -> Result<(), AllocError>
     ensures put { OnOk result (out.new.items ≡ out.old.items
-        ++ lines_initial (rows_of log.now.places.now) (map view log.now.sessions.now) it.now) }
+        ++ spec.initial_text (rows_of log.now.places.now) (map view log.now.sessions.now) it.now) }
 {
+    put_short_initial(out, log, it)?;
     tell!(out, log;
         Path(it), Does(b" reads ", it.read), Text(b", the initial value\nso "),
         Name(it.read.txn), Text(b" should read "), Version(it.write),
         Text(b" or a later one\n"))
 }
 
-/// Appends a read of the initial value that overlooks a write.
-pub fn put_initial(out: &mut Vec<u8>, log: &Log<'_>, it: &Overlooked) -> Result<(), AllocError>
-    ensures put { OnOk result (out.new.items ≡ out.old.items
-        ++ initial_text (rows_of log.now.places.now) (map view log.now.sessions.now) it.now) }
-{
-    put_short_initial(out, log, it)?;
-    put_lines_initial(out, log, it)
-}
-
 /// Appends an edge.
+#[tactic(auto, unfolding(crate::specs::Evidence::forced_text))]
 fn put_edge(out: &mut Vec<u8>, log: &Log<'_>, edge: &Edge) -> Result<(), AllocError>
     ensures put { OnOk result (out.new.items ≡ out.old.items
-        ++ edge_text (rows_of log.now.places.now) (map view log.now.sessions.now) edge.now) }
+        ++ spec.edge_text (rows_of log.now.places.now) (map view log.now.sessions.now) edge.now) }
 {
     match edge {
         Edge::Known(hop) => put_hop(out, log, hop),
-        Edge::Forced { overlooked, found } => put_forced(out, log, overlooked, *found),
+        Edge::Forced {
+            overlooked: it,
+            found,
+        } => tell!(out, log;
+            Path(it), Does(b" reads ", it.read), Wrote(*found), Text(b"\nso "),
+            Version(it.write), Text(b" has to be older than "), Version(*found), Text(b"\n")),
     }
 }
 
 /// Appends edges.
 fn put_edges(out: &mut Vec<u8>, log: &Log<'_>, edges: &[Edge]) -> Result<(), AllocError>
     ensures put { OnOk result (out.new.items ≡ out.old.items
-        ++ edges_text (rows_of log.now.places.now) (map view log.now.sessions.now) edges.now) }
+        ++ spec.edges_text (rows_of log.now.places.now) (map view log.now.sessions.now) edges.now) }
 {
     for edge in edges {
         put_edge(out, log, edge)?;
@@ -146,40 +98,20 @@ fn put_edges(out: &mut Vec<u8>, log: &Log<'_>, edges: &[Edge]) -> Result<(), All
     Ok(())
 }
 
-/// From where an edge leads.
-fn edge_from(edge: &Edge) -> TxnAt
-    ensures { result ≡ edge_from edge.now }
-{
-    match edge {
-        Edge::Known(hop) => hop.from,
-        Edge::Forced { overlooked, .. } => overlooked.write.txn,
-    }
-}
-
-/// Where it leads to.
-fn edge_to(edge: &Edge) -> TxnAt
-    ensures { result ≡ edge_to edge.now }
-{
-    match edge {
-        Edge::Known(hop) => hop.to,
-        Edge::Forced { found, .. } => found.txn,
-    }
-}
-
 /// Appends these words, and which transaction comes before which.
 #[tactic(auto, unfolding(crate::specs::Evidence::before_text))]
 fn put_before(out: &mut Vec<u8>, log: &Log<'_>, words: &[u8], edge: &Edge) -> Result<(), AllocError>
-    ensures put { OnOk result (out.new.items ≡ out.old.items ++ before_text
+    ensures put { OnOk result (out.new.items ≡ out.old.items ++ spec.before_text
         (rows_of log.now.places.now) (map view log.now.sessions.now) words.now edge.now) }
 {
-    let (from, to) = (edge_from(edge), edge_to(edge));
+    let (from, to) = (edge.from(), edge.to());
     tell!(out, log; Text(words), Name(from), Text(b" comes before "), Name(to))
 }
 
 /// Appends the same of further edges.
 fn put_behind(out: &mut Vec<u8>, log: &Log<'_>, edges: &[Edge]) -> Result<(), AllocError>
     ensures put { OnOk result (out.new.items ≡ out.old.items
-        ++ behind_and (rows_of log.now.places.now) (map view log.now.sessions.now) edges.now) }
+        ++ spec.behind_and (rows_of log.now.places.now) (map view log.now.sessions.now) edges.now) }
 {
     for edge in edges {
         put_before(out, log, b", and ", edge)?;
@@ -190,7 +122,7 @@ fn put_behind(out: &mut Vec<u8>, log: &Log<'_>, edges: &[Edge]) -> Result<(), Al
 /// Appends the clash of a circle.
 fn put_clash(out: &mut Vec<u8>, log: &Log<'_>, edges: &[Edge]) -> Result<(), AllocError>
     ensures put { OnOk result (out.new.items ≡ out.old.items
-        ++ clash_text (rows_of log.now.places.now) (map view log.now.sessions.now) edges.now) }
+        ++ spec.clash_text (rows_of log.now.places.now) (map view log.now.sessions.now) edges.now) }
 {
     match edges {
         [] => Ok(()),
@@ -206,9 +138,9 @@ fn put_clash(out: &mut Vec<u8>, log: &Log<'_>, edges: &[Edge]) -> Result<(), All
 #[tactic(auto, unfolding(crate::specs::Evidence::short_hops))]
 fn put_short_hops(out: &mut Vec<u8>, log: &Log<'_>, edge: &Edge) -> Result<(), AllocError>
     ensures put { OnOk result (out.new.items ≡ out.old.items
-        ++ short_hops (rows_of log.now.places.now) (map view log.now.sessions.now) edge.now) }
+        ++ spec.short_hops (rows_of log.now.places.now) (map view log.now.sessions.now) edge.now) }
 {
-    let from = edge_from(edge);
+    let from = edge.from();
     tell!(out, log;
         Text(b"in short: by sessions and reads alone "), Name(from),
         Text(b" comes before itself\n"))
@@ -217,7 +149,7 @@ fn put_short_hops(out: &mut Vec<u8>, log: &Log<'_>, edge: &Edge) -> Result<(), A
 /// Appends a circle of which no edge is forced in a sentence.
 fn put_short_known(out: &mut Vec<u8>, log: &Log<'_>, edges: &[Edge]) -> Result<(), AllocError>
     ensures put { OnOk result (out.new.items ≡ out.old.items
-        ++ short_known (rows_of log.now.places.now) (map view log.now.sessions.now) edges.now) }
+        ++ spec.short_known (rows_of log.now.places.now) (map view log.now.sessions.now) edges.now) }
 {
     match edges {
         [] => Ok(()),
@@ -225,55 +157,23 @@ fn put_short_known(out: &mut Vec<u8>, log: &Log<'_>, edges: &[Edge]) -> Result<(
     }
 }
 
-/// Appends an edge that is forced in a sentence.
-fn put_short_edge(out: &mut Vec<u8>, log: &Log<'_>, edge: &Edge) -> Result<(), AllocError>
-    ensures put { OnOk result (out.new.items ≡ out.old.items
-        ++ short_edge (rows_of log.now.places.now) (map view log.now.sessions.now) edge.now) }
-{
-    match edge {
-        Edge::Known(_) => Ok(()),
-        Edge::Forced { overlooked, found } => put_short_forced(out, log, overlooked, *found),
-    }
-}
-
-/// Whether an edge is forced.
-pub fn is_forced_edge(edge: &Edge) -> bool
-    ensures { result ≡ is_forced_edge edge.now }
-{
-    match edge {
-        Edge::Known(_) => false,
-        Edge::Forced { .. } => true,
-    }
-}
-
-/// The first edge that is forced.
-fn first_forced(edges: &[Edge]) -> Option<&Edge>
-    ensures { MatchOption result (first_forced edges.now ≡ None)
-        (λ edge. first_forced edges.now ≡ Some edge.now) }
-{
-    for edge in edges {
-        if is_forced_edge(edge) {
-            return Some(edge);
-        }
-    }
-    None
-}
-
 /// Appends a circle in a sentence: by its first edge that is forced.
 fn put_short_circle(out: &mut Vec<u8>, log: &Log<'_>, edges: &[Edge]) -> Result<(), AllocError>
-    ensures put { OnOk result (out.new.items ≡ out.old.items
-        ++ short_circle (rows_of log.now.places.now) (map view log.now.sessions.now) edges.now) }
+    ensures put { OnOk result (out.new.items ≡ out.old.items ++ spec.short_by
+        (rows_of log.now.places.now) (map view log.now.sessions.now) edges.now edges.now) }
 {
-    match first_forced(edges) {
-        None => put_short_known(out, log, edges),
-        Some(edge) => put_short_edge(out, log, edge),
+    for edge in edges {
+        if let Edge::Forced { overlooked, found } = edge {
+            return put_short_forced(out, log, overlooked, *found);
+        }
     }
+    put_short_known(out, log, edges)
 }
 
 /// Appends a circle.
 pub fn put_circle(out: &mut Vec<u8>, log: &Log<'_>, edges: &[Edge]) -> Result<(), AllocError>
     ensures put { OnOk result (out.new.items ≡ out.old.items
-        ++ circle_text (rows_of log.now.places.now) (map view log.now.sessions.now) edges.now) }
+        ++ spec.circle_text (rows_of log.now.places.now) (map view log.now.sessions.now) edges.now) }
 {
     put_short_circle(out, log, edges)?;
     put_edges(out, log, edges)?;

@@ -4,11 +4,10 @@ ghost use Rattle.std.specs.Prelude.{◌≡◌, ◌++◌, map, OnOk};
 ghost use Rattle.session_log.specs.Text.{view};
 ghost use Rattle.log_lines.specs.Rows.{rows_of};
 ghost use Rattle.level_refutations.specs.Edges.{op_of};
-ghost use Rattle.tell_evidence.specs.Sentences.{step_text, hop_line, hop_lines, is_of_write};
-ghost use Rattle.tell_evidence.specs.Sentences.{reads_it, write_line, path_lines, stands_by};
-ghost use Rattle.tell_evidence.specs.Sentences.{stands_behind};
+ghost use Rattle.tell_evidence.specs.Sentences as spec;
 
-use crate::phrases::{Log, put, put_after, put_reads, put_writes};
+use crate::phrases::{Log, put, put_does, put_in_line, put_name, put_number, put_wrote};
+use crate::places::{key_at, line_of, number_at};
 use level_refutations::{Hop, OpAt, Step, TxnAt};
 use std::alloc::AllocError;
 
@@ -20,6 +19,7 @@ pub fn op_of(txn: TxnAt, op: usize) -> OpAt
 }
 
 /// Appends a step between two transactions.
+#[tactic(auto, unfolding(crate::specs::Sentences::step_text))]
 fn put_step(
     out: &mut Vec<u8>,
     log: &Log<'_>,
@@ -27,18 +27,27 @@ fn put_step(
     to: TxnAt,
     step: Step,
 ) -> Result<(), AllocError>
-    ensures put { OnOk result (out.new.items ≡ out.old.items ++ step_text
+    ensures put { OnOk result (out.new.items ≡ out.old.items ++ spec.step_text
         (rows_of log.now.places.now) (map view log.now.sessions.now) from to step) }
 {
     match step {
-        Step::Session => put_after(out, log, from, to),
-        Step::Read { write, read } => put_reads(out, log, op_of(to, read), op_of(from, write)),
+        Step::Session => {
+            put_name(out, log, to)?;
+            put(out, b" comes after ")?;
+            put_name(out, log, from)?;
+            put(out, b" in session ")?;
+            put_number(out, number_at(log.sessions, from.session) as u64)
+        }
+        Step::Read { write, read } => {
+            put_does(out, log, b" reads ", op_of(to, read))?;
+            put_wrote(out, log, op_of(from, write))
+        }
     }
 }
 
 /// Appends a hop on a line.
 pub fn put_hop(out: &mut Vec<u8>, log: &Log<'_>, hop: &Hop) -> Result<(), AllocError>
-    ensures put { OnOk result (out.new.items ≡ out.old.items ++ hop_line
+    ensures put { OnOk result (out.new.items ≡ out.old.items ++ spec.hop_line
         (rows_of log.now.places.now) (map view log.now.sessions.now) hop.now) }
 {
     put_step(out, log, hop.from, hop.to, hop.step)?;
@@ -47,7 +56,7 @@ pub fn put_hop(out: &mut Vec<u8>, log: &Log<'_>, hop: &Hop) -> Result<(), AllocE
 
 /// Appends hops, each on a line.
 fn put_hops(out: &mut Vec<u8>, log: &Log<'_>, hops: &[Hop]) -> Result<(), AllocError>
-    ensures put { OnOk result (out.new.items ≡ out.old.items ++ hop_lines
+    ensures put { OnOk result (out.new.items ≡ out.old.items ++ spec.hop_lines
         (rows_of log.now.places.now) (map view log.now.sessions.now) hops.now) }
 {
     for hop in hops {
@@ -56,35 +65,32 @@ fn put_hops(out: &mut Vec<u8>, log: &Log<'_>, hops: &[Hop]) -> Result<(), AllocE
     Ok(())
 }
 
-/// Whether a step is a read of operation `write`.
-fn is_of_write(write: usize, step: Step) -> bool
-    ensures { result ≡ is_of_write write step }
-{
-    match step {
-        Step::Session => false,
-        Step::Read { write: named, .. } => named == write,
-    }
-}
-
 /// Whether the first of these hops is a read of the very write.
 pub fn reads_it(write: OpAt, path: &[Hop]) -> bool
-    ensures { result ≡ reads_it write path.now }
+    ensures { result ≡ spec.reads_it write path.now }
 {
     match path {
         [] => false,
-        [first, ..] => is_of_write(write.op, first.step),
+        [first, ..] => match first.step {
+            Step::Session => false,
+            Step::Read { write: named, .. } => named == write.op,
+        },
     }
 }
 
 /// Appends that a write is there, where its path does not tell it.
+#[tactic(auto, unfolding(crate::specs::Sentences::write_line))]
 fn put_write(out: &mut Vec<u8>, log: &Log<'_>, write: OpAt, path: &[Hop]) -> Result<(), AllocError>
-    ensures put { OnOk result (out.new.items ≡ out.old.items ++ write_line
+    ensures put { OnOk result (out.new.items ≡ out.old.items ++ spec.write_line
         (rows_of log.now.places.now) (map view log.now.sessions.now) write path.now) }
 {
     if reads_it(write, path) {
         return Ok(());
     }
-    put_writes(out, log, write)?;
+    put_name(out, log, write.txn)?;
+    put(out, b" wrote ")?;
+    put(out, key_at(log.sessions, write))?;
+    put_in_line(out, line_of(log.places, write))?;
     put(out, b"\n")
 }
 
@@ -95,29 +101,22 @@ pub fn put_path(
     write: OpAt,
     path: &[Hop],
 ) -> Result<(), AllocError>
-    ensures put { OnOk result (out.new.items ≡ out.old.items ++ path_lines
+    ensures put { OnOk result (out.new.items ≡ out.old.items ++ spec.path_lines
         (rows_of log.now.places.now) (map view log.now.sessions.now) write path.now) }
 {
     put_write(out, log, write, path)?;
     put_hops(out, log, path)
 }
 
-/// How a transaction stands to the one before it.
-fn stands_by(step: Step) -> &'static [u8]
-    ensures { result.now ≡ stands_by step }
-{
-    match step {
-        Step::Session => b" comes after ",
-        Step::Read { .. } => b" sees ",
-    }
-}
-
 /// How a transaction stands to the first one of a path to it.
 pub fn stands_behind(path: &[Hop]) -> &'static [u8]
-    ensures { result.now ≡ stands_behind path.now }
+    ensures { result.now ≡ spec.stands_behind path.now }
 {
     match path {
-        [only] => stands_by(only.step),
+        [only] => match only.step {
+            Step::Session => b" comes after ",
+            Step::Read { .. } => b" sees ",
+        },
         _ => b" comes after ",
     }
 }

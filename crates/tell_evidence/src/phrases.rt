@@ -3,8 +3,7 @@
 ghost use Rattle.std.specs.Prelude.{◌≡◌, ◌++◌, map, decimal, OnOk};
 ghost use Rattle.session_log.specs.Text.{view};
 ghost use Rattle.log_lines.specs.Rows.{rows_of};
-ghost use Rattle.tell_evidence.specs.Sentences.{name_text, in_line, version_text, does_text};
-ghost use Rattle.tell_evidence.specs.Sentences.{wrote_text, reads_text, writes_text, after_text};
+ghost use Rattle.tell_evidence.specs.Sentences.{name_text, in_line, version_text, does_text, wrote_text};
 
 use crate::places::{key_at, line_of, number_at, place_at, wid_at};
 use itoa::Buffer;
@@ -92,44 +91,4 @@ pub fn put_wrote(out: &mut Vec<u8>, log: &Log<'_>, write: OpAt) -> Result<(), Al
     put_name(out, log, write.txn)?;
     put(out, b" wrote")?;
     put_in_line(out, line_of(log.places, write))
-}
-
-/// Appends a read, and who wrote what it names.
-#[tactic(auto, unfolding(crate::specs::Sentences::reads_text))]
-pub fn put_reads(
-    out: &mut Vec<u8>,
-    log: &Log<'_>,
-    read: OpAt,
-    write: OpAt,
-) -> Result<(), AllocError>
-    ensures put { OnOk result (out.new.items ≡ out.old.items ++ reads_text
-        (rows_of log.now.places.now) (map view log.now.sessions.now) read write) }
-{
-    put_does(out, log, b" reads ", read)?;
-    put_wrote(out, log, write)
-}
-
-/// Appends that a transaction wrote a key.
-#[tactic(auto, unfolding(crate::specs::Sentences::writes_text))]
-pub fn put_writes(out: &mut Vec<u8>, log: &Log<'_>, write: OpAt) -> Result<(), AllocError>
-    ensures put { OnOk result (out.new.items ≡ out.old.items
-        ++ writes_text (rows_of log.now.places.now) (map view log.now.sessions.now) write) }
-{
-    put_name(out, log, write.txn)?;
-    put(out, b" wrote ")?;
-    put(out, key_at(log.sessions, write))?;
-    put_in_line(out, line_of(log.places, write))
-}
-
-/// Appends that a transaction comes after another one of its session.
-#[tactic(auto, unfolding(crate::specs::Sentences::after_text))]
-pub fn put_after(out: &mut Vec<u8>, log: &Log<'_>, from: TxnAt, to: TxnAt) -> Result<(), AllocError>
-    ensures put { OnOk result (out.new.items ≡ out.old.items
-        ++ after_text (rows_of log.now.places.now) (map view log.now.sessions.now) from to) }
-{
-    put_name(out, log, to)?;
-    put(out, b" comes after ")?;
-    put_name(out, log, from)?;
-    put(out, b" in session ")?;
-    put_number(out, number_at(log.sessions, from.session) as u64)
 }

@@ -1,6 +1,6 @@
 //! Evidence as text.
 
-ghost use Rattle.std.specs.Prelude.{◌≡◌, ◌++◌, map, OnOk, IfOk};
+ghost use Rattle.std.specs.Prelude.{◌≡◌, map, IfOk};
 ghost use Rattle.session_log.specs.Text.{view};
 ghost use Rattle.log_lines.specs.Rows.{rows_of};
 ghost use Rattle.tell_evidence.specs.Evidence as spec;
@@ -12,17 +12,6 @@ use level_refutations::Evidence;
 use log_lines::LogPlaces;
 use session_log::Session;
 use std::alloc::{AllocError, Global};
-
-fn put_evidence(out: &mut Vec<u8>, log: &Log<'_>, evidence: &Evidence) -> Result<(), AllocError>
-    ensures put { OnOk result (out.new.items ≡ out.old.items ++ spec.evidence_text
-        (rows_of log.now.places.now) (map view log.now.sessions.now) evidence.now) }
-{
-    match evidence {
-        Evidence::Fault(fault) => put_fault(out, log, fault),
-        Evidence::Circle(edges) => put_circle(out, log, edges),
-        Evidence::Initial(overlooked) => put_initial(out, log, overlooked),
-    }
-}
 
 /// Evidence against a level of these sessions, in lines: it is told in short, and then each of its
 /// edges with its lines by these places. It is not asked whether the evidence is right.
@@ -36,6 +25,11 @@ pub fn evidence_text(
         (map view sessions.now) evidence.now) }
 {
     let mut out = Vec::new(alloc);
-    put_evidence(&mut out, &Log { sessions, places }, evidence)?;
+    let log = Log { sessions, places };
+    match evidence {
+        Evidence::Fault(fault) => put_fault(&mut out, &log, fault)?,
+        Evidence::Circle(edges) => put_circle(&mut out, &log, edges)?,
+        Evidence::Initial(overlooked) => put_initial(&mut out, &log, overlooked)?,
+    }
     Ok(out)
 }

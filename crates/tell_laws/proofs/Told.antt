@@ -1,19 +1,25 @@
 -- As many cycles are told of a tree as it has leaves, and what is told holds in each serial order.
-use Rattle.std.proofs.Common.{◌≡◌, ℕ, ◌+◌, List, [], ◌∷◌, ◌++◌, length, Bool, true, false, cond, ap, refl, arith, ◌≢◌, ◌⊎◌, ◌<◌, sym, subst, inl, inr, zero, suc}
+use Rattle.std.proofs.Common.{◌≡◌, ℕ, ◌+◌, List, [], ◌∷◌, ◌++◌, Bool, true, false, cond, ap, refl, arith, ◌≢◌, ◌⊎◌, ◌<◌, sym, subst, inl, inr, zero, suc, Option, Some, None, ◌∙◌, append_assoc}
 use Rattle.std.specs.Prelude.{nat_lt, map}
 use Rattle.session_log.specs.Text.{ClientSession}
 use Rattle.serializability.specs.Polygraph.{Choice, Keeps, KeepsOne, all_keys, Edge, committed}
 use Rattle.cube_laws.specs.declared.tree.TreeNode.{TreeNode}
+use Rattle.tell_proposals.specs.declared.proposal.Step.{Step}
 use Rattle.tell_reasons.specs.declared.why.ChainOrder.{ChainOrder}
 use Rattle.tell_steps.specs.Steps as told
-use Rattle.tell_steps.specs.Steps.{turned, IsLineTold, AreStepsTold, IsCycleTold, IsOrder, edges_in, Follows, IsWhy, IsDeadTold}
+use Rattle.tell_steps.specs.Steps.{turned, IsLineTold, IsOrder, edges_in, Follows, IsWhy}
+use Rattle.tell_steps.specs.Ledgers.{orders_of}
+use Rattle.tell_steps.specs.Told.{IsRoundTold, AreStepsTold}
+use Rattle.tell_steps.specs.Rounds.{RoundView, AreRoundsTold, IsDeadTold}
 use Rattle.tell_steps.specs.declared.item.Item.{Item}
 use Rattle.tell_steps.specs.declared.item.Item.TheVariants as item
-use Rattle.tell_trees.specs.Trees as trees
-use Rattle.tell_trees.specs.Trees.{IsCubeTold, leaves_items, IsTreeTold, told_leaves}
-use Rattle.tell_trees.specs.Visits.{leaf_count}
+use Rattle.tell_trees.specs.Orders.{no_order, order_at}
+use Rattle.tell_trees.specs.Trees.{leaves_items, IsTreeTold, told_leaves}
+use Rattle.tell_trees.specs.Visits as visits
+use Rattle.tell_trees.specs.Visits.{leaf_count, IsVisited, decision_items, round_at}
 use Rattle.tell_laws.specs.Counts.{cycles_in}
-use Rattle.std.specs.List.{Contains, AllByRecursion}
+use Rattle.std.specs.List.{All, Contains, AllByRecursion}
+use Rattle.std.proofs.lemmas.List.{append-nil}
 use Rattle.serializability.specs.Log.{Log}
 use Rattle.serializability.specs.Replay.{IsSerial, Before}
 use Rattle.serializability.specs.Reads.{IsClean}
@@ -32,7 +38,9 @@ use Rattle.log_definitions.specs.Serial.{IsSerialOrder}
 use Rattle.log_definitions.specs.Numbers.{IsWellFormedList, log_of}
 use Rattle.log_definitions.proofs.Renaming.{serial_numbered}
 use Rattle.reason_laws.proofs.Kept.{serial, session_kept, read_kept, overwritten_kept, initial_kept, ended_kept}
+use Rattle.pruning_laws.specs.declared.side.Side.TheVariants.{One}
 use Rattle.reasons.specs.Given.{IsReason}
+use Rattle.reasons.specs.Runs.{without_runs}
 use Rattle.reasons.specs.declared.reason.Reason.{Reason}
 use Rattle.reasons.specs.declared.reason.Reason.TheVariants as reason
 use Rattle.tell_reasons.specs.declared.why.Why.{Why}
@@ -48,31 +56,47 @@ of_line : (ss : List ClientSession) (steps decided : List ChainOrder) (line : Li
 of_line ss steps decided line items (told.ends v) = refl
 of_line ss steps decided line items (told.goes a b rest w more why h) = omega (arith, of_line ss steps decided (b ∷ rest) more h)
 
-of_steps : (ss : List ClientSession) (steps : List ChainOrder) (items : List Item) → AreStepsTold ss steps items → cycles_in items ≡ 0
-of_steps ss steps items told.none = refl
-of_steps ss steps items (told.step before front h o two u v has inner against line) =
-    omega (arith, joined front (item.Step (length before + 1) o u v ∷ against), of_steps ss before front h, of_line ss before [] (v ∷ (inner ++ u ∷ [])) against line)
+of_steps : (ss : List ClientSession) (earlier : List ChainOrder) (steps : List Step) (items : List Item) → AreStepsTold ss earlier steps items → cycles_in items ≡ 0
+of_steps ss earlier [] items t = ap cycles_in t
+of_steps ss earlier (s ∷ steps) items t =
+    omega (arith, ap cycles_in t.4, joined t.0 t.1, ap cycles_in t.2.whole, of_line ss earlier [] s.walk.items t.2.against t.2.line, of_steps ss (earlier ++ s.order ∷ []) steps t.1 t.3)
 
-of_cycle : (ss : List ClientSession) (steps decided : List ChainOrder) (items : List Item) → IsCycleTold ss steps decided items → cycles_in items ≡ 1
-of_cycle ss steps decided items (told.closes start inner edges h) = omega (arith, of_line ss steps decided (start ∷ (inner ++ start ∷ [])) edges h)
-
-of_cube : (ss : List ClientSession) (steps : List ChainOrder) (orders : List ChainOrder) (nodes : List TreeNode) (i : ℕ) (decided : List ChainOrder) (n m : ℕ) (items : List Item) → IsCubeTold ss steps orders nodes i decided n m items → n + cycles_in items ≡ m
-of_cube ss steps orders nodes i decided n m items (trees.leaf v ks k line round less at h) = omega (arith, of_cycle ss steps ks round h)
-of_cube ss steps orders nodes i decided n m items (trees.split v ks k l j c first second o one two at is order h g) =
-    omega (arith, joined one (item.Decided (length ks + 1) (turned o) ∷ two), of_cube ss steps orders nodes first (o ∷ ks) k l one h, of_cube ss steps orders nodes second (turned o ∷ ks) l j two g)
-of_cube ss steps orders nodes i decided n m items (trees.left_out v ks) = omega arith
+of_cycle : (ss : List ClientSession) (steps decided : List ChainOrder) (line : List ℕ) (items : List Item) → IsRoundTold ss steps decided line items → cycles_in items ≡ 1
+of_cycle ss steps decided line items h = omega (arith, ap cycles_in h.whole, of_line ss steps decided line h.edges h.told)
 
 of_leaves : (count : ℕ) (more : Bool) → cycles_in (cond more (item.Leaves count ∷ []) []) ≡ 0
 of_leaves count true = refl
 of_leaves count false = refl
 
+-- rounds, of which the first ones and the others are told one behind the other
+told_split : (ss : List ClientSession) (steps : List ChainOrder) (xs ys : List RoundView) (items : List Item) → AreRoundsTold ss steps (xs ++ ys) items → (front : List Item) × (back : List Item) × AreRoundsTold ss steps xs front × AreRoundsTold ss steps ys back × (items ≡ front ++ back)
+told_split ss steps [] ys items h = ([], items, refl, h, refl)
+told_split ss steps (x ∷ xs) ys items h =
+    let r = told_split ss steps xs ys h.1 h.3 in
+    (h.0 ++ r.0, r.1, (h.0, r.0, h.2, r.2, refl), r.3, h.4 ∙ ap (λ l. h.0 ++ l) r.4 ∙ sym (append_assoc h.0 r.0 r.1))
+
+of_decision : (decided : List ChainOrder) → cycles_in (decision_items decided) ≡ 0
+of_decision [] = refl
+of_decision (o ∷ above) = refl
+
+of_round : (ss : List ClientSession) (steps decided : List ChainOrder) (line : Option (List ℕ)) (rs : List RoundView) (items : List Item) (h : AreRoundsTold ss steps (round_at decided line ∷ rs) items) → cycles_in items ≡ cycles_in h.2.cycle + cycles_in h.1
+of_round ss steps decided line rs items h = omega (arith, ap cycles_in h.4, joined h.0 h.1, ap cycles_in h.2.whole, joined (decision_items decided) h.2.cycle, of_decision decided)
+
+of_visits : (ss : List ClientSession) (steps orders : List ChainOrder) (nodes : List TreeNode) {decided : List ChainOrder} {i n k : ℕ} {rs : List RoundView} → IsVisited ss orders nodes i decided n k rs → (items : List Item) → AreRoundsTold ss steps rs items → n + cycles_in items ≡ k
+of_visits ss steps orders nodes (visits.leaf i decided n line lt g) items h =
+    omega (arith, of_round ss steps decided (Some (without_runs ss line)) [] items h, ap cycles_in h.3, of_cycle ss steps decided (without_runs ss line) h.2.cycle h.2.leaf)
+of_visits ss steps orders nodes (visits.split i decided n m k c first second one two g lt a b) items h =
+    let parts = told_split ss steps one two h.1 h.3 in
+    omega (arith, of_round ss steps decided None (one ++ two) items h, ap cycles_in h.2.leaf, ap cycles_in parts.4, joined parts.0 parts.1, of_visits ss steps orders nodes a parts.0 parts.2, of_visits ss steps orders nodes b parts.1 parts.3)
+of_visits ss steps orders nodes (visits.left_out i decided) items h = omega (arith, of_round ss steps decided None [] items h, ap cycles_in h.2.leaf, ap cycles_in h.3)
+
 pub cycles_are_leaves : (ss : List ClientSession) (choices : List Choice) (nodes : List TreeNode) (items : List Item) → IsTreeTold ss choices nodes items → cycles_in items ≡ told_leaves (leaf_count nodes)
 cycles_are_leaves ss choices nodes items t =
     let leaves = leaf_count nodes in
-    let before = joined t.before (leaves_items leaves ++ t.tree) in
-    let behind = joined (leaves_items leaves) t.tree in
-    let all = ap cycles_in t.whole in
-    omega (arith, t.count, all, before, behind, of_steps ss t.steps t.before t.told, of_leaves leaves (nat_lt 1 leaves), of_cube ss t.steps t.orders nodes 0 [] 0 t.last t.tree t.root)
+    let all = t.told.told in
+    let h = subst (λ rs. AreRoundsTold ss (orders_of t.told.steps) rs all.after) t.visits.whole all.rounds_told in
+    let front = ap cycles_in h.2.whole ∙ joined (leaves_items leaves) h.2.cycle in
+    omega (arith, t.count, ap cycles_in all.whole, joined all.before all.after, ap cycles_in h.4, joined h.0 h.1, front, ap cycles_in h.2.leaf, of_steps ss [] t.told.steps all.before all.walks, of_leaves leaves (nat_lt 1 leaves), of_visits ss (orders_of t.told.steps) t.orders nodes t.visits.visited h.1 h.3)
 
 -- ---- of two chains of a key, a serial order has the one before the other
 either_chain_first : (log : Log) → IsClean log → (order : List ℕ) → IsSerial log order → (x a b : ℕ) → x < log.keys → Contains (heads log x) a → Contains (heads log x) b → a ≢ b → Keeps order (chain_first log x a b) ⊎ Keeps order (chain_first log x b a)
@@ -141,12 +165,14 @@ module _ (ss : List ClientSession) (order : List ℕ) (well : IsWellFormedList s
     why_before a b (Forced (suc k) o) h = edge_among steps o a b ks (contains_at steps k o h.1.at) h.1.has
     why_before a b (Chosen o) h = edge_among decided o a b kd h.2 h.3
 
-    line_before : (u v : ℕ) (inner : List ℕ) (items : List Item) → IsLineTold ss steps decided (u ∷ (inner ++ v ∷ [])) items → Before order u v
+    pub line_before : (u v : ℕ) (inner : List ℕ) (items : List Item) → IsLineTold ss steps decided (u ∷ (inner ++ v ∷ [])) items → Before order u v
     line_before u v [] items (told.goes a b rest w more why h) = why_before u v w why
     line_before u v (x ∷ inner) items (told.goes a b rest w more why h) = omega (arith, why_before u x w why, line_before x v inner more h)
 
-    pub cycle_refuted : (items : List Item) → IsCycleTold ss steps decided items → ⊥
-    cycle_refuted items (told.closes start inner edges h) = (let round = line_before start start inner edges h in omega (arith, round))
+    pub cycle_refuted : (line : List ℕ) (items : List Item) → IsRoundTold ss steps decided line items → ⊥
+    cycle_refuted line items h =
+        let ends = h.round.ends in
+        (let round = line_before h.round.start h.round.start ends.inner h.edges (subst (λ l. IsLineTold ss steps decided l h.edges) ends.shape h.told) in omega (arith, round))
 
   -- ---- steps
   -- what follows from an order that is kept
@@ -161,30 +187,38 @@ module _ (ss : List ClientSession) (order : List ℕ) (well : IsWellFormedList s
     | inr k ↦ absurd (omega (arith, against, followed (turned o) h.key_of u v k has))
   ]
 
-  steps_kept : (steps : List ChainOrder) (items : List Item) → AreStepsTold ss steps items → AreKept steps
-  steps_kept steps items told.none = tt
-  steps_kept steps items (told.step before front h o two u v has inner against line) =
-      let kept = steps_kept before front h in
-      each_from_append (λ o. Keeps order (edges_in log o)) before (o ∷ []) kept (step_kept o two u v has (line_before before [] kept tt v u inner against line), tt)
+  steps_kept : (earlier : List ChainOrder) (steps : List Step) (items : List Item) → AreStepsTold ss earlier steps items → AreKept earlier → AreKept (earlier ++ orders_of steps)
+  steps_kept earlier [] items t kept = subst AreKept (sym (append-nil earlier)) kept
+  steps_kept earlier (s ∷ steps) items t kept =
+      let is = t.2.right in
+      let against = line_before earlier [] kept tt t.2.edge.1 t.2.edge.0 is.ends.inner t.2.against (subst (λ l. IsLineTold ss earlier [] l t.2.against) is.ends.shape t.2.line) in
+      let own = step_kept s.order is.two_chains t.2.edge.0 t.2.edge.1 is.refuted against in
+      subst AreKept (append_assoc earlier (s.order ∷ []) (orders_of steps))
+      (steps_kept (earlier ++ s.order ∷ []) steps t.1 t.3 (each_from_append (λ o. Keeps order (edges_in log o)) earlier (s.order ∷ []) kept (own, tt)))
 
-  pub steps_stand : (steps : List ChainOrder) (items : List Item) → AreStepsTold ss steps items → (o : ChainOrder) → Contains steps o → (a b : ℕ) → Contains (edges_in log o) (a, b) → Before order a b
-  steps_stand steps items t o among a b = edge_among steps o a b (steps_kept steps items t) among
+  pub steps_stand : (steps : List Step) (items : List Item) → AreStepsTold ss [] steps items → (o : ChainOrder) → Contains (orders_of steps) o → (a b : ℕ) → Contains (edges_in log o) (a, b) → Before order a b
+  steps_stand steps items t o among a b = edge_among (orders_of steps) o a b (steps_kept [] steps items t tt) among
 
   pub dead_refuted : (items : List Item) → IsDeadTold ss items → ⊥
-  dead_refuted items t = cycle_refuted t.steps [] (steps_kept t.steps t.before t.told) tt t.round t.cycle
+  dead_refuted items t =
+      let all = t.told.told in
+      cycle_refuted (orders_of t.told.steps) [] (steps_kept [] t.told.steps all.before all.walks tt) tt t.line all.rounds_told.2.cycle all.rounds_told.2.leaf
 
   -- ---- cubes
-  cube_refuted : (steps : List ChainOrder) → AreKept steps → (orders : List ChainOrder) (nodes : List TreeNode) (i : ℕ) (decided : List ChainOrder) (n m : ℕ) (items : List Item) → IsCubeTold ss steps orders nodes i decided n m items → AreKept decided → m < MAX_LEAVES → ⊥
-  cube_refuted steps ks orders nodes i decided n m items (trees.leaf v kd k line round less at h) kept few = cycle_refuted steps kd ks kept round h
-  cube_refuted steps ks orders nodes i decided n m items (trees.split v kd k l j c first second o one two at same two_chains h g) kept few =
-      let first_few : l < MAX_LEAVES = omega (arith, few, of_cube ss steps orders nodes second (turned o ∷ kd) l j two g) in
-      elim (one_way o two_chains) [
-        | inl a ↦ cube_refuted steps ks orders nodes first (o ∷ kd) k l one h (a, kept) first_few
-        | inr a ↦ cube_refuted steps ks orders nodes second (turned o ∷ kd) l j two g (a, kept) few
+  visits_refuted : (steps : List ChainOrder) → AreKept steps → (orders : List ChainOrder) → All (IsOrder log) orders → (nodes : List TreeNode) {decided : List ChainOrder} {i n k : ℕ} {rs : List RoundView} → IsVisited ss orders nodes i decided n k rs → (items : List Item) → AreRoundsTold ss steps rs items → AreKept decided → k < MAX_LEAVES → ⊥
+  visits_refuted steps ks orders each nodes (visits.leaf i decided n line lt g) items h kept few = cycle_refuted steps decided ks kept (without_runs ss line) h.2.cycle h.2.leaf
+  visits_refuted steps ks orders each nodes (visits.split i decided n m k c first second one two g lt va vb) items h kept few =
+      let parts = told_split ss steps one two h.1 h.3 in
+      let first_few : m < MAX_LEAVES = omega (arith, few, of_visits ss steps orders nodes vb parts.1 parts.3) in
+      elim (one_way (order_at orders (c, One)) (each c no_order lt)) [
+        | inl a ↦ visits_refuted steps ks orders each nodes va parts.0 parts.2 (a, kept) first_few
+        | inr a ↦ visits_refuted steps ks orders each nodes vb parts.1 parts.3 (a, kept) few
       ]
-  cube_refuted steps ks orders nodes i decided n m items (trees.left_out v kd) kept few = absurd (omega (arith, few))
+  visits_refuted steps ks orders each nodes (visits.left_out i decided) items h kept few = absurd (omega (arith, few))
 
   pub tree_refuted : (choices : List Choice) (nodes : List TreeNode) (items : List Item) (t : IsTreeTold ss choices nodes items) → leaf_count nodes < MAX_LEAVES → ⊥
   tree_refuted choices nodes items t less =
-      let few : t.last < MAX_LEAVES = omega (arith, t.count, less) in
-      cube_refuted t.steps (steps_kept t.steps t.before t.told) t.orders nodes 0 [] 0 t.last t.tree t.root tt few
+      let all = t.told.told in
+      let few : t.visits.last < MAX_LEAVES = omega (arith, t.count, less) in
+      let h = subst (λ rs. AreRoundsTold ss (orders_of t.told.steps) rs all.after) t.visits.whole all.rounds_told in
+      visits_refuted (orders_of t.told.steps) (steps_kept [] t.told.steps all.before all.walks tt) t.orders t.sides.each nodes t.visits.visited h.1 h.3 tt few

@@ -13,8 +13,12 @@ ghost use Rattle.log_definitions.specs.Serial.{IsSerialOrder};
 ghost use Rattle.log_definitions.specs.Numbers.{IsWellFormedList, log_of};
 ghost use Rattle.cube_laws.specs.declared.tree.TreeNode.{TreeNode};
 ghost use Rattle.tell_reasons.specs.Reasons.{op_at};
+ghost use Rattle.tell_proposals.specs.declared.proposal.Step.{Step};
 ghost use Rattle.tell_reasons.specs.declared.why.ChainOrder.{ChainOrder};
-ghost use Rattle.tell_steps.specs.Steps.{edges_in, IsLineTold, AreStepsTold, IsDeadTold};
+ghost use Rattle.tell_steps.specs.Steps.{edges_in, IsLineTold};
+ghost use Rattle.tell_steps.specs.Ledgers.{orders_of};
+ghost use Rattle.tell_steps.specs.Told.{AreStepsTold};
+ghost use Rattle.tell_steps.specs.Rounds.{IsDeadTold};
 ghost use Rattle.tell_steps.specs.declared.item.Item.{Item};
 ghost use Rattle.tell_trees.specs.declared.TheConstants.{MAX_LEAVES};
 ghost use Rattle.tell_trees.specs.Trees.{IsTreeTold, told_leaves};
@@ -29,8 +33,8 @@ ghost use Rattle.tell_laws.specs.Counts.{cycles_in};
 pub fn told_lines_rule_out_orders()
     ensures steps { (ss : List ClientSession) (order : List ℕ) → IsWellFormedList ss
         → IsSerialOrder ss order →
-        (steps : List ChainOrder) (items : List Item) → AreStepsTold ss steps items →
-        (o : ChainOrder) → Contains steps o → (a b : ℕ) → Contains (edges_in (log_of ss) o) (a, b)
+        (steps : List Step) (items : List Item) → AreStepsTold ss [] steps items →
+        (o : ChainOrder) → Contains (orders_of steps) o → (a b : ℕ) → Contains (edges_in (log_of ss) o) (a, b)
         → Before order a b }
     ensures cycle { (ss : List ClientSession) → IsWellFormedList ss
         → (start : ℕ) (inner : List ℕ) (items : List Item) →

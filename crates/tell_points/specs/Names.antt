@@ -1,22 +1,15 @@
 -- What the field calls what a refutation by points shows, by what its edges are.
 use Rattle.std.specs.Prelude.{ℕ, ◌==◌, ◌&&◌, not, nat_lt, min, max, false, if◌then◌else◌}
-use Rattle.std.specs.Prelude.{List, [], ◌∷◌, codes}
-use Rattle.std.specs.Prelude.{Option, None, Some}
+use Rattle.std.specs.Prelude.{List, [], ◌∷◌, codes, fold, is_some, Option, Some}
 use Rattle.session_log.specs.Text.{ClientSession}
-use Rattle.tell_reasons.specs.Names.{followed, with_orders, cycle_name}
-use Rattle.tell_reasons.specs.declared.names.Shape.{Shape}
-use Rattle.tell_reasons.specs.declared.names.TheConstants.{NO_EDGES, MISSED, READ, WRITTEN}
-use Rattle.tell_reasons.specs.declared.names.TheConstants.{SESSION, MOMENTS}
-use Rattle.point_refutations.specs.declared.refutation.Why.{Why}
+use Rattle.tell_reasons.specs.{Names.followed, Names.with_orders, Names.cycle_name}
+use Rattle.tell_reasons.specs.declared.names.{Shape.Shape, TheConstants.NO_EDGES, TheConstants.MISSED}
+use Rattle.tell_reasons.specs.declared.names.TheConstants.{READ, WRITTEN, SESSION, MOMENTS}
 use Rattle.point_refutations.specs.declared.refutation.Why.TheVariants as why
-use Rattle.point_refutations.specs.declared.refutation.Edge.{Edge}
-use Rattle.point_refutations.specs.declared.refutation.Overwritten.{Overwritten}
-use Rattle.point_refutations.specs.declared.refutation.Against.{Against}
-use Rattle.point_refutations.specs.declared.refutation.Step.{Step}
-use Rattle.point_refutations.specs.declared.refutation.Step.TheVariants as step
-use Rattle.point_refutations.specs.declared.refutation.Ending.{Ending}
+use Rattle.point_refutations.specs.declared.refutation.Step.TheVariants.{Shown, Forced, Later}
 use Rattle.point_refutations.specs.declared.refutation.Ending.TheVariants.{Circle, Neither}
-use Rattle.point_refutations.specs.declared.refutation.Refutation.{Refutation}
+use Rattle.point_refutations.specs.declared.refutation.{Why.Why, Edge.Edge}
+use Rattle.point_refutations.specs.declared.refutation.{Against.Against, Step.Step, Ending.Ending, Refutation.Refutation}
 use Rattle.tell_points.specs.Short.{are_lost}
 
 abbrev pub shape_of : Why → Shape
@@ -24,28 +17,21 @@ shape_of why.Session = SESSION
 shape_of why.Moments = MOMENTS
 shape_of (why.Read write read) = READ
 shape_of (why.Step k) = WRITTEN
+shape_of (why.Later k) = WRITTEN
 shape_of (why.Missed m) = MISSED
 
--- with these edges behind it
-abbrev pub shape_after : Shape → List Edge → Shape
-shape_after s [] = s
-shape_after s (e ∷ edges) = shape_after (followed s (shape_of e.why)) edges
-
 abbrev pub shape_of_way : List Edge → Shape
-shape_of_way edges = shape_after NO_EDGES edges
-
-abbrev pub closing : Option Overwritten → Shape
-closing None = WRITTEN
-closing (Some o) = MISSED
+shape_of_way edges = fold (λ s e. followed s (shape_of e.why)) NO_EDGES edges
 
 -- the circle that would close, if that transaction committed first
 abbrev pub supposed : Against → Shape
-supposed a = followed (shape_of_way a.edges.items) (closing a.overwritten)
+supposed a = followed (shape_of_way a.edges.items) (if is_some a.overwritten then MISSED else WRITTEN)
 
 -- the circle that would close, if the two writers of a step stood the other way round
 abbrev pub refuted : Step → Shape
-refuted (step.Shown first second edges) = followed (shape_of_way edges.items) WRITTEN
-refuted (step.Forced both against) = supposed against
+refuted (Shown first second edges) = followed (shape_of_way edges.items) WRITTEN
+refuted (Forced both against) = supposed against
+refuted (Later both against) = supposed against
 
 -- the one that misses more writes, where two are as many as more; of equals the first; with the
 -- orders of sessions and of moments of both
@@ -56,8 +42,7 @@ milder c d = if nat_lt c.missed 2 && nat_lt c.missed d.missed then with_orders d
 -- The log does not say which order two writers had: that of a step, or the one that it refutes. The
 -- mildest of a circle and of these; of equals the circle, else the first step.
 abbrev pub mildest_after : Shape → List Step → Shape
-mildest_after c [] = c
-mildest_after c (step ∷ steps) = mildest_after (milder c (refuted step)) steps
+mildest_after c steps = fold (λ found s. milder found (refuted s)) c steps
 
 -- either of two circles, where as many of their edges miss a write: the one without an order of
 -- writes, else what both are, with as many edges as the longer one

@@ -1,50 +1,26 @@
 -- What closes in a sentence or two: what each transaction saw of another one, and what not.
-use Rattle.std.specs.Prelude.{ℕ, ◌+◌, ◌&&◌, not, nat_lt, Bool, false}
-use Rattle.std.specs.Prelude.{List, [], ◌∷◌, ◌++◌, length, if◌then◌else◌, codes, decimal}
-use Rattle.std.specs.Prelude.{slice_get, Option, None, Some}
+use Rattle.std.specs.Prelude.{ℕ, ◌+◌, ◌&&◌, not, nat_lt, Bool, false, List, [], ◌∷◌, ◌++◌, length}
+use Rattle.std.specs.Prelude.{if◌then◌else◌, codes, decimal, slice_get, Option, None, Some}
 use Rattle.std.specs.Option.{option_map_or}
 use Rattle.session_log.specs.Text.{ClientSession}
 use Rattle.log_lines.specs.Rows.{Table}
-use Rattle.level_refutations.specs.declared.evidence.TxnAt.{TxnAt}
-use Rattle.level_refutations.specs.declared.evidence.OpAt.{OpAt}
-use Rattle.level_refutations.specs.Places.{is_of_key}
-use Rattle.level_refutations.specs.Edges.{op_of}
-use Rattle.point_refutations.specs.declared.refutation.Since.{Since}
+use Rattle.level_refutations.specs.declared.evidence.{TxnAt.TxnAt, OpAt.OpAt}
+use Rattle.level_refutations.specs.{Places.is_of_key, Edges.op_of}
 use Rattle.point_refutations.specs.declared.refutation.Since.TheVariants as since
-use Rattle.point_refutations.specs.declared.refutation.Why.{Why}
 use Rattle.point_refutations.specs.declared.refutation.Why.TheVariants as why
-use Rattle.point_refutations.specs.declared.refutation.Edge.{Edge}
-use Rattle.point_refutations.specs.declared.refutation.Both.{Both}
-use Rattle.point_refutations.specs.declared.refutation.Overwritten.{Overwritten}
-use Rattle.point_refutations.specs.declared.refutation.Against.{Against}
-use Rattle.point_refutations.specs.declared.refutation.Step.{Step}
-use Rattle.point_refutations.specs.declared.refutation.Step.TheVariants as step
-use Rattle.point_refutations.specs.declared.refutation.Ending.{Ending}
+use Rattle.point_refutations.specs.declared.refutation.Step.TheVariants.{Forced, Later}
 use Rattle.point_refutations.specs.declared.refutation.Ending.TheVariants.{Circle, Neither}
-use Rattle.point_refutations.specs.Edges.{is_missed, is_same_read}
-use Rattle.tell_evidence.specs.Rows.{key_at}
-use Rattle.tell_evidence.specs.Sentences.{name_text}
+use Rattle.point_refutations.specs.declared.refutation.{Since.Since, Why.Why, Edge.Edge, Both.Both}
+use Rattle.point_refutations.specs.declared.refutation.{Overwritten.Overwritten, Against.Against, Step.Step, Ending.Ending}
+use Rattle.point_refutations.specs.Edges.{is_missed, both_are, is_same_read}
+use Rattle.tell_evidence.specs.{Rows.key_at, Sentences.name_text}
 use Rattle.tell_points.specs.Lines.{number_of}
 
 -- ---- what an edge says
 
 -- ` (by [1])`
-unfoldable pub number_text : ℕ → List ℕ
+abbrev pub number_text : ℕ → List ℕ
 number_text k = codes " (by [" ++ (decimal (number_of k) ++ codes "])")
-
--- `came after 1.1 in its session`
-unfoldable pub after_session_text : Table → List ClientSession → TxnAt → List ℕ
-after_session_text table ss at = codes "came after " ++ (name_text table ss at
-    ++ codes " in its session")
-
--- `began after 1.1 ended`
-unfoldable pub after_end_text : Table → List ClientSession → TxnAt → List ℕ
-after_end_text table ss at = codes "began after " ++ (name_text table ss at ++ codes " ended")
-
--- `saw 1.1's x`
-unfoldable pub saw_text : Table → List ClientSession → TxnAt → OpAt → List ℕ
-saw_text table ss at read = codes "saw " ++ (name_text table ss at ++ (codes "'s "
-    ++ key_at ss read))
 
 -- `did not see 1.1's x`
 unfoldable pub missed_text : Table → List ClientSession → TxnAt → OpAt → List ℕ
@@ -53,48 +29,23 @@ missed_text table ss at read = codes "did not see " ++ (name_text table ss at ++
 
 -- the key that both write, where a step is forced
 abbrev pub did_text : List ClientSession → Option Step → List ℕ
-did_text ss (Some (step.Forced both against)) = codes "wrote " ++ key_at ss both.one
+did_text ss (Some (Forced both against)) = codes "wrote " ++ key_at ss both.one
+did_text ss (Some (Later both against)) = codes "wrote " ++ key_at ss both.one
 did_text ss _ = codes "came"
-
--- `wrote x after 1.1`
-abbrev pub after_step_text : Table → List ClientSession → List Step → ℕ → TxnAt → List ℕ
-after_step_text table ss steps k at = did_text ss (slice_get steps k) ++ (codes " after "
-    ++ name_text table ss at)
 
 abbrev pub since_number : Since → List ℕ
 since_number (since.Step k) = number_text k
 since_number _ = []
 
--- of the transaction to which it leads; of the one from which it does, where that misses a write
-abbrev pub said_text : Table → List ClientSession → List Step → TxnAt → TxnAt → Why → List ℕ
-said_text table ss steps from to why.Session = after_session_text table ss from
-said_text table ss steps from to why.Moments = after_end_text table ss from
-said_text table ss steps from to (why.Read write read) = saw_text table ss from (op_of to read)
-said_text table ss steps from to (why.Step k) = after_step_text table ss steps k from
-    ++ number_text k
-said_text table ss steps from to (why.Missed m) = missed_text table ss to (op_of from m.read)
-    ++ since_number m.since
-
--- of whom it says it
+-- of whom an edge says it
 abbrev pub whose : Edge → TxnAt
 whose e = if is_missed e.why then e.from else e.to
-
--- ---- sentences
 
 -- behind an edge that misses a write or not; what a transaction did not see goes on what is said of it
 abbrev pub link_text : Table → List ClientSession → Option Bool → Edge → List ℕ
 link_text table ss None e = name_text table ss (whose e) ++ codes " "
 link_text table ss (Some missed) e = if not missed && is_missed e.why then codes ", but "
-    else codes "; " ++ name_text table ss (whose e) ++ codes " "
-
-abbrev pub part_text : Table → List ClientSession → List Step → Option Bool → Edge → List ℕ
-part_text table ss steps before e = link_text table ss before e
-    ++ said_text table ss steps e.from e.to e.why
-
-abbrev pub sentence_text : Table → List ClientSession → List Step → Option Bool → List Edge → List ℕ
-sentence_text table ss steps before [] = []
-sentence_text table ss steps before (e ∷ edges) = part_text table ss steps before e
-    ++ sentence_text table ss steps (Some (is_missed e.why)) edges
+    else codes "; " ++ (name_text table ss (whose e) ++ codes " ")
 
 -- whether the last of these edges, behind that one, misses a write
 abbrev pub missed_last : Option Bool → List Edge → Option Bool
@@ -114,17 +65,7 @@ overwritten_edge o = record {
   });
 }
 
-abbrev pub overwritten_part : Table → List ClientSession → List Step → Option Bool
-    → Option Overwritten → List ℕ
-overwritten_part table ss steps before None = []
-overwritten_part table ss steps before (Some o) = part_text table ss steps before
-    (overwritten_edge o)
-
-abbrev pub against_sentence : Table → List ClientSession → List Step → Against → List ℕ
-against_sentence table ss steps a = sentence_text table ss steps None a.edges.items
-    ++ overwritten_part table ss steps (missed_last None a.edges.items) a.overwritten
-
--- ---- in short
+-- ---- how it is told
 
 -- a way of more edges is not told in a sentence
 abbrev pub are_few : ℕ → Bool
@@ -146,13 +87,9 @@ abbrev pub only_read : List Edge → Option OpAt
 only_read (e ∷ []) = read_of e.from e.why
 only_read _ = None
 
-abbrev pub are_same_reads : List ClientSession → Option OpAt → Option OpAt → Bool
-are_same_reads ss (Some one) (Some other) = is_same_read ss one other
-are_same_reads ss _ _ = false
-
 -- both read one version and overwrite it
 abbrev pub are_lost : List ClientSession → Against → Against → Bool
-are_lost ss not_one not_other = are_same_reads ss (only_read not_one.edges.items)
+are_lost ss not_one not_other = both_are (is_same_read ss) (only_read not_one.edges.items)
     (only_read not_other.edges.items)
 
 -- and what is told as lost is a version of the key that both write
@@ -166,10 +103,6 @@ is_lost ss b not_one not_other = are_lost ss not_one not_other && is_lost_key ss
 abbrev pub conclusion : List Edge → List ℕ
 conclusion edges = if nat_lt 2 (length edges)
     then codes "; no order of snapshots and commits has all of this" else []
-
-abbrev pub short_circle : Table → List ClientSession → List Step → List Edge → List ℕ
-short_circle table ss steps edges = if are_few (length edges) then codes "in short: "
-    ++ sentence_text table ss steps None edges ++ conclusion edges ++ codes "\n" else []
 
 unfoldable pub short_lost : Table → List ClientSession → Both → List ℕ
 short_lost table ss b = codes "in short: " ++ (name_text table ss b.one.txn ++ (codes " and "
@@ -185,19 +118,57 @@ unfoldable pub both_wrote_text : Table → List ClientSession → Both → List 
 both_wrote_text table ss b = codes "in short: " ++ (name_text table ss b.one.txn ++ (codes " and "
     ++ (name_text table ss b.other.txn ++ (codes " both wrote " ++ key_at ss b.one))))
 
--- and what would be so, if the one came first, and if the other did
-abbrev pub short_both : Table → List ClientSession → List Step → Both → Against → Against → List ℕ
-short_both table ss steps b not_one not_other = both_wrote_text table ss b
-    ++ if_text table ss b.one.txn ++ against_sentence table ss steps not_one
-    ++ if_text table ss b.other.txn ++ against_sentence table ss steps not_other ++ codes "\n"
+module _ (table : Table) (ss : List ClientSession) (steps : List Step) where
+  -- of the transaction to which it leads; of the one from which it does, where that misses a write:
+  -- `came after 1.1 in its session`, `began after 1.1 ended`, `saw 1.1's x`, `wrote x after 1.1 (by
+  -- [1])`, `did not see 1.1's x`
+  unfoldable pub said_text : TxnAt → TxnAt → Why → List ℕ
+  said_text from to why.Session = codes "came after " ++ (name_text table ss from
+      ++ codes " in its session")
+  said_text from to why.Moments = codes "began after " ++ (name_text table ss from
+      ++ codes " ended")
+  said_text from to (why.Read write read) = codes "saw " ++ (name_text table ss from
+      ++ (codes "'s " ++ key_at ss (op_of to read)))
+  said_text from to (why.Step k) = did_text ss (slice_get steps k)
+      ++ (codes " after " ++ (name_text table ss from ++ number_text k))
+  said_text from to (why.Later k) = did_text ss (slice_get steps k)
+      ++ (codes " after " ++ (name_text table ss from ++ number_text k))
+  said_text from to (why.Missed m) = missed_text table ss to (op_of from m.read)
+      ++ since_number m.since
 
-abbrev pub short_neither : Table → List ClientSession → List Step → Both → Against → Against
-    → List ℕ
-short_neither table ss steps b not_one not_other = if is_lost ss b not_one not_other
-    then short_lost table ss b else (if is_short not_one && is_short not_other
-    then short_both table ss steps b not_one not_other else [])
+  -- ---- sentences
 
-abbrev pub short_text : Table → List ClientSession → List Step → Ending → List ℕ
-short_text table ss steps (Circle edges) = short_circle table ss steps edges.items
-short_text table ss steps (Neither both not_one not_other) = short_neither table ss steps both
-    not_one not_other
+  unfoldable pub part_text : Option Bool → Edge → List ℕ
+  part_text before e = link_text table ss before e ++ said_text e.from e.to e.why
+
+  abbrev pub sentence_text : Option Bool → List Edge → List ℕ
+  sentence_text before [] = []
+  sentence_text before (e ∷ edges) = part_text before e
+      ++ sentence_text (Some (is_missed e.why)) edges
+
+  abbrev pub overwritten_part : Option Bool → Option Overwritten → List ℕ
+  overwritten_part before None = []
+  overwritten_part before (Some o) = part_text before (overwritten_edge o)
+
+  abbrev pub against_sentence : Against → List ℕ
+  against_sentence a = sentence_text None a.edges.items
+      ++ overwritten_part (missed_last None a.edges.items) a.overwritten
+
+  -- ---- in short
+  abbrev pub short_circle : List Edge → List ℕ
+  short_circle edges = if are_few (length edges) then codes "in short: "
+      ++ sentence_text None edges ++ conclusion edges ++ codes "\n" else []
+
+  -- and what would be so, if the one came first, and if the other did
+  abbrev pub short_both : Both → Against → Against → List ℕ
+  short_both b not_one not_other = both_wrote_text table ss b ++ if_text table ss b.one.txn
+      ++ against_sentence not_one ++ if_text table ss b.other.txn ++ against_sentence not_other
+      ++ codes "\n"
+
+  abbrev pub short_neither : Both → Against → Against → List ℕ
+  short_neither b not_one not_other = if is_lost ss b not_one not_other then short_lost table ss b
+      else (if is_short not_one && is_short not_other then short_both b not_one not_other else [])
+
+  abbrev pub short_text : Ending → List ℕ
+  short_text (Circle edges) = short_circle edges.items
+  short_text (Neither both not_one not_other) = short_neither both not_one not_other

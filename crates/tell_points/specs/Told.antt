@@ -3,13 +3,10 @@
 use Rattle.std.specs.Prelude.{ℕ, ◌==◌, if◌then◌else◌, List, [], ◌++◌, length, codes, Option, None, Some}
 use Rattle.session_log.specs.Text.{ClientSession}
 use Rattle.log_lines.specs.Rows.{Table}
-use Rattle.point_refutations.specs.declared.refutation.Step.{Step}
-use Rattle.point_refutations.specs.declared.refutation.Ending.{Ending}
+use Rattle.point_refutations.specs.declared.refutation.{Step.Step, Ending.Ending, Refutation.Refutation}
 use Rattle.point_refutations.specs.declared.refutation.Ending.TheVariants.{Circle, Neither}
-use Rattle.point_refutations.specs.declared.refutation.Refutation.{Refutation}
 use Rattle.tell_points.specs.Lines.{way_text, neither_text, steps_text}
-use Rattle.tell_points.specs.Short.{short_text}
-use Rattle.tell_points.specs.Names.{refutation_name}
+use Rattle.tell_points.specs.{Short.short_text, Names.refutation_name}
 
 abbrev pub ending_text : Table → List ClientSession → Ending → List ℕ
 ending_text table ss (Circle edges) = way_text table ss [] edges.items

@@ -15,6 +15,7 @@ use tell_evidence::{Log, line_of, tell};
 const INDENT: &[u8] = b"    ";
 
 /// Appends a point.
+#[tactic(auto, unfolding(crate::specs::Lines::point_text))]
 fn put_point(out: &mut Vec<u8>, log: &Log<'_>, point: PointAt) -> Result<(), AllocError>
     ensures put { OnOk result (out.new.items ≡ out.old.items
         ++ spec.point_text (rows_of log.now.places.now) (map view log.now.sessions.now) point) }
@@ -68,7 +69,8 @@ fn put_overwritten(out: &mut Vec<u8>, log: &Log<'_>, it: Overwritten) -> Result<
         Wid(it.write), AtLine(it.write), Text(b":\n"))
 }
 
-/// Appends why one transaction cannot commit before another takes its snapshot.
+/// Appends why one transaction cannot commit before another takes its snapshot: a read that would
+/// find something else, if that is why, and edges.
 fn put_against(out: &mut Vec<u8>, log: &Log<'_>, against: &Against) -> Result<(), AllocError>
     ensures put { OnOk result (out.new.items ≡ out.old.items ++ spec.against_text
         (rows_of log.now.places.now) (map view log.now.sessions.now) against.now) }
@@ -79,42 +81,30 @@ fn put_against(out: &mut Vec<u8>, log: &Log<'_>, against: &Against) -> Result<()
     put_way(out, log, INDENT, &against.edges)
 }
 
-/// The number of a step, in brackets.
-#[tactic(auto, unfolding(crate::specs::Lines::bracket_text))]
-fn put_bracket(out: &mut Vec<u8>, log: &Log<'_>, index: usize) -> Result<(), AllocError>
-    ensures put { OnOk result (out.new.items ≡ out.old.items ++ spec.bracket_text index) }
-{
-    tell!(out, log; Text(b"["), Number(number_of(index)), Text(b"] "))
-}
-
-/// Appends which transaction commits before another takes its snapshot.
-#[tactic(auto, unfolding(crate::specs::Lines::before_text))]
-fn put_before(
-    out: &mut Vec<u8>,
-    log: &Log<'_>,
-    first: TxnAt,
-    second: TxnAt,
-) -> Result<(), AllocError>
-    ensures put { OnOk result (out.new.items ≡ out.old.items ++ spec.before_text
-        (rows_of log.now.places.now) (map view log.now.sessions.now) first second) }
+/// Appends which transaction commits first, behind the number of a step.
+#[tactic(auto, unfolding(crate::specs::Lines::lead_text))]
+fn put_lead(out: &mut Vec<u8>, log: &Log<'_>, index: usize, first: TxnAt) -> Result<(), AllocError>
+    ensures put { OnOk result (out.new.items ≡ out.old.items ++ spec.lead_text
+        (rows_of log.now.places.now) (map view log.now.sessions.now) index first) }
 {
     tell!(out, log;
-        Name(first), Text(b"'s commit before "), Name(second), Text(b"'s snapshot:"))
+        Text(b"["), Number(number_of(index)), Text(b"] "), Name(first), Text(b"'s commit before "))
 }
 
-/// The same behind the number of a step.
+/// The same, and before which point.
 fn put_head(
     out: &mut Vec<u8>,
     log: &Log<'_>,
     index: usize,
     first: TxnAt,
-    second: TxnAt,
+    point: PointAt,
 ) -> Result<(), AllocError>
     ensures put { OnOk result (out.new.items ≡ out.old.items ++ spec.head_text
-        (rows_of log.now.places.now) (map view log.now.sessions.now) index first second) }
+        (rows_of log.now.places.now) (map view log.now.sessions.now) index first point) }
 {
-    put_bracket(out, log, index)?;
-    put_before(out, log, first, second)
+    put_lead(out, log, index, first)?;
+    put_point(out, log, point)?;
+    tell!(out, log; Text(b":"))
 }
 
 /// Appends a step that edges show.
@@ -130,10 +120,10 @@ fn put_shown(
         (rows_of log.now.places.now) (map view log.now.sessions.now) index first second edges.now) }
 {
     if edges.len() == 1 {
-        put_bracket(out, log, index)?;
+        tell!(out, log; Text(b"["), Number(number_of(index)), Text(b"] "))?;
         return put_edge(out, log, b"", edges[0]);
     }
-    put_head(out, log, index, first, second)?;
+    put_head(out, log, index, first, PointAt::Snapshot(second))?;
     tell!(out, log; Text(b"\n"))?;
     put_way(out, log, INDENT, edges)
 }
@@ -159,15 +149,6 @@ fn put_both_lines(out: &mut Vec<u8>, log: &Log<'_>, both: Both) -> Result<(), Al
         Text(b"(lines "), Number(one), Text(b" and "), Number(other), Text(b")"))
 }
 
-/// Appends that both write a key.
-fn put_both(out: &mut Vec<u8>, log: &Log<'_>, both: Both) -> Result<(), AllocError>
-    ensures put { OnOk result (out.new.items ≡ out.old.items
-        ++ spec.both_text (rows_of log.now.places.now) (map view log.now.sessions.now) both) }
-{
-    put_both_key(out, log, both)?;
-    put_both_lines(out, log, both)
-}
-
 /// Appends that the second one cannot commit first.
 #[tactic(auto, unfolding(crate::specs::Lines::other_text))]
 fn put_other(out: &mut Vec<u8>, log: &Log<'_>, at: TxnAt) -> Result<(), AllocError>
@@ -177,28 +158,22 @@ fn put_other(out: &mut Vec<u8>, log: &Log<'_>, at: TxnAt) -> Result<(), AllocErr
     tell!(out, log; Text(b", and "), Name(at), Text(b" cannot commit first:\n"))
 }
 
-/// Appends both.
-fn put_forced_line(out: &mut Vec<u8>, log: &Log<'_>, both: Both) -> Result<(), AllocError>
-    ensures put { OnOk result (out.new.items ≡ out.old.items
-        ++ spec.forced_line (rows_of log.now.places.now) (map view log.now.sessions.now) both) }
-{
-    put_both(out, log, both)?;
-    put_other(out, log, both.other.txn)
-}
-
-/// Appends a step that is forced.
+/// Appends a step that is forced: one commits before this point of the other.
 fn put_forced(
     out: &mut Vec<u8>,
     log: &Log<'_>,
     index: usize,
     both: Both,
+    point: PointAt,
     against: &Against,
 ) -> Result<(), AllocError>
     ensures put { OnOk result (out.new.items ≡ out.old.items ++ spec.forced_text
-        (rows_of log.now.places.now) (map view log.now.sessions.now) index both against.now) }
+        (rows_of log.now.places.now) (map view log.now.sessions.now) index both point against.now) }
 {
-    put_head(out, log, index, both.one.txn, both.other.txn)?;
-    put_forced_line(out, log, both)?;
+    put_head(out, log, index, both.one.txn, point)?;
+    put_both_key(out, log, both)?;
+    put_both_lines(out, log, both)?;
+    put_other(out, log, both.other.txn)?;
     put_against(out, log, against)
 }
 
@@ -213,7 +188,14 @@ fn put_step(out: &mut Vec<u8>, log: &Log<'_>, index: usize, step: &Step) -> Resu
             second,
             edges,
         } => put_shown(out, log, index, *first, *second, edges),
-        Step::Forced { both, against } => put_forced(out, log, index, *both, against),
+        Step::Forced { both, against } => {
+            let point = PointAt::Snapshot(both.other.txn);
+            put_forced(out, log, index, *both, point, against)
+        }
+        Step::Later { both, against } => {
+            let point = PointAt::Commit(both.other.txn);
+            put_forced(out, log, index, *both, point, against)
+        }
     }
 }
 
@@ -269,17 +251,7 @@ fn put_so(out: &mut Vec<u8>, log: &Log<'_>) -> Result<(), AllocError>
         Text(b", so one of them commits before the other takes its snapshot\n"))
 }
 
-/// Appends that they write a key.
-fn put_two_line(out: &mut Vec<u8>, log: &Log<'_>, both: Both) -> Result<(), AllocError>
-    ensures put { OnOk result (out.new.items ≡ out.old.items
-        ++ spec.two_line (rows_of log.now.places.now) (map view log.now.sessions.now) both) }
-{
-    put_two(out, log, both)?;
-    put_both(out, log, both)?;
-    put_so(out, log)
-}
-
-/// The same, and why neither of them can commit first.
+/// Appends that two write a key, and why neither of them can commit first.
 pub fn put_neither(
     out: &mut Vec<u8>,
     log: &Log<'_>,
@@ -288,10 +260,13 @@ pub fn put_neither(
     not_other: &Against,
 ) -> Result<(), AllocError>
     ensures put { OnOk result (out.new.items ≡ out.old.items ++ spec.neither_text
-        (rows_of log.now.places.now) (map view log.now.sessions.now) both not_one.now
-        not_other.now) }
+        (rows_of log.now.places.now) (map view log.now.sessions.now)
+        both not_one.now not_other.now) }
 {
-    put_two_line(out, log, both)?;
+    put_two(out, log, both)?;
+    put_both_key(out, log, both)?;
+    put_both_lines(out, log, both)?;
+    put_so(out, log)?;
     put_cannot(out, log, both.one.txn, not_one)?;
     put_cannot(out, log, both.other.txn, not_other)
 }

@@ -6,7 +6,7 @@ ghost use Rattle.session_log.specs.Text.{view};
 ghost use Rattle.tell_points.specs.Names as spec;
 
 use crate::short::are_lost;
-use point_refutations::{Against, Edge, Ending, Overwritten, Refutation, Step, Why};
+use point_refutations::{Against, Edge, Ending, Refutation, Step, Why};
 use session_log::Session;
 use tell_reasons::names::{
     MISSED, MOMENTS, NO_EDGES, READ, SESSION, Shape, WRITTEN, cycle_name, followed, with_orders,
@@ -20,7 +20,7 @@ fn shape_of(why: Why) -> Shape
         Why::Session => SESSION,
         Why::Moments => MOMENTS,
         Why::Read { .. } => READ,
-        Why::Step(_) => WRITTEN,
+        Why::Step(_) | Why::Later(_) => WRITTEN,
         Why::Missed(_) => MISSED,
     }
 }
@@ -29,28 +29,18 @@ fn shape_of(why: Why) -> Shape
 fn shape_of_way(edges: &[Edge]) -> Shape
     ensures { result ≡ spec.shape_of_way edges.now }
 {
-    let mut shape = NO_EDGES;
-    for edge in edges {
-        shape = followed(shape, shape_of(edge.why));
-    }
-    shape
-}
-
-/// The edge that would close a circle.
-fn closing(overwritten: Option<Overwritten>) -> Shape
-    ensures { result ≡ spec.closing overwritten }
-{
-    match overwritten {
-        None => WRITTEN,
-        Some(_) => MISSED,
-    }
+    edges.iter().fold(NO_EDGES, |shape, edge| followed(shape, shape_of(edge.why)))
 }
 
 /// The circle that would close, if a transaction committed first.
 fn supposed(against: &Against) -> Shape
     ensures { result ≡ spec.supposed against.now }
 {
-    followed(shape_of_way(&against.edges), closing(against.overwritten))
+    let is_read = against.overwritten.is_some();
+    followed(
+        shape_of_way(&against.edges),
+        if is_read { MISSED } else { WRITTEN },
+    )
 }
 
 /// The circle that would close, if the two writers of a step stood the other way round.
@@ -59,7 +49,7 @@ fn refuted(step: &Step) -> Shape
 {
     match step {
         Step::Shown { edges, .. } => followed(shape_of_way(edges), WRITTEN),
-        Step::Forced { against, .. } => supposed(against),
+        Step::Forced { against, .. } | Step::Later { against, .. } => supposed(against),
     }
 }
 
@@ -79,11 +69,9 @@ fn milder(circle: Shape, other: Shape) -> Shape
 fn mildest(circle: Shape, steps: &[Step]) -> Shape
     ensures { result ≡ spec.mildest_after circle steps.now }
 {
-    let mut found = circle;
-    for step in steps {
-        found = milder(found, refuted(step));
-    }
-    found
+    steps
+        .iter()
+        .fold(circle, |found, step| milder(found, refuted(step)))
 }
 
 /// Either of two circles, where as many of their edges miss a write, as names have it: the one
@@ -138,7 +126,7 @@ fn circle_name(steps: &[Step], edges: &[Edge]) -> &'static str
 }
 
 /// The name of what steps lead to.
-fn ending_name(sessions: &[Session], steps: &[Step], ending: &Ending) -> &'static str
+pub fn ending_name(sessions: &[Session], steps: &[Step], ending: &Ending) -> &'static str
     ensures { result.now ≡ spec.ending_name (map view sessions.now) steps.now ending.now }
 {
     match ending {

@@ -9,7 +9,7 @@ ghost use Rattle.tell_points.specs.Short as spec;
 use crate::whys::number_of;
 use level_refutations::{OpAt, TxnAt, is_of_key};
 use point_refutations::{
-    Against, Both, Edge, Ending, Missed, Overwritten, Since, Step, Why, is_same_read,
+    Against, Both, Edge, Ending, Missed, Overwritten, Since, Step, Why, is_same_read, op_of,
 };
 use session_log::Session;
 use std::alloc::AllocError;
@@ -17,41 +17,6 @@ use tell_evidence::{Log, tell};
 
 /// A way of more edges is not told in a sentence.
 const MOST_EDGES: usize = 6;
-
-/// What follows from a circle of three edges or more.
-const CONCLUSION: &[u8] = b"; no order of snapshots and commits has all of this";
-
-/// Appends by which step.
-#[tactic(auto, unfolding(crate::specs::Short::number_text))]
-fn put_number(out: &mut Vec<u8>, log: &Log<'_>, index: usize) -> Result<(), AllocError>
-    ensures put { OnOk result (out.new.items ≡ out.old.items ++ spec.number_text index) }
-{
-    tell!(out, log; Text(b" (by ["), Number(number_of(index)), Text(b"])"))
-}
-
-#[tactic(auto, unfolding(crate::specs::Short::after_session_text))]
-fn put_after_session(out: &mut Vec<u8>, log: &Log<'_>, at: TxnAt) -> Result<(), AllocError>
-    ensures put { OnOk result (out.new.items ≡ out.old.items ++ spec.after_session_text
-        (rows_of log.now.places.now) (map view log.now.sessions.now) at) }
-{
-    tell!(out, log; Text(b"came after "), Name(at), Text(b" in its session"))
-}
-
-#[tactic(auto, unfolding(crate::specs::Short::after_end_text))]
-fn put_after_end(out: &mut Vec<u8>, log: &Log<'_>, at: TxnAt) -> Result<(), AllocError>
-    ensures put { OnOk result (out.new.items ≡ out.old.items
-        ++ spec.after_end_text (rows_of log.now.places.now) (map view log.now.sessions.now) at) }
-{
-    tell!(out, log; Text(b"began after "), Name(at), Text(b" ended"))
-}
-
-#[tactic(auto, unfolding(crate::specs::Short::saw_text))]
-fn put_saw(out: &mut Vec<u8>, log: &Log<'_>, at: TxnAt, read: OpAt) -> Result<(), AllocError>
-    ensures put { OnOk result (out.new.items ≡ out.old.items
-        ++ spec.saw_text (rows_of log.now.places.now) (map view log.now.sessions.now) at read) }
-{
-    tell!(out, log; Text(b"saw "), Name(at), Text(b"'s "), Key(read))
-}
 
 #[tactic(auto, unfolding(crate::specs::Short::missed_text))]
 fn put_missed(out: &mut Vec<u8>, log: &Log<'_>, at: TxnAt, read: OpAt) -> Result<(), AllocError>
@@ -70,24 +35,11 @@ fn put_did(out: &mut Vec<u8>, log: &Log<'_>, steps: &[Step], index: usize) -> Re
         return tell!(out, log; Text(b"came"));
     }
     match &steps[index] {
-        Step::Forced { both, .. } => tell!(out, log; Text(b"wrote "), Key(both.one)),
+        Step::Forced { both, .. } | Step::Later { both, .. } => {
+            tell!(out, log; Text(b"wrote "), Key(both.one))
+        }
         Step::Shown { .. } => tell!(out, log; Text(b"came")),
     }
-}
-
-/// Appends behind whom it did so.
-fn put_after_step(
-    out: &mut Vec<u8>,
-    log: &Log<'_>,
-    steps: &[Step],
-    index: usize,
-    at: TxnAt,
-) -> Result<(), AllocError>
-    ensures put { OnOk result (out.new.items ≡ out.old.items ++ spec.after_step_text
-        (rows_of log.now.places.now) (map view log.now.sessions.now) steps.now index at) }
-{
-    put_did(out, log, steps, index)?;
-    tell!(out, log; Text(b" after "), Name(at))
 }
 
 /// Appends by which step a read missed a write, where it is by one.
@@ -95,12 +47,14 @@ fn put_since_number(out: &mut Vec<u8>, log: &Log<'_>, since: Since) -> Result<()
     ensures put { OnOk result (out.new.items ≡ out.old.items ++ spec.since_number since) }
 {
     match since {
-        Since::Step(index) => put_number(out, log, index),
+        Since::Step(step) => tell!(out, log;
+            Text(b" (by ["), Number(number_of(step)), Text(b"])")),
         Since::Initial | Since::ReadToo(_) => Ok(()),
     }
 }
 
 /// Appends what an edge says.
+#[tactic(auto, unfolding(crate::specs::Short::said_text))]
 fn put_said(
     out: &mut Vec<u8>,
     log: &Log<'_>,
@@ -113,19 +67,18 @@ fn put_said(
         (rows_of log.now.places.now) (map view log.now.sessions.now) steps.now from to why) }
 {
     match why {
-        Why::Session => put_after_session(out, log, from),
-        Why::Moments => put_after_end(out, log, from),
-        Why::Read { read, .. } => put_saw(out, log, from, OpAt { txn: to, op: read }),
-        Why::Step(index) => {
-            put_after_step(out, log, steps, index, from)?;
-            put_number(out, log, index)
+        Why::Session => tell!(out, log;
+            Text(b"came after "), Name(from), Text(b" in its session")),
+        Why::Moments => tell!(out, log; Text(b"began after "), Name(from), Text(b" ended")),
+        Why::Read { read, .. } => tell!(out, log;
+            Text(b"saw "), Name(from), Text(b"'s "), Key(op_of(to, read))),
+        Why::Step(index) | Why::Later(index) => {
+            put_did(out, log, steps, index)?;
+            tell!(out, log;
+                Text(b" after "), Name(from), Text(b" (by ["), Number(number_of(index)), Text(b"])"))
         }
         Why::Missed(missed) => {
-            let read = OpAt {
-                txn: from,
-                op: missed.read,
-            };
-            put_missed(out, log, to, read)?;
+            put_missed(out, log, to, op_of(from, missed.read))?;
             put_since_number(out, log, missed.since)
         }
     }
@@ -165,14 +118,13 @@ fn put_link(
             if !missed && is_missed(edge.why) {
                 return tell!(out, log; Text(b", but "));
             }
-            tell!(out, log; Text(b"; "))?;
-            tell!(out, log; Name(whose(edge)))?;
-            tell!(out, log; Text(b" "))
+            tell!(out, log; Text(b"; "), Name(whose(edge)), Text(b" "))
         }
     }
 }
 
 /// Appends a part of a sentence.
+#[tactic(auto, unfolding(crate::specs::Short::part_text))]
 fn put_part(
     out: &mut Vec<u8>,
     log: &Log<'_>,
@@ -262,10 +214,7 @@ fn read_of(from: TxnAt, why: Why) -> Option<OpAt>
     ensures { result ≡ spec.read_of from why }
 {
     match why {
-        Why::Missed(missed) => Some(OpAt {
-            txn: from,
-            op: missed.read,
-        }),
+        Why::Missed(missed) => Some(op_of(from, missed.read)),
         _ => None,
     }
 }
@@ -295,10 +244,7 @@ pub fn are_lost(sessions: &[Session], not_one: &Against, not_other: &Against) ->
 fn is_lost_key(sessions: &[Session], both: Both, not_one: &Against) -> bool
     ensures { result ≡ spec.is_lost_key (map view sessions.now) both not_one.now }
 {
-    match only_read(&not_one.edges) {
-        Some(read) => is_of_key(sessions, both.one, read),
-        None => false,
-    }
+    only_read(&not_one.edges).is_some_and(|read| is_of_key(sessions, both.one, read))
 }
 
 /// Whether that two both wrote a key is told as a lost update of it.
@@ -313,27 +259,9 @@ fn put_conclusion(out: &mut Vec<u8>, log: &Log<'_>, edges: &[Edge]) -> Result<()
     ensures put { OnOk result (out.new.items ≡ out.old.items ++ spec.conclusion edges.now) }
 {
     if edges.len() > 2 {
-        return tell!(out, log; Text(CONCLUSION));
+        return tell!(out, log; Text(b"; no order of snapshots and commits has all of this"));
     }
     Ok(())
-}
-
-fn put_short_circle(
-    out: &mut Vec<u8>,
-    log: &Log<'_>,
-    steps: &[Step],
-    edges: &[Edge],
-) -> Result<(), AllocError>
-    ensures put { OnOk result (out.new.items ≡ out.old.items ++ spec.short_circle
-        (rows_of log.now.places.now) (map view log.now.sessions.now) steps.now edges.now) }
-{
-    if !are_few(edges.len()) {
-        return Ok(());
-    }
-    tell!(out, log; Text(b"in short: "))?;
-    put_sentence(out, log, steps, edges)?;
-    put_conclusion(out, log, edges)?;
-    tell!(out, log; Text(b"\n"))
 }
 
 #[tactic(auto, unfolding(crate::specs::Short::short_lost))]
@@ -420,7 +348,15 @@ pub fn put_short(
         (rows_of log.now.places.now) (map view log.now.sessions.now) steps.now ending.now) }
 {
     match ending {
-        Ending::Circle(edges) => put_short_circle(out, log, steps, edges),
+        Ending::Circle(edges) => {
+            if !are_few(edges.len()) {
+                return Ok(());
+            }
+            tell!(out, log; Text(b"in short: "))?;
+            put_sentence(out, log, steps, edges)?;
+            put_conclusion(out, log, edges)?;
+            tell!(out, log; Text(b"\n"))
+        }
         Ending::Neither {
             both,
             not_one,

@@ -1,16 +1,15 @@
 -- A step by which no told edge stands is left out.
-use Rattle.std.proofs.Common.{◌≡◌, ◌⊎◌, ℕ, zero, suc, ◌+◌, ◌-◌, ◌<◌, ◌==◌, ◌&&◌, true, false, List, [], ◌∷◌, ◌++◌, length, get_or, take, map, nat_lt, Option, None, Some, refl, sym, ap, ◌∙◌, subst, inl, inr, arith, append_assoc, lt-ltb, eq-eqb, eqb-true}
+use Rattle.std.proofs.Common.{◌≡◌, ◌⊎◌, ℕ, zero, suc, ◌+◌, ◌-◌, ◌<◌, ◌==◌, ◌&&◌, true, false, List, [], ◌∷◌, ◌++◌, length, get_or, map, Option, None, Some, refl, sym, ap, ◌∙◌, subst, inl, inr, arith, lt-ltb, eq-eqb}
 use Rattle.std.specs.Prelude.{slice_get, IfSome}
-use Rattle.std.specs.List.{All, Contains, list_any, remove}
-use Rattle.std.proofs.lemmas.Bool.{false≢true, and_parts, or_cases, ltb-true}
-use Rattle.std.proofs.lemmas.List.{append-nil, length-map, length_push}
+use Rattle.std.specs.List.{Contains, remove}
+use Rattle.std.proofs.lemmas.Bool.{false≢true, or_parts}
+use Rattle.std.proofs.lemmas.List.{length_push}
 use Rattle.std.proofs.lemmas.List.Elements.{All-nil, All-cons, All-head, All-tail, Contains-append_left, Contains-push}
-use Rattle.std.proofs.lemmas.List.Folds.{list_any_at}
+use Rattle.std.proofs.lemmas.List.Folds.{list_any_at, list_any-append}
 use Rattle.list_lemmas.proofs.Elements.{behind, contains_at}
 use Rattle.reach_laws.proofs.Walks.{Contains-here}
 use Rattle.desk.proofs.Seating.{snoc_get}
 use Rattle.session_log.specs.Text.{ClientSession}
-use Rattle.log_definitions.specs.Numbers.{log_of}
 use Rattle.reasons.specs.Given.{HaveNone}
 use Rattle.tell_proposals.specs.declared.proposal.Step.{Step}
 use Rattle.tell_reasons.specs.declared.why.ChainOrder.{ChainOrder}
@@ -19,43 +18,22 @@ use Rattle.tell_reasons.specs.declared.why.Why.TheVariants.{Known, Forced, Chose
 use Rattle.tell_steps.specs.declared.item.Item.{Item}
 use Rattle.tell_steps.specs.declared.item.Item.TheVariants as item
 use Rattle.tell_steps.specs.declared.rounds.Round.{Round}
-use Rattle.tell_steps.specs.Steps.{IsOrder, IsWhy, IsLineTold, ends, goes, AreStepsTold, none, step, IsNamed}
+use Rattle.tell_steps.specs.Steps.{IsWhy, IsLineTold, ends, goes}
 use Rattle.tell_steps.specs.Lines.{OneHas, Stands, LineStands}
-use Rattle.tell_steps.specs.Ledgers.{orders_of, IsStep, AreBuilt}
-use Rattle.tell_steps.specs.Told.{AreWalksTold}
-use Rattle.tell_steps.specs.Rounds.{RoundView, round_view, RoundStands, AllStand, IsLeafTold, AreRoundsTold, AreAllTold, is_naming, IsTold}
-use Rattle.tell_steps.proofs.Telling.{reason_not_none, named_among, named_left, named_right}
-
--- ---- steps that are built, and steps that are told
-pub built_at : (ss : List ClientSession) (earlier : List ChainOrder) (steps : List Step) (i : ℕ) (x : Step) → AreBuilt ss earlier steps → slice_get steps i ≡ Some x → IsStep ss (earlier ++ orders_of (take i steps)) x
-built_at ss earlier [] i x b at = absurd (cc)
-built_at ss earlier (s ∷ steps) zero x b at = let same : s ≡ x = cc in subst (IsStep ss (earlier ++ [])) same (subst (λ os. IsStep ss os s) (sym (append-nil earlier)) b.0)
-built_at ss earlier (s ∷ steps) (suc i) x b at = subst (λ os. IsStep ss os x) (append_assoc earlier (s.order ∷ []) (orders_of (take i steps))) (built_at ss (earlier ++ s.order ∷ []) steps i x b.1 at)
-
-pub told_orders : (ss : List ClientSession) (earlier : List ChainOrder) (steps : List Step) (items : List Item) → AreWalksTold ss earlier steps items → All (IsOrder (log_of ss)) (orders_of steps)
-told_orders ss earlier [] items t = All-nil (IsOrder (log_of ss))
-told_orders ss earlier (s ∷ steps) items t = All-cons (IsOrder (log_of ss)) s.order (orders_of steps) t.2.right.two_chains (told_orders ss (earlier ++ s.order ∷ []) steps t.1 t.3)
+use Rattle.tell_steps.specs.Ledgers.{orders_of, AreBuilt}
+use Rattle.tell_steps.specs.Told.{AreStepsTold}
+use Rattle.tell_steps.specs.Rounds.{round_view, RoundStands, AllStand, IsLeafTold, AreRoundsTold, AreAllTold, is_naming, is_named}
+use Rattle.tell_steps.proofs.Telling.{reason_not_none}
 
 -- ---- whether a step is named
-named_here : (k : ℕ) (x : Item) (items : List Item) → is_naming k x ≡ true → IsNamed (x ∷ items) k
-named_here k (item.Edge a b (Forced n o)) items t =
-    let p = and_parts (nat_lt 0 n) ((n - 1) == k) t in
-    let e : n ≡ suc k = omega (arith, ltb-true 0 n p.0, eqb-true (n - 1) k p.1) in
-    record { first = a; second = b; order = o; among = subst (λ m. Contains (item.Edge a b (Forced n o) ∷ items) (item.Edge a b (Forced m o))) e (Contains-here (item.Edge a b (Forced n o)) items) }
-named_here k _ items t = absurd (false≢true t)
+named_by : (items : List Item) (a b k j : ℕ) (o : ChainOrder) → Contains items (item.Edge a b (Forced (suc j) o)) → j ≡ k → is_named items k ≡ true
+named_by items a b k j o c same =
+    let edge : Item = item.Edge a b (Forced (suc j) o) in
+    let own : is_naming k edge ≡ true = ap (λ t. t && ((suc j - 1) == k)) (lt-ltb 0 (suc j) (omega arith)) ∙ eq-eqb (suc j - 1) k (omega (arith, same)) in
+    list_any_at (is_naming k) items c.0 edge c.1 (ap (is_naming k) c.2 ∙ own)
 
-pub named_where : (items : List Item) (k : ℕ) → list_any (is_naming k) items ≡ true → IsNamed items k
-named_where [] k t = absurd (false≢true t)
-named_where (x ∷ items) k t = elim (or_cases (is_naming k x) (list_any (is_naming k) items) t) [
-  | inl a ↦ named_here k x items a
-  | inr b ↦ named_among items (x ∷ items) k (behind x items) (named_where items k b)
-]
-
-pub unnamed_where : (items : List Item) (k : ℕ) → list_any (is_naming k) items ≡ false → IsNamed items k → ⊥
-unnamed_where items k t n =
-    let edge : Item = item.Edge n.first n.second (Forced (suc k) n.order) in
-    let own : is_naming k edge ≡ true = ap (λ b. b && ((suc k - 1) == k)) (lt-ltb 0 (suc k) (omega arith)) ∙ eq-eqb (suc k - 1) k (omega arith) in
-    false≢true (sym t ∙ list_any_at (is_naming k) items n.among.0 edge n.among.1 (ap (is_naming k) n.among.2 ∙ own))
+parts_unnamed : (a b items : List Item) (k : ℕ) → items ≡ a ++ b → is_named items k ≡ false → (is_named a k ≡ false) × (is_named b k ≡ false)
+parts_unnamed a b items k e u = or_parts (is_named a k) (is_named b k) (sym (list_any-append (is_naming k) a b) ∙ ap (λ l. is_named l k) (sym e) ∙ u)
 
 -- ---- why an edge of a told line stands
 record EdgeTold (ss : List ClientSession) (steps decided : List ChainOrder) (a b : ℕ) (items : List Item) : Type 0 where
@@ -79,17 +57,17 @@ abbrev Lacks : List ChainOrder → List ChainOrder → ℕ → Type 0
 Lacks big small k = (j : ℕ) (o : ChainOrder) → slice_get big j ≡ Some o → (j ≡ k → ⊥) → Contains small o
 
 module _ (ss : List ClientSession) (k : ℕ) where
-  stands_without : (big small decided : List ChainOrder) (a b : ℕ) (items : List Item) → Lacks big small k → (IsNamed items k → ⊥) → EdgeTold ss big decided a b items → Stands ss big decided a b → Stands ss small decided a b
+  stands_without : (big small decided : List ChainOrder) (a b : ℕ) (items : List Item) → Lacks big small k → is_named items k ≡ false → EdgeTold ss big decided a b items → Stands ss big decided a b → Stands ss small decided a b
   stands_without big small decided a b items lacks unnamed t r = record { first = r.first; second = r.second; has = go t.why t.by t.among }
     where
       go : (why : Why) → IsWhy ss big decided a b why → Contains items (item.Edge a b why) → HaveNone ss a b → OneHas ss small (a, b) ⊎ OneHas ss decided (a, b)
       go (Known x) w c have = absurd (reason_not_none ss a b x w.0 have)
       go (Forced zero o) w c have = absurd w
       go (Forced (suc j) o) w c have =
-          inl (record { order = o; among = lacks j o w.1.at (λ same. unnamed (record { first = a; second = b; order = o; among = subst (λ n. Contains items (item.Edge a b (Forced (suc n) o))) same c })); has = w.1.has })
+          inl (record { order = o; among = lacks j o w.1.at (λ same. false≢true (sym unnamed ∙ named_by items a b k j o c same)); has = w.1.has })
       go (Chosen o) w c have = inr (record { order = o; among = w.2; has = w.3 })
 
-  line_without : (big small decided : List ChainOrder) (line : List ℕ) (items : List Item) → Lacks big small k → (IsNamed items k → ⊥) → IsLineTold ss big decided line items → LineStands ss big decided line → LineStands ss small decided line
+  line_without : (big small decided : List ChainOrder) (line : List ℕ) (items : List Item) → Lacks big small k → is_named items k ≡ false → IsLineTold ss big decided line items → LineStands ss big decided line → LineStands ss small decided line
   line_without big small decided line items lacks unnamed t h = record { some = h.some; each = λ i lt. stands_without big small decided (get_or line i 0) (get_or line (i + 1) 0) items lacks unnamed (edge_told ss big decided line items t i lt) (h.each i lt) }
 
   lacks_more : (big small : List ChainOrder) (y : ChainOrder) → Lacks big small k → Lacks (big ++ y ∷ []) (small ++ y ∷ []) k
@@ -98,35 +76,35 @@ module _ (ss : List ClientSession) (k : ℕ) where
     | inr before ↦ Contains-append_left small (y ∷ []) o (lacks j o before ne)
   ]
 
-  walks_without : (big small : List ChainOrder) (steps : List Step) (items : List Item) → Lacks big small k → (IsNamed items k → ⊥) → AreWalksTold ss big steps items → AreBuilt ss big steps → AreBuilt ss small steps
+  walks_without : (big small : List ChainOrder) (steps : List Step) (items : List Item) → Lacks big small k → is_named items k ≡ false → AreStepsTold ss big steps items → AreBuilt ss big steps → AreBuilt ss small steps
   walks_without big small [] items lacks unnamed t b = tt
   walks_without big small (s ∷ steps) items lacks unnamed t b =
       let h = t.2 in
-      let edges : IsNamed h.against k → IsNamed t.0 k = named_right (item.Step (length big + 1) s.order h.edge.0 h.edge.1 ∷ []) h.against t.0 k h.whole in (
+      let parts = parts_unnamed t.0 t.1 items k t.4 unnamed in (
         record {
           edge = b.0.edge;
           two_chains = b.0.two_chains;
           refuted = b.0.refuted;
           ends = b.0.ends;
-          rests = line_without big small [] s.walk.items h.against lacks (λ n. unnamed (named_left t.0 t.1 items k t.4 (edges n))) h.line b.0.rests;
+          rests = line_without big small [] s.walk.items h.against lacks (parts_unnamed (item.Step (length big + 1) s.order h.edge.0 h.edge.1 ∷ []) h.against t.0 k h.whole parts.0).1 h.line b.0.rests;
         },
-        walks_without (big ++ s.order ∷ []) (small ++ s.order ∷ []) steps t.1 (lacks_more big small s.order lacks) (λ n. unnamed (named_right t.0 t.1 items k t.4 n)) t.3 b.1,
+        walks_without (big ++ s.order ∷ []) (small ++ s.order ∷ []) steps t.1 (lacks_more big small s.order lacks) parts.1 t.3 b.1,
       )
 
-  built_out : (earlier : List ChainOrder) (steps : List Step) (i : ℕ) (items : List Item) → k ≡ length earlier + i → i < length steps → (IsNamed items k → ⊥) → AreWalksTold ss earlier steps items → AreBuilt ss earlier steps → AreBuilt ss earlier (remove steps i)
+  built_out : (earlier : List ChainOrder) (steps : List Step) (i : ℕ) (items : List Item) → k ≡ length earlier + i → i < length steps → is_named items k ≡ false → AreStepsTold ss earlier steps items → AreBuilt ss earlier steps → AreBuilt ss earlier (remove steps i)
   built_out earlier [] i items at lt unnamed t b = absurd (omega (arith, lt))
   built_out earlier (s ∷ steps) zero items at lt unnamed t b =
       walks_without (earlier ++ s.order ∷ []) earlier steps t.1
       (λ j o there ne. elim (snoc_get earlier j s.order o there) [ inl last ↦ absurd (ne (omega (arith, last.0, at))) | inr before ↦ contains_at earlier j o before ])
-      (λ n. unnamed (named_right t.0 t.1 items k t.4 n)) t.3 b.1
+      (parts_unnamed t.0 t.1 items k t.4 unnamed).1 t.3 b.1
   built_out earlier (s ∷ steps) (suc i) items at lt unnamed t b =
-      (b.0, built_out (earlier ++ s.order ∷ []) steps i t.1 (omega (arith, at, length_push earlier s.order)) (omega (arith, lt)) (λ n. unnamed (named_right t.0 t.1 items k t.4 n)) t.3 b.1)
+      (b.0, built_out (earlier ++ s.order ∷ []) steps i t.1 (omega (arith, at, length_push earlier s.order)) (omega (arith, lt)) (parts_unnamed t.0 t.1 items k t.4 unnamed).1 t.3 b.1)
 
-  rounds_without : (big small : List ChainOrder) (rounds : List Round) (items : List Item) → Lacks big small k → (IsNamed items k → ⊥) → AreRoundsTold ss big (map round_view rounds) items → AllStand ss big rounds → AllStand ss small rounds
+  rounds_without : (big small : List ChainOrder) (rounds : List Round) (items : List Item) → Lacks big small k → is_named items k ≡ false → AreRoundsTold ss big (map round_view rounds) items → AllStand ss big rounds → AllStand ss small rounds
   rounds_without big small [] items lacks unnamed t a = All-nil (λ r. RoundStands ss small (round_view r))
   rounds_without big small (r ∷ rounds) items lacks unnamed t a =
       All-cons (λ x. RoundStands ss small (round_view x)) r rounds (record { decided = here.decided; round = here.round; rests = go (round_view r).line t.2.leaf here.rests })
-      (rounds_without big small rounds t.1 lacks (λ n. unnamed (named_right t.0 t.1 items k t.4 n)) t.3 (All-tail (λ x. RoundStands ss big (round_view x)) r rounds a))
+      (rounds_without big small rounds t.1 lacks (parts_unnamed t.0 t.1 items k t.4 unnamed).1 t.3 (All-tail (λ x. RoundStands ss big (round_view x)) r rounds a))
     where
       here : RoundStands ss big (round_view r)
       here = All-head (λ x. RoundStands ss big (round_view x)) r rounds a
@@ -134,7 +112,7 @@ module _ (ss : List ClientSession) (k : ℕ) where
       go : (o : Option (List ℕ)) → IsLeafTold ss big r.decided.items o t.2.cycle → IfSome o (LineStands ss big r.decided.items) → IfSome o (LineStands ss small r.decided.items)
       go None told h = tt
       go (Some line) told h =
-          line_without big small r.decided.items line told.edges lacks (λ n. unnamed (named_left t.0 t.1 items k t.4 (named_right r.before.items t.2.cycle t.0 k t.2.whole (named_right (item.Cycle told.round.start (length told.round.ends.inner + 1) ∷ []) told.edges t.2.cycle k told.whole n)))) told.told h
+          line_without big small r.decided.items line told.edges lacks (parts_unnamed (item.Cycle told.round.start (length told.round.ends.inner + 1) ∷ []) told.edges t.2.cycle k told.whole (parts_unnamed r.before.items t.2.cycle t.0 k t.2.whole (parts_unnamed t.0 t.1 items k t.4 unnamed).0).1).1 told.told h
 
 lacks_out : (steps : List Step) (i : ℕ) → Lacks (orders_of steps) (orders_of (remove steps i)) i
 lacks_out [] i j o at ne = absurd (cc)
@@ -143,32 +121,8 @@ lacks_out (x ∷ steps) zero (suc j) o at ne = contains_at (orders_of steps) j o
 lacks_out (x ∷ steps) (suc i) zero o at ne = contains_at (orders_of (remove (x ∷ steps) (suc i))) 0 o at
 lacks_out (x ∷ steps) (suc i) (suc j) o at ne = behind x.order (orders_of (remove steps i)) o (lacks_out steps i j o at (λ e. ne (ap suc e)))
 
-pub dropped : (ss : List ClientSession) (steps : List Step) (rounds : List Round) (items : List Item) (k : ℕ) → k < length steps → (IsNamed items k → ⊥) → AreAllTold ss steps (map round_view rounds) items → AreBuilt ss [] steps → AllStand ss (orders_of steps) rounds → AreBuilt ss [] (remove steps k) × AllStand ss (orders_of (remove steps k)) rounds
+pub dropped : (ss : List ClientSession) (steps : List Step) (rounds : List Round) (items : List Item) (k : ℕ) → k < length steps → is_named items k ≡ false → AreAllTold ss steps (map round_view rounds) items → AreBuilt ss [] steps → AllStand ss (orders_of steps) rounds → AreBuilt ss [] (remove steps k) × AllStand ss (orders_of (remove steps k)) rounds
 dropped ss steps rounds items k lt unnamed t b a = (
-  built_out ss k [] steps k t.before (omega arith) lt (λ n. unnamed (named_left t.before t.after items k t.whole n)) t.walks b,
-  rounds_without ss k (orders_of steps) (orders_of (remove steps k)) rounds t.after (lacks_out steps k) (λ n. unnamed (named_right t.before t.after items k t.whole n)) t.rounds_told a,
+  built_out ss k [] steps k t.before (omega arith) lt (parts_unnamed t.before t.after items k t.whole unnamed).0 t.walks b,
+  rounds_without ss k (orders_of steps) (orders_of (remove steps k)) rounds t.after (lacks_out steps k) (parts_unnamed t.before t.after items k t.whole unnamed).1 t.rounds_told a,
 )
-
--- ---- all of it
-steps_told : (ss : List ClientSession) (earlier : List ChainOrder) (before : List Item) → AreStepsTold ss earlier before → (steps : List Step) (items : List Item) → AreWalksTold ss earlier steps items → AreStepsTold ss (earlier ++ orders_of steps) (before ++ items)
-steps_told ss earlier before told [] items e = subst (AreStepsTold ss (earlier ++ [])) (sym (ap (λ l. before ++ l) e ∙ append-nil before)) (subst (λ os. AreStepsTold ss os before) (sym (append-nil earlier)) told)
-steps_told ss earlier before told (s ∷ steps) items t =
-    let h = t.2 in
-    let is = h.right in
-    let one : AreStepsTold ss (earlier ++ s.order ∷ []) (before ++ (item.Step (length earlier + 1) s.order h.edge.0 h.edge.1 ∷ h.against)) =
-    step earlier before told s.order is.two_chains h.edge.0 h.edge.1 is.refuted is.ends.inner h.against (subst (λ l. IsLineTold ss earlier [] l h.against) is.ends.shape h.line) in
-    let own : AreStepsTold ss (earlier ++ s.order ∷ []) (before ++ t.0) = subst (λ l. AreStepsTold ss (earlier ++ s.order ∷ []) (before ++ l)) (sym h.whole) one in
-    let all = steps_told ss (earlier ++ s.order ∷ []) (before ++ t.0) own steps t.1 t.3 in
-    subst (AreStepsTold ss (earlier ++ (s.order ∷ orders_of steps))) (append_assoc before t.0 t.1 ∙ ap (λ l. before ++ l) (sym t.4))
-    (subst (λ os. AreStepsTold ss os ((before ++ t.0) ++ t.1)) (append_assoc earlier (s.order ∷ []) (orders_of steps)) all)
-
-pub all_told : (ss : List ClientSession) (steps : List Step) (rounds : List RoundView) (items : List Item) → AreAllTold ss steps rounds items → ((k : ℕ) → k < length steps → IsNamed items k) → IsTold ss rounds items
-all_told ss steps rounds items t named = record {
-  steps = orders_of steps;
-  before = t.before;
-  after = t.after;
-  told = steps_told ss [] [] none steps t.before t.walks;
-  rounds_told = t.rounds_told;
-  whole = t.whole;
-  needed = λ k lt. named k (omega (arith, lt, length-map steps (λ (s : Step). s.order)));
-}

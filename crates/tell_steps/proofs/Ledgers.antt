@@ -2,13 +2,13 @@
 use Rattle.std.proofs.Common.{◌≡◌, ◌⊎◌, ℕ, zero, suc, ◌+◌, ◌<◌, true, List, [], ◌∷◌, ◌++◌, length, get_or, Option, None, Some, refl, sym, ap, ◌∙◌, subst, inl, inr, arith, append_assoc}
 use Rattle.std.specs.Prelude.{map, slice_get, unwrap_or}
 use Rattle.std.specs.List.{AllByRecursion, Contains, flat_map}
-use Rattle.std.proofs.lemmas.Option.{slice_get_within, slice_get-get_or}
 use Rattle.std.proofs.lemmas.List.{append-nil}
-use Rattle.std.proofs.lemmas.List.Elements.{Contains-append_cases, Contains-append_left, Contains-push}
+use Rattle.std.proofs.lemmas.List.Elements.{All-contains, Contains-append_cases, Contains-append_left, Contains-push}
+use Rattle.list_lemmas.proofs.Elements.{contains_at}
 use Rattle.session_log.specs.Text.{ClientSession}
 use Rattle.serializability.specs.Log.{Log}
 use Rattle.serializability.specs.Reads.{IsClean}
-use Rattle.serializability.specs.Polygraph.{Edge, Polygraph, arcs, all_keys, all_nodes, committed}
+use Rattle.serializability.specs.Polygraph.{Edge, Choice, Polygraph, arcs, all_keys, all_nodes, committed}
 use Rattle.serializability.proofs.Places.{each_from_range, each_from_filter, each_from_map, each_from_flat_map, each_from_append}
 use Rattle.serializability.proofs.Serial.{each_from_arcs, arc_cases}
 use Rattle.reach_laws.specs.Reach.{Walk, IsCycle}
@@ -52,13 +52,11 @@ pub to_target : (P : ℕ → Type 0) (t b : ℕ) → P b → (rs : List ℕ) →
 to_target P t b p [] = (p, tt)
 to_target P t b p (r ∷ rs) = (p, each_from_map (λ (e : Edge). P e.1) (λ q. (q, b)) rs (each_const (P b) p rs))
 
-heads_between : (ss : List ClientSession) (x : ℕ) → AllByRecursion (IsBetween ss) (heads (log_of ss) x)
-heads_between ss x =
-    each_from_filter (IsBetween ss) (is_head (log_of ss) x) (committed (log_of ss))
-    (each_from_range (λ v. is_head (log_of ss) x v ≡ true → IsBetween ss v) 1 (log_of ss).nodes (λ v lo hi t. record { low = omega (arith, lo); high = omega (arith, hi) }))
-
 pub head_between : (ss : List ClientSession) (x v : ℕ) → Contains (heads (log_of ss) x) v → IsBetween ss v
-head_between ss x v c = each_contained (IsBetween ss) (heads (log_of ss) x) v (heads_between ss x) c
+head_between ss x v c =
+    each_contained (IsBetween ss) (heads (log_of ss) x) v
+    (each_from_filter (IsBetween ss) (is_head (log_of ss) x) (committed (log_of ss))
+    (each_from_range (λ u. is_head (log_of ss) x u ≡ true → IsBetween ss u) 1 (log_of ss).nodes (λ u lo hi t. record { low = omega (arith, lo); high = omega (arith, hi) }))) c
 
 inner_leads : (ss : List ClientSession) (x w : ℕ) (o : Option ℕ) → next (log_of ss) x w ≡ o → AllByRecursion (λ (e : Edge). IsBetween ss e.1) (inner_at (log_of ss) x w o)
 inner_leads ss x w None e = tt
@@ -117,29 +115,6 @@ known_not ss clean a b lo c none =
 abbrev orders_of : List ClientSession → List ChainOrder
 orders_of ss = orders_in (log_of ss)
 
-record PostOrder (ss : List ClientSession) (p : Polygraph) (c : ℕ) : Type 0 where
-  pub order : ChainOrder
-  pub at : slice_get (orders_of ss) c ≡ Some order
-  pub choice : slice_get p.choices c ≡ Some (choice_of (log_of ss) order)
-  pub two_chains : IsOrder (log_of ss) order
-
-order_there : (ss : List ClientSession) (k : ℕ) (o : ChainOrder) → slice_get (orders_of ss) k ≡ Some o → IsOrder (log_of ss) o
-order_there ss k o at =
-    let here : o ≡ get_or (orders_of ss) k o = (let e : Some o ≡ Some (get_or (orders_of ss) k o) = sym at ∙ slice_get-get_or (orders_of ss) k o (slice_get_within (orders_of ss) k o at) in cc) in
-    subst (IsOrder (log_of ss)) (sym here) (all_orders (log_of ss) k o (slice_get_within (orders_of ss) k o at))
-
-post_order : (ss : List ClientSession) (p : Polygraph) → p.choices ≡ chain_choices (log_of ss) → (c : ℕ) (s : Side) (x : Edge) → In x (side_of p.choices c s) → PostOrder ss p c
-post_order ss p e c s x i =
-    let g = choice_of_edge p.choices c s x i in
-    let all : p.choices ≡ map (choice_of (log_of ss)) (orders_of ss) = e ∙ sym (choices_are (log_of ss)) in
-    let r = get_map (choice_of (log_of ss)) (orders_of ss) c g.choice (ap (λ hs. slice_get hs c) (sym all) ∙ g.at) in
-    record {
-      order = r.0;
-      at = r.1.0;
-      choice = g.at ∙ ap Some (sym r.1.1);
-      two_chains = order_there ss c r.0 r.1.0;
-    }
-
 keeps_by : (log : Log) (o : ChainOrder) (s : Side) → edges_of (choice_of log o) (other s) ≡ edges_in log (kept_of s o)
 keeps_by log o One = refl
 keeps_by log o Two = refl
@@ -156,7 +131,6 @@ abbrev pub order_by : List ClientSession → Posted → ChainOrder
 order_by ss q = kept_order (orders_of ss) q
 
 record PostKeeps (ss : List ClientSession) (p : Polygraph) (q : Posted) : Type 0 where
-  pub within : q.choice < length (orders_of ss)
   pub two_chains : IsOrder (log_of ss) (order_by ss q)
   pub keeps : side_of p.choices q.choice (other q.side) ≡ edges_in (log_of ss) (order_by ss q)
   pub refuses : side_of p.choices q.choice q.side ≡ edges_in (log_of ss) (turned (order_by ss q))
@@ -164,13 +138,16 @@ record PostKeeps (ss : List ClientSession) (p : Polygraph) (q : Posted) : Type 0
 post_keeps : (ss : List ClientSession) (p : Polygraph) → p.choices ≡ chain_choices (log_of ss) → (q : Posted) (s : Side) (x : Edge) → In x (side_of p.choices q.choice s) → PostKeeps ss p q
 post_keeps ss p e q s x i =
     let log = log_of ss in
-    let o = post_order ss p e q.choice s x i in
-    let is : order_by ss q ≡ kept_of q.side o.order = ap (λ z. kept_of q.side (unwrap_or z (record { key = 0; first = 0; second = 0 }))) o.at in
+    let g = choice_of_edge p.choices q.choice s x i in
+    let r = get_map (choice_of log) (orders_of ss) q.choice g.choice (ap (λ (hs : List Choice). slice_get hs q.choice) (choices_are log ∙ sym e) ∙ g.at) in
+    let o = r.0 in
+    let at : slice_get p.choices q.choice ≡ Some (choice_of log o) = g.at ∙ ap Some (sym r.1.1) in
+    let two_chains = All-contains (IsOrder log) (orders_of ss) o (all_orders log) (contains_at (orders_of ss) q.choice o r.1.0) in
+    let is : order_by ss q ≡ kept_of q.side o = ap (λ z. kept_of q.side (unwrap_or z (record { key = 0; first = 0; second = 0 }))) r.1.0 in
     record {
-      within = slice_get_within (orders_of ss) q.choice o.order o.at;
-      two_chains = subst (IsOrder log) (sym is) (kept_two log o.order q.side o.two_chains);
-      keeps = side_is p.choices q.choice (choice_of log o.order) (other q.side) o.choice ∙ keeps_by log o.order q.side ∙ ap (edges_in log) (sym is);
-      refuses = side_is p.choices q.choice (choice_of log o.order) q.side o.choice ∙ refuses_by log o.order q.side ∙ ap (λ z. edges_in log (turned z)) (sym is);
+      two_chains = subst (IsOrder log) (sym is) (kept_two log o q.side two_chains);
+      keeps = side_is p.choices q.choice (choice_of log o) (other q.side) at ∙ keeps_by log o q.side ∙ ap (edges_in log) (sym is);
+      refuses = side_is p.choices q.choice (choice_of log o) q.side at ∙ refuses_by log o q.side ∙ ap (λ z. edges_in log (turned z)) (sym is);
     }
 
 -- ---- what edges rest on

@@ -1,11 +1,10 @@
 -- How lines and steps are told.
-use Rattle.std.proofs.Common.{◌≡◌, ℕ, suc, ◌+◌, ◌-◌, ◌<◌, true, List, [], ◌∷◌, ◌++◌, length, get_or, take, drop, Option, Some, None, refl, sym, ap, ◌∙◌, subst, arith, append_assoc}
+use Rattle.std.proofs.Common.{◌≡◌, ℕ, suc, ◌+◌, ◌-◌, ◌<◌, true, List, [], ◌∷◌, ◌++◌, length, get_or, take, drop, Option, Some, None, refl, sym, ap, ◌∙◌, subst, arith}
 use Rattle.std.specs.Prelude.{Vec, IfNone, reverse}
 use Rattle.std.specs.Option.{option_map}
 use Rattle.std.specs.declared.alloc.Global.{Global}
-use Rattle.std.specs.List.{Contains}
-use Rattle.std.proofs.lemmas.List.{append-nil, drop_more, drop_all, length_push, take_all, take_more, get_or_push, reverse-append}
-use Rattle.std.proofs.lemmas.List.Elements.{All-nil, All-cons, Contains-append_left, Contains-append_right}
+use Rattle.std.proofs.lemmas.List.{drop_more, drop_all, length_push, take_all, take_more, get_or_push, reverse-append}
+use Rattle.std.proofs.lemmas.List.Elements.{All-nil, All-cons}
 use Rattle.session_log.specs.Text.{ClientSession}
 use Rattle.log_definitions.specs.Numbers.{log_of}
 use Rattle.reason_laws.specs.Reasons.{IsNode}
@@ -15,18 +14,16 @@ use Rattle.reasons.specs.Runs.{goes_on, without_runs}
 use Rattle.reasons.specs.declared.reason.Reason.{Reason}
 use Rattle.reasons.specs.declared.reason.Reason.TheVariants as reason
 use Rattle.reasons.proofs.Sessions.{ends_of_session, runs_some, runs_each, runs_ends}
-use Rattle.tell_proposals.specs.declared.proposal.Step.{Step}
 use Rattle.tell_reasons.specs.declared.why.ChainOrder.{ChainOrder}
 use Rattle.tell_reasons.specs.declared.why.Why.{Why}
-use Rattle.tell_reasons.specs.declared.why.Why.TheVariants.{Forced}
 use Rattle.tell_steps.specs.declared.item.Item.{Item}
 use Rattle.tell_steps.specs.declared.item.Item.TheVariants as item
 use Rattle.tell_steps.specs.declared.rounds.Round.{Round}
-use Rattle.tell_steps.specs.Steps.{IsOrder, IsWhy, IsLineTold, ends, goes, IsCycleTold, closes, IsNamed, IsDeadTold}
+use Rattle.tell_steps.specs.Steps.{IsOrder, IsWhy, IsLineTold, ends, goes}
 use Rattle.tell_steps.specs.Lines.{HasEnds, IsBetween, Stands, LineStands, IsRound}
-use Rattle.tell_steps.specs.Ledgers.{orders_of, IsClosed}
-use Rattle.tell_steps.specs.Told.{IsRoundTold, IsStepTold, AreWalksTold}
-use Rattle.tell_steps.specs.Rounds.{RoundView, round_view, RoundStands, AllStand, IsLeafTold, IsRoundPut, AreRoundsTold, AreAllTold, IsTold}
+use Rattle.tell_steps.specs.Ledgers.{IsClosed}
+use Rattle.tell_steps.specs.Told.{IsRoundTold}
+use Rattle.tell_steps.specs.Rounds.{round_view, RoundStands, AllStand, cycle_round}
 
 -- where there is none, and the one thing follows, so does the other
 pub none_then : {X : Type 0} (o : Option X) (P Q : Type 0) → (P → Q) → IfNone o P → IfNone o Q
@@ -75,46 +72,6 @@ reason_not_none ss a b (reason.Overwritten i j) h none = none.overwritten i j h
 reason_not_none ss a b (reason.Initial i j) h none = none.initial i j h
 reason_not_none ss a b reason.Moments h none = none.moments h
 
--- ---- edges among items
-pub named_among : (items new : List Item) (r : ℕ) → ((x : Item) → Contains items x → Contains new x) → IsNamed items r → IsNamed new r
-named_among items new r up n = record { first = n.first; second = n.second; order = n.order; among = up (item.Edge n.first n.second (Forced (suc r) n.order)) n.among }
-
-pub named_left : (a b items : List Item) (k : ℕ) → items ≡ a ++ b → IsNamed a k → IsNamed items k
-named_left a b items k e = named_among a items k (λ x c. subst (λ l. Contains l x) (sym e) (Contains-append_left a b x c))
-
-pub named_right : (a b items : List Item) (k : ℕ) → items ≡ a ++ b → IsNamed b k → IsNamed items k
-named_right a b items k e = named_among b items k (λ x c. subst (λ l. Contains l x) (sym e) (Contains-append_right a b x c))
-
--- ---- items that are appended
-pub walks_push : (ss : List ClientSession) (earlier : List ChainOrder) (steps : List Step) (s : Step) (a b : List Item) → AreWalksTold ss earlier steps a → IsStepTold ss (earlier ++ orders_of steps) s b → AreWalksTold ss earlier (steps ++ s ∷ []) (a ++ b)
-walks_push ss earlier [] s a b e h = (b, [], subst (λ os. IsStepTold ss os s b) (append-nil earlier) h, refl, ap (λ l. l ++ b) e ∙ sym (append-nil b))
-walks_push ss earlier (x ∷ steps) s a b g h = (
-  g.0,
-  g.1 ++ b,
-  g.2,
-  walks_push ss (earlier ++ x.order ∷ []) steps s g.1 b g.3 (subst (λ os. IsStepTold ss os s b) (sym (append_assoc earlier (x.order ∷ []) (orders_of steps))) h),
-  ap (λ l. l ++ b) g.4 ∙ append_assoc g.0 g.1 b,
-)
-
-rounds_push : (ss : List ClientSession) (steps : List ChainOrder) (rounds : List RoundView) (r : RoundView) (a b : List Item) → AreRoundsTold ss steps rounds a → IsRoundPut ss steps r b → AreRoundsTold ss steps (rounds ++ r ∷ []) (a ++ b)
-rounds_push ss steps [] r a b e h = (b, [], h, refl, ap (λ l. l ++ b) e ∙ sym (append-nil b))
-rounds_push ss steps (x ∷ rounds) r a b g h = (g.0, g.1 ++ b, g.2, rounds_push ss steps rounds r g.1 b g.3 h, ap (λ l. l ++ b) g.4 ∙ append_assoc g.0 g.1 b)
-
-pub all_push : (ss : List ClientSession) (steps : List Step) (rounds : List RoundView) (r : RoundView) (items own : List Item) → AreAllTold ss steps rounds items → IsRoundPut ss (orders_of steps) r own → AreAllTold ss steps (rounds ++ r ∷ []) (items ++ own)
-all_push ss steps rounds r items own t h = record {
-  before = t.before;
-  after = t.after ++ own;
-  walks = t.walks;
-  rounds_told = rounds_push ss (orders_of steps) rounds r t.after own t.rounds_told h;
-  whole = ap (λ l. l ++ own) t.whole ∙ append_assoc t.before t.after own;
-}
-
--- ---- all of it: a cycle, told behind the steps
-pub round_cycle : (ss : List ClientSession) (steps decided : List ChainOrder) (line : List ℕ) (items : List Item) → IsRoundTold ss steps decided line items → IsCycleTold ss steps decided items
-round_cycle ss steps decided line items h =
-    let r = h.round in
-    subst (IsCycleTold ss steps decided) (sym h.whole) (closes r.start r.ends.inner h.edges (subst (λ l. IsLineTold ss steps decided l h.edges) r.ends.shape h.told))
-
 -- ---- without runs of sessions
 stands_on : (ss : List ClientSession) (steps decided : List ChainOrder) (a b c : ℕ) → Stands ss steps decided a b → Stands ss steps decided b c → goes_on ss a b c ≡ true → Stands ss steps decided a c
 stands_on ss steps decided a b c h g t =
@@ -144,16 +101,10 @@ round_told ss steps decided line told old mid tail items start end edges h same 
     record { round = record { start = start; ends = h' }; edges = told; told = t; whole = is ∙ ap (λ n. item.Cycle start n ∷ told) edges_are }
 
 -- ---- a cycle alone, told behind the steps
-pub cycle_stands : (ss : List ClientSession) (steps : List ChainOrder) (cycle : List ℕ) (r : Round) (line : Vec ℕ Global) → r.decided.items ≡ [] → r.line ≡ Some line → line.items ≡ without_runs ss cycle → IsClosed ss steps cycle → AllStand ss steps (r ∷ [])
-cycle_stands ss steps cycle r line decided is short h =
-    let Holds : List ChainOrder → Option (List ℕ) → Type 0 = λ d o. RoundStands ss steps (record { before = r.before.items; decided = d; line = o }) in
-    let shape : option_map (λ (l : Vec ℕ Global). l.items) r.line ≡ Some (without_runs ss cycle) = ap (option_map (λ (l : Vec ℕ Global). l.items)) is ∙ ap Some short in
-    let stands : Holds [] (Some (without_runs ss cycle)) = record { decided = All-nil (IsOrder (log_of ss)); round = runs_round ss cycle h.round; rests = runs_stand ss steps [] cycle h.rests } in
-    All-cons (λ x. RoundStands ss steps (round_view x)) r [] (subst (λ d. Holds d (round_view r).line) (sym decided) (subst (Holds []) (sym shape) stands)) (All-nil (λ x. RoundStands ss steps (round_view x)))
+pub cycle_is : (r : Round) (line : Vec ℕ Global) (short : List ℕ) → r.before.items ≡ [] → r.decided.items ≡ [] → r.line ≡ Some line → line.items ≡ short → round_view r ≡ cycle_round short
+cycle_is r line short before decided is same = (λ i. record { before = before i; decided = decided i; line = option_map (λ (l : Vec ℕ Global). l.items) (is i) }) ∙ ap cycle_round same
 
-pub dead_told : (ss : List ClientSession) (line : List ℕ) (r : RoundView) (items : List Item) → r.before ≡ [] → r.decided ≡ [] → r.line ≡ Some line → IsTold ss (r ∷ []) items → IsDeadTold ss items
-dead_told ss line r items before decided is t =
-    let p = t.rounds_told.2 in
-    let leaf : IsRoundTold ss t.steps [] line p.cycle = subst (λ d. IsLeafTold ss t.steps d (Some line) p.cycle) decided (subst (λ o. IsLeafTold ss t.steps r.decided o p.cycle) is p.leaf) in
-    let after : t.after ≡ p.cycle = t.rounds_told.4 ∙ (λ z. p.whole z ++ t.rounds_told.3 z) ∙ append-nil (r.before ++ p.cycle) ∙ ap (λ l. l ++ p.cycle) before in
-    record { steps = t.steps; before = t.before; round = p.cycle; told = t.told; cycle = round_cycle ss t.steps [] line p.cycle leaf; whole = t.whole ∙ ap (λ l. t.before ++ l) after; needed = t.needed }
+pub cycle_stands : (ss : List ClientSession) (steps : List ChainOrder) (cycle : List ℕ) (r : Round) → round_view r ≡ cycle_round (without_runs ss cycle) → IsClosed ss steps cycle → AllStand ss steps (r ∷ [])
+cycle_stands ss steps cycle r is h =
+    let stands : RoundStands ss steps (cycle_round (without_runs ss cycle)) = record { decided = All-nil (IsOrder (log_of ss)); round = runs_round ss cycle h.round; rests = runs_stand ss steps [] cycle h.rests } in
+    All-cons (λ x. RoundStands ss steps (round_view x)) r [] (subst (RoundStands ss steps) (sym is) stands) (All-nil (λ x. RoundStands ss steps (round_view x)))

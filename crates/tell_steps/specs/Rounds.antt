@@ -1,6 +1,6 @@
 -- What is told behind forced steps: items and cycles.
-use Rattle.std.specs.Prelude.{◌≡◌, ℕ, ◌-◌, ◌<◌, ◌==◌, ◌&&◌, nat_lt, Bool, false, List, [], ◌∷◌, ◌++◌, length, Option, None, Some, IfSome}
-use Rattle.std.specs.List.{All}
+use Rattle.std.specs.Prelude.{◌≡◌, ℕ, ◌-◌, ◌<◌, ◌==◌, ◌&&◌, nat_lt, Bool, true, false, List, [], ◌∷◌, ◌++◌, length, Option, None, Some, IfSome}
+use Rattle.std.specs.List.{All, list_any}
 use Rattle.std.specs.Option.{option_map}
 use Rattle.session_log.specs.Text.{ClientSession}
 use Rattle.log_definitions.specs.Numbers.{log_of}
@@ -10,10 +10,10 @@ use Rattle.tell_reasons.specs.declared.why.Why.TheVariants.{Forced}
 use Rattle.tell_steps.specs.declared.item.Item.{Item}
 use Rattle.tell_steps.specs.declared.item.Item.TheVariants as item
 use Rattle.tell_steps.specs.declared.rounds.Round.{Round}
-use Rattle.tell_steps.specs.Steps.{IsOrder, AreStepsTold, IsNamed}
+use Rattle.tell_steps.specs.Steps.{IsOrder}
 use Rattle.tell_steps.specs.Lines.{IsRound, LineStands}
 use Rattle.tell_steps.specs.Ledgers.{orders_of}
-use Rattle.tell_steps.specs.Told.{IsRoundTold, AreWalksTold}
+use Rattle.tell_steps.specs.Told.{IsRoundTold, AreStepsTold}
 
 -- items, what is decided, and the line of a cycle, where there is one
 pub record RoundView : Type 0 where
@@ -63,22 +63,31 @@ pub record AreAllTold (ss : List ClientSession) (steps : List Step) (rounds : Li
     (items : List Item) : Type 0 where
   pub before : List Item
   pub after : List Item
-  pub walks : AreWalksTold ss [] steps before
+  pub walks : AreStepsTold ss [] steps before
   pub rounds_told : AreRoundsTold ss (orders_of steps) rounds after
   pub whole : items ≡ before ++ after
 
--- an edge that stands by step k, from 0
+-- an edge that stands by step k, from 0, of which the number is k + 1
 abbrev pub is_naming : ℕ → Item → Bool
 is_naming k (item.Edge a b (Forced n o)) = nat_lt 0 n && (n - 1) == k
 is_naming k _ = false
 
--- steps, and the rounds behind them; and by each of the steps an edge among the items stands
+abbrev pub is_named : List Item → ℕ → Bool
+is_named items k = list_any (is_naming k) items
+
+-- steps, and the rounds behind them; and by each of the steps an edge among the items stands: of a
+-- later step's walk, or of a cycle
 pub record IsTold (ss : List ClientSession) (rounds : List RoundView) (items : List Item)
     : Type 0 where
-  pub steps : List ChainOrder
-  pub before : List Item
-  pub after : List Item
-  pub told : AreStepsTold ss steps before
-  pub rounds_told : AreRoundsTold ss steps rounds after
-  pub whole : items ≡ before ++ after
-  pub needed : (k : ℕ) → k < length steps → IsNamed items k
+  pub steps : List Step
+  pub told : AreAllTold ss steps rounds items
+  pub needed : (k : ℕ) → k < length steps → is_named items k ≡ true
+
+-- a cycle alone
+abbrev pub cycle_round : List ℕ → RoundView
+cycle_round line = record { before = []; decided = []; line = Some line }
+
+-- steps that end in a cycle, each of which is needed
+pub record IsDeadTold (ss : List ClientSession) (items : List Item) : Type 0 where
+  pub line : List ℕ
+  pub told : IsTold ss (cycle_round line ∷ []) items

@@ -1,7 +1,5 @@
--- How the ledger of pruning is told: forced steps, each of which rests on the log and on earlier
--- steps alone, and the cycle that they end in.
-use Rattle.std.specs.Prelude.{◌≡◌, ◌≢◌, ◌⊎◌, ℕ, zero, suc, ◌+◌, ◌<◌, List, [], ◌∷◌, ◌++◌, length}
-use Rattle.std.specs.Prelude.{slice_get, Some}
+-- Why an edge stands among forced steps and decided orders, and lines of such edges.
+use Rattle.std.specs.Prelude.{◌≡◌, ◌≢◌, ◌⊎◌, ℕ, zero, suc, ◌<◌, List, [], ◌∷◌, slice_get, Some}
 use Rattle.std.specs.List.{Contains}
 use Rattle.session_log.specs.Text.{ClientSession}
 use Rattle.serializability.specs.Log.{Log}
@@ -65,40 +63,3 @@ pub data IsLineTold (ss : List ClientSession) (steps decided : List ChainOrder) 
   goes : (a b : ℕ) (rest : List ℕ) (why : Why) (items : List Item) → IsWhy ss steps decided a b why
       → IsLineTold ss steps decided (b ∷ rest) items →
       IsLineTold ss steps decided (a ∷ b ∷ rest) (item.Edge a b why ∷ items)
-
--- Steps, told one behind the other, and the orders of chains that they establish: from the other way
--- round an edge (u, v) follows, against which a walk leads from v to u, each edge of which has a
--- reason of its own or stands in an earlier step.
-pub data AreStepsTold (ss : List ClientSession) : List ChainOrder → List Item → Type 0 where
-  none : AreStepsTold ss [] []
-  step : (steps : List ChainOrder) (items : List Item) → AreStepsTold ss steps items
-      → (o : ChainOrder) → IsOrder (log_of ss) o →
-      (u v : ℕ) → Follows (log_of ss) (turned o) (u, v)
-      → (inner : List ℕ) (against : List Item)
-      → IsLineTold ss steps [] (v ∷ (inner ++ u ∷ [])) against →
-      AreStepsTold ss (steps ++ o ∷ []) (items ++ (item.Step (length steps + 1) o u v ∷ against))
-
--- a cycle, each edge of which has a reason, stands in a step, or was decided
-pub data IsCycleTold (ss : List ClientSession) (steps decided : List ChainOrder) : List Item
-    → Type 0 where
-  closes : (start : ℕ) (inner : List ℕ) (items : List Item)
-      → IsLineTold ss steps decided (start ∷ (inner ++ start ∷ [])) items →
-      IsCycleTold ss steps decided (item.Cycle start (length inner + 1) ∷ items)
-
--- an edge is told that stands by step k, from 0, of which the number is k + 1
-pub record IsNamed (items : List Item) (k : ℕ) : Type 0 where
-  pub first : ℕ
-  pub second : ℕ
-  pub order : ChainOrder
-  pub among : Contains items (item.Edge first second (Forced (suc k) order))
-
--- steps that end in a cycle, each of which is needed: an edge of the cycle or of a later step's
--- walk stands by it
-pub record IsDeadTold (ss : List ClientSession) (items : List Item) : Type 0 where
-  pub steps : List ChainOrder
-  pub before : List Item
-  pub round : List Item
-  pub told : AreStepsTold ss steps before
-  pub cycle : IsCycleTold ss steps [] round
-  pub whole : items ≡ before ++ round
-  pub needed : (k : ℕ) → k < length steps → IsNamed items k

@@ -34,9 +34,11 @@ pub record IsStepTold (ss : List ClientSession) (steps : List ChainOrder) (s : S
   pub line : IsLineTold ss steps [] s.walk.items against
   pub whole : items ≡ item.Step (length steps + 1) s.order edge.0 edge.1 ∷ against
 
--- each of the steps behind those before it, and these orders
-abbrev pub AreWalksTold : List ClientSession → List ChainOrder → List Step → List Item → Type 0
-AreWalksTold ss earlier [] items = items ≡ []
-AreWalksTold ss earlier (s ∷ steps) items =
+-- Steps, told one behind the other, behind these orders: from the other way round of each an edge
+-- (u, v) follows, against which a walk leads from v to u, each edge of which has a reason of its own
+-- or stands in an earlier step.
+abbrev pub AreStepsTold : List ClientSession → List ChainOrder → List Step → List Item → Type 0
+AreStepsTold ss earlier [] items = items ≡ []
+AreStepsTold ss earlier (s ∷ steps) items =
     (own : List Item) × (rest : List Item) × IsStepTold ss earlier s own
-    × AreWalksTold ss (earlier ++ s.order ∷ []) steps rest × (items ≡ own ++ rest)
+    × AreStepsTold ss (earlier ++ s.order ∷ []) steps rest × (items ≡ own ++ rest)

@@ -3,7 +3,7 @@
 ghost use Rattle.std.specs.Prelude.{◌≡◌, [], IfOk, IfSome, IfNone};
 ghost use Rattle.serializability.specs.Reads.{IsClean};
 ghost use Rattle.log_definitions.specs.Numbers.{log_of};
-ghost use Rattle.tell_steps.specs.Steps.{IsDeadTold};
+ghost use Rattle.tell_steps.specs.Rounds.{IsDeadTold};
 ghost use Rattle.tell_steps.specs.Ledgers as spec;
 ghost use Rattle.tell_steps.specs.Ledgers.{orders_of, AreBuilt};
 

@@ -1,10 +1,8 @@
 //! The steps that some rounds need, and the rounds.
 
-ghost use Rattle.std.specs.Prelude.{◌≡◌, ◌<◌, ℕ, [], map, not, IsTrue, IfNone, IfOk, IfSome};
-ghost use Rattle.std.specs.List.{list_any};
+ghost use Rattle.std.specs.Prelude.{◌≡◌, ◌<◌, ℕ, [], map, true, false, IfNone, IfOk, IfSome};
 ghost use Rattle.serializability.specs.Reads.{IsClean};
 ghost use Rattle.log_definitions.specs.Numbers.{log_of};
-ghost use Rattle.tell_steps.specs.Steps.{IsNamed};
 ghost use Rattle.tell_steps.specs.Ledgers as ledgers;
 ghost use Rattle.tell_steps.specs.Ledgers.{orders_of, AreBuilt};
 ghost use Rattle.tell_steps.specs.Rounds as spec;
@@ -68,26 +66,17 @@ fn is_naming(item: &Item, step: usize) -> bool
     }
 }
 
-/// Whether an item is such an edge, by a test of each.
-fn has_naming(items: &[Item], step: usize) -> bool
-    ensures { result ≡ list_any (spec.is_naming step) items.now }
+/// Whether one of the items is such an edge.
+fn is_named(items: &[Item], step: usize) -> bool
+    ensures { result ≡ spec.is_named items.now step }
 {
     items.iter().any(|item| is_naming(item, step))
 }
 
-/// Whether one of the items is an edge that stands by this step.
-#[tactic(auto, using(crate::proofs::Dropping::named_where, crate::proofs::Dropping::unnamed_where))]
-fn is_named(items: &[Item], step: usize) -> bool
-    ensures yes { IsTrue result → IsNamed items.now step }
-    ensures no { IsTrue (not result) → IsNamed items.now step → ⊥ }
-{
-    has_naming(items, step)
-}
-
 /// The first of so many steps by which no edge among the items stands.
 fn first_unnamed(items: &[Item], steps: usize) -> Option<usize>
-    ensures some { IfSome result (λ k. (k < steps) × (IsNamed items.now k → ⊥)) }
-    ensures none { IfNone result ((k : ℕ) → k < steps → IsNamed items.now k) }
+    ensures some { IfSome result (λ k. (k < steps) × (spec.is_named items.now k ≡ false)) }
+    ensures none { IfNone result ((k : ℕ) → k < steps → spec.is_named items.now k ≡ true) }
 {
     for step in 0..steps {
         if !is_named(items, step) {
@@ -112,18 +101,15 @@ fn tell_needed(
         → AllStand chains.now (orders_of steps.items) rounds.now → ⊥)) }
 {
     let mut left = steps;
-    let Some(mut items) = told_with(alloc, chains, &left, rounds)? else {
-        return Ok(None);
-    };
-    while let Some(step) = first_unnamed(&items, left.len()) {
-        let _unnamed = left.remove(step);
-        let rest = left.as_slice();
-        let Some(fewer) = told_with(alloc, chains, rest, rounds)? else {
+    'dropping: loop {
+        let Some(items) = told_with(alloc, chains, &left, rounds)? else {
             return Ok(None);
         };
-        items = fewer;
+        let Some(step) = first_unnamed(&items, left.len()) else {
+            return Ok(Some(items));
+        };
+        let _unnamed = left.remove(step);
     }
-    Ok(Some(items))
 }
 
 /// The few of these steps that the rounds seem to need, where they are right, or else all of these,

@@ -1,10 +1,12 @@
 -- How a tree is visited, depth first, and that its leaves are told, up to the greatest number.
-use Rattle.std.proofs.Common.{◌≡◌, ℕ, zero, suc, ◌+◌, ◌<◌, ◌≤◌, Bool, cond, eqb, List, [], ◌∷◌, length, map, min, Option, None, Some, refl, sym, ap, ◌∙◌, subst, inl, inr, arith, true, ◌++◌, get_or, append_assoc}
+use Rattle.std.proofs.Common.{◌≡◌, ℕ, zero, suc, ◌+◌, ◌-◌, ◌*◌, ◌^◌, ◌<◌, ◌≤◌, Bool, cond, eqb, List, [], ◌∷◌, length, map, min, Option, None, Some, refl, sym, ap, ◌∙◌, subst, inl, inr, arith, ◌++◌, get_or, append_assoc}
 use Rattle.std.specs.Prelude.{slice_get, is_some, count_by, reverse}
 use Rattle.std.specs.Option.{option_map_or}
 use Rattle.std.proofs.lemmas.Bool.{cases_eq}
 use Rattle.std.proofs.lemmas.Bool.Decides.{nat_tests}
 use Rattle.std.proofs.lemmas.List.Sums.{sum_by-cons, sum_by_push}
+use Rattle.std.proofs.lemmas.Nat.{pow_pos, pow_below}
+use Rattle.std.proofs.Math.Pow.{add-lt-pow}
 use Rattle.std.proofs.lemmas.Option.{same_Some, slice_get_within, slice_get-get_or}
 use Rattle.list_lemmas.proofs.Elements.{same_item, some_at}
 use Rattle.serializability.specs.Polygraph.{Polygraph}
@@ -39,36 +41,38 @@ children_both : (g : Growth) (a b : ℕ → ℕ) → over_children g (λ k. a k 
 children_both (Leaf line) a b = refl
 children_both (Inner c first second) a b = omega arith
 
--- ---- sums over those of some nodes, which are numbered from k, that pass a test
-module _ (test : TreeNode → Bool) where
-  abbrev sum_of : (ℕ → ℕ) → ℕ → List TreeNode → ℕ
-  sum_of f k [] = 0
-  sum_of f k (x ∷ xs) = cond (test x) (f k) 0 + sum_of f (suc k) xs
+-- ---- sums over the leaves of some nodes, which are numbered from k
+abbrev is_leaf : TreeNode → Bool
+is_leaf x = is_some (cycle_in x.growth)
 
-  sum_both : (f g h : ℕ → ℕ) (k : ℕ) (xs : List TreeNode) → ((j : ℕ) → j < k + length xs → f j ≡ g j + h j) → sum_of f k xs ≡ sum_of g k xs + sum_of h k xs
-  sum_both f g h k [] same = refl
-  sum_both f g h k (x ∷ xs) same = grind (arith, same k (omega arith), sum_both f g h (suc k) xs (λ j lt. same j (omega (arith, lt))))
+abbrev sum_of : (ℕ → ℕ) → ℕ → List TreeNode → ℕ
+sum_of f k [] = 0
+sum_of f k (x ∷ xs) = cond (is_leaf x) (f k) 0 + sum_of f (suc k) xs
 
-  sum_none : (f : ℕ → ℕ) (k : ℕ) (xs : List TreeNode) → ((j : ℕ) → k ≤ j → f j ≡ 0) → sum_of f k xs ≡ 0
-  sum_none f k [] none = refl
-  sum_none f k (x ∷ xs) none = grind (arith, none k (omega arith), sum_none f (suc k) xs (λ j le. none j (omega (arith, le))))
+sum_both : (f g h : ℕ → ℕ) (k : ℕ) (xs : List TreeNode) → ((j : ℕ) → j < k + length xs → f j ≡ g j + h j) → sum_of f k xs ≡ sum_of g k xs + sum_of h k xs
+sum_both f g h k [] same = refl
+sum_both f g h k (x ∷ xs) same = grind (arith, same k (omega arith), sum_both f g h (suc k) xs (λ j lt. same j (omega (arith, lt))))
 
-  sum_ones : (f : ℕ → ℕ) (k : ℕ) (xs : List TreeNode) → ((j : ℕ) → j < k + length xs → f j ≡ 1) → sum_of f k xs ≡ count_by test xs
-  sum_ones f k [] one = refl
-  sum_ones f k (x ∷ xs) one =
-      let rest = sum_ones f (suc k) xs (λ j lt. one j (omega (arith, lt))) in
-      grind (arith, one k (omega arith), rest, sum_by-cons (λ (z : TreeNode). cond (test z) 1 0) x xs)
+sum_none : (f : ℕ → ℕ) (k : ℕ) (xs : List TreeNode) → ((j : ℕ) → k ≤ j → f j ≡ 0) → sum_of f k xs ≡ 0
+sum_none f k [] none = refl
+sum_none f k (x ∷ xs) none = grind (arith, none k (omega arith), sum_none f (suc k) xs (λ j le. none j (omega (arith, le))))
 
-  sum_one : (i j k : ℕ) (xs : List TreeNode) (x : TreeNode) → i ≡ k + j → slice_get xs j ≡ Some x → sum_of (λ n. cond (eqb i n) 1 0) k xs ≡ cond (test x) 1 0
-  sum_one i j k [] x e at = absurd (cc)
-  sum_one i zero k (y ∷ ys) x e at =
-      let none = sum_none (λ n. cond (eqb i n) 1 0) (suc k) ys (λ n le. grind (arith, nat_tests)) in
-      grind (arith, nat_tests, none, ap test (same_Some y x at))
-  sum_one i (suc j) k (y ∷ ys) x e at = grind (arith, nat_tests, sum_one i j (suc k) ys x (omega (arith, e)) at)
+sum_ones : (f : ℕ → ℕ) (k : ℕ) (xs : List TreeNode) → ((j : ℕ) → j < k + length xs → f j ≡ 1) → sum_of f k xs ≡ count_by is_leaf xs
+sum_ones f k [] one = refl
+sum_ones f k (x ∷ xs) one =
+    let rest = sum_ones f (suc k) xs (λ j lt. one j (omega (arith, lt))) in
+    grind (arith, one k (omega arith), rest, sum_by-cons (λ (z : TreeNode). cond (is_leaf z) 1 0) x xs)
 
-  sum_children : (g : Growth) (f : ℕ → ℕ → ℕ) (k : ℕ) (xs : List TreeNode) → sum_of (λ j. over_children g (λ i. f i j)) k xs ≡ over_children g (λ i. sum_of (f i) k xs)
-  sum_children (Leaf line) f k xs = sum_none (λ j. 0) k xs (λ j le. refl)
-  sum_children (Inner c first second) f k xs = sum_both (λ j. f first j + f second j) (f first) (f second) k xs (λ j lt. refl)
+sum_one : (i j k : ℕ) (xs : List TreeNode) (x : TreeNode) → i ≡ k + j → slice_get xs j ≡ Some x → sum_of (λ n. cond (eqb i n) 1 0) k xs ≡ cond (is_leaf x) 1 0
+sum_one i j k [] x e at = absurd (cc)
+sum_one i zero k (y ∷ ys) x e at =
+    let none = sum_none (λ n. cond (eqb i n) 1 0) (suc k) ys (λ n le. grind (arith, nat_tests)) in
+    grind (arith, nat_tests, none, ap is_leaf (same_Some y x at))
+sum_one i (suc j) k (y ∷ ys) x e at = grind (arith, nat_tests, sum_one i j (suc k) ys x (omega (arith, e)) at)
+
+sum_children : (g : Growth) (f : ℕ → ℕ → ℕ) (k : ℕ) (xs : List TreeNode) → sum_of (λ j. over_children g (λ i. f i j)) k xs ≡ over_children g (λ i. sum_of (f i) k xs)
+sum_children (Leaf line) f k xs = sum_none (λ j. 0) k xs (λ j le. refl)
+sum_children (Inner c first second) f k xs = sum_both (λ j. f first j + f second j) (f first) (f second) k xs (λ j lt. refl)
 
 -- ---- of the nodes of a tree
 module _ (nodes : List TreeNode) where
@@ -82,9 +86,9 @@ module _ (nodes : List TreeNode) where
   above (suc n) i zero = cond (eqb i 0) 1 0
   above (suc n) i (suc j) = cond (eqb i (suc j)) 1 0 + above n i (up j)
 
-  -- so many nodes that pass a test stand below a node, or are it
-  abbrev pub count_under : (TreeNode → Bool) → ℕ → ℕ
-  count_under test i = sum_of test (above (length nodes) i) 0 nodes
+  -- so many leaves stand below a node, or are it
+  abbrev leaves : ℕ → ℕ
+  leaves i = sum_of (above (length nodes) i) 0 nodes
 
   module _ (p : Polygraph) (t : IsRefutationTree p nodes) where
     up_lower : (j : ℕ) (o : Option TreeNode) → slice_get nodes (suc j) ≡ o → option_map_or (λ (x : TreeNode). x.parent) o 0 ≤ j
@@ -136,37 +140,30 @@ module _ (nodes : List TreeNode) where
         let parent = ap {B = ℕ} (λ (o : Option TreeNode). cond (eqb i (option_map_or (λ (z : TreeNode). z.parent) o 0)) 1 0) r.1 in
         omega (arith, one_child i g h j r.0 r.1, parent, split_above n i (up j) g h (omega (arith, within, low)) (omega (arith, lt, low)), children_both g (λ k. cond (eqb k (suc j)) 1 0) (λ k. above n k (up j)))
 
-    -- ---- so many stand below a node, or are it
-    module _ (test : TreeNode → Bool) where
-      pub under_is : (i : ℕ) (g : Growth) (h : IsGrown nodes i g) → count_under test i ≡ cond (test h.node) 1 0 + over_children g (count_under test)
-      under_is i g h =
-          sum_both test (above (length nodes) i) (λ j. cond (eqb i j) 1 0) (λ j. over_children g (λ k. above (length nodes) k j)) 0 nodes (λ j lt. split_above (length nodes) i j g h (omega (arith, lt)) (omega (arith, lt)))
-          ∙ (λ z. sum_one test i i 0 nodes h.node (omega arith) h.here z + sum_children test g (above (length nodes)) 0 nodes z)
-
-      pub root_under : count_under test 0 ≡ count_by test nodes
-      root_under = sum_ones test (above (length nodes) 0) 0 nodes (λ j lt. root_above (length nodes) j (omega (arith, lt)))
-
     -- ---- so many are told
-    abbrev leaves : ℕ → ℕ
-    leaves = count_under (λ (x : TreeNode). is_some (cycle_in x.growth))
-
-    leaves_are : (i : ℕ) (g : Growth) (h : IsGrown nodes i g) → leaves i ≡ cond (is_some (cycle_in g)) 1 0 + over_children g leaves
-    leaves_are i g h = under_is (λ (x : TreeNode). is_some (cycle_in x.growth)) i g h ∙ ap (λ (z : Growth). cond (is_some (cycle_in z)) 1 0 + over_children g leaves) h.is
+    leaves_are : (i : ℕ) (g : Growth) → IsGrown nodes i g → leaves i ≡ cond (is_some (cycle_in g)) 1 0 + over_children g leaves
+    leaves_are i g h =
+        sum_both (above (length nodes) i) (λ j. cond (eqb i j) 1 0) (λ j. over_children g (λ k. above (length nodes) k j)) 0 nodes (λ j lt. split_above (length nodes) i j g h (omega (arith, lt)) (omega (arith, lt)))
+        ∙ (λ z. sum_one i i 0 nodes h.node (omega arith) h.here z + sum_children g (above (length nodes)) 0 nodes z)
+        ∙ ap (λ (x : Growth). cond (is_some (cycle_in x)) 1 0 + over_children g leaves) h.is
 
     module _ {ss : List ClientSession} {orders : List ChainOrder} where
       told_below : {decided : List ChainOrder} {i n k : ℕ} {rs : List RoundView} → IsVisited ss orders nodes i decided n k rs → n ≤ MAX_LEAVES → k ≡ min MAX_LEAVES (n + leaves i)
       told_below (visited.leaf i decided n line lt h) le = omega (arith, lt, leaves_are i (Leaf line) h)
-      told_below (visited.split i decided n m k c first second one two h a b) le =
+      told_below (visited.split i decided n m k c first second one two h lt a b) le =
           let front = told_below a le in
           omega (arith, front, told_below b (omega (arith, front)), leaves_are i (Inner c first second) h)
       told_below (visited.left_out i decided) le = omega arith
 
       pub told_count : {last : ℕ} {rs : List RoundView} → IsVisited ss orders nodes 0 [] 0 last rs → last ≡ told_leaves (leaf_count nodes)
-      told_count v = grind (arith, nat_tests, told_below v (omega arith), root_under (λ (x : TreeNode). is_some (cycle_in x.growth)))
+      told_count v = grind (arith, nat_tests, told_below v (omega arith), sum_ones (above (length nodes) 0) 0 nodes (λ j lt. root_above (length nodes) j (omega (arith, lt))))
 
--- how many nodes are left to visit, where these wait
+-- at least so much is left to do, where these wait: children stand behind their parent
+abbrev pub weight : List TreeNode → Waiting → ℕ
+weight nodes w = 2 ^ (2 * (length nodes - w.node))
+
 abbrev pub load : List TreeNode → List Waiting → ℕ
-load nodes waiting = sum_by (λ w. count_under nodes (λ x. true) w.node) waiting
+load nodes waiting = sum_by (weight nodes) waiting
 
 module _ (ss : List ClientSession) (orders : List ChainOrder) (nodes : List TreeNode) where
   -- the nodes told so far, and then those of these nodes and of all below them, are the whole tree's
@@ -183,7 +180,7 @@ module _ (ss : List ClientSession) (orders : List ChainOrder) (nodes : List Tree
     pub whole : Finishes (reverse waiting) leaves told
 
   -- a node is taken, and what is told of it is put behind
-  module _ {choices : ℕ} (t : IsTreeOver choices nodes) {waiting : List Waiting} (rest : List Waiting) (w : Waiting) {n : ℕ} {rounds : List Round} (popped : waiting ≡ rest ++ w ∷ []) (u : IsUnderway waiting n rounds) where
+  module _ (t : IsTreeOver (length orders) nodes) {waiting : List Waiting} (rest : List Waiting) (w : Waiting) {n : ℕ} {rounds : List Round} (popped : waiting ≡ rest ++ w ∷ []) (u : IsUnderway waiting n rounds) where
     parts : All (λ v. v.node < length nodes) rest × (w.node < length nodes)
     parts = All-pop (λ v. v.node < length nodes) waiting rest (Some w) popped u.within
 
@@ -217,7 +214,7 @@ module _ (ss : List ClientSession) (orders : List ChainOrder) (nodes : List Tree
           let here = round_at w.decided.items line in
           let whole : Finishes (one ∷ two ∷ reverse rest) n (u.told ++ here ∷ []) = λ m front a k back b.
           subst (λ rs. Finishes (reverse rest) k rs) (sym (append_assoc (u.told ++ here ∷ []) front back ∙ append_assoc u.told (here ∷ []) (front ++ back)))
-          (under k (here ∷ (front ++ back)) (subst (λ l. IsVisited ss orders nodes w.node w.decided.items n k (round_at w.decided.items l ∷ (front ++ back))) (sym none) (visited.split w.node w.decided.items n m k c one.node two.node front back g (subst (λ os. IsVisited ss orders nodes one.node os n m front) first a) (subst (λ os. IsVisited ss orders nodes two.node os m k back) second b)))) in
+          (under k (here ∷ (front ++ back)) (subst (λ l. IsVisited ss orders nodes w.node w.decided.items n k (round_at w.decided.items l ∷ (front ++ back))) (sym none) (visited.split w.node w.decided.items n m k c one.node two.node front back g (let choice = s.choice in omega (arith, choice, t.count)) (subst (λ os. IsVisited ss orders nodes one.node os n m front) first a) (subst (λ os. IsVisited ss orders nodes two.node os m k back) second b)))) in
           record {
             within = All-push Within (rest ++ two ∷ []) one (All-push Within rest two parts.0 (slice_get_within nodes two.node s.two.node s.two.here)) (slice_get_within nodes one.node s.one.node s.one.here);
             few = u.few;
@@ -227,16 +224,19 @@ module _ (ss : List ClientSession) (orders : List ChainOrder) (nodes : List Tree
           }
 
     -- less is left to do
-    load_is : (g : Growth) → IsGrown nodes w.node g → load nodes waiting ≡ load nodes rest + (1 + over_children g (count_under nodes (λ x. true)))
-    load_is g h =
-        ap (load nodes) popped
-        ∙ sum_by_push (λ (v : Waiting). count_under nodes (λ x. true) v.node) rest w
-        ∙ ap (λ k. load nodes rest + k) (under_is nodes t.poly t.shown (λ x. true) w.node g h)
+    load_is : load nodes waiting ≡ load nodes rest + weight nodes w
+    load_is = ap (load nodes) popped ∙ sum_by_push (weight nodes) rest w
 
     pub less_left : load nodes rest < load nodes waiting
-    less_left = let r = some_at nodes w.node parts.1 in omega (arith, load_is r.0.growth (record { node = r.0; here = r.1; is = refl }))
+    less_left = omega (arith, load_is, pow_pos (2 * (length nodes - w.node)))
 
     pub less_split : (c : ℕ) (one two : Waiting) → IsGrown nodes w.node (Inner c one.node two.node) → load nodes ((rest ++ two ∷ []) ++ one ∷ []) < load nodes waiting
     less_split c one two g =
-        let under : Waiting → ℕ = λ v. count_under nodes (λ x. true) v.node in
-        omega (arith, load_is (Inner c one.node two.node) g, sum_by_push under rest two, sum_by_push under (rest ++ two ∷ []) one)
+        let s = t.shown.inner w.node g.node c one.node two.node g.here g.is in
+        let within : w.node < length nodes = parts.1 in
+        let k = 2 * (length nodes - w.node) - 1 in
+        let first = s.one.later in
+        let second = s.two.later in
+        let both = add-lt-pow k (pow_below (2 * (length nodes - one.node)) k (omega (arith, within, first))) (pow_below (2 * (length nodes - two.node)) k (omega (arith, within, second))) in
+        let e : suc k ≡ 2 * (length nodes - w.node) = omega (arith, within) in
+        omega (arith, load_is, both, ap (λ n. 2 ^ n) e, sum_by_push (weight nodes) rest two, sum_by_push (weight nodes) (rest ++ two ∷ []) one)

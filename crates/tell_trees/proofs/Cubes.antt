@@ -186,10 +186,9 @@ module _ (ss : List ClientSession) (entries : List LedgerEntry) (orders : List C
       let rest = subst (λ os. AllRest ss (kept_by ss entries) os edges) (sym is) (cube_rests (cube_of nodes i)) in
       let l = round_stands ss (kept_by ss entries) decided edges rest line (start, walk_of edges line start start (h.shown.leaves i g.node line g.here g.is)) in
       (record { decided = all; round = runs_round ss line l.0; rests = runs_stand ss (kept_by ss entries) decided line l.1 }, tt)
-  visits_stand (visited.split i decided n m k c first second one two g a b) is all =
+  visits_stand (visited.split i decided n m k c first second one two g lt a b) is all =
       let s = h.shown.inner i g.node c first second g.here g.is in
-      let choice = s.choice in
-      let more : (side : Side) → All (IsOrder log) (order_at orders (c, side) ∷ decided) = λ side. All-cons (IsOrder log) (order_at orders (c, side)) decided (sided_order log (slice_index_or orders c no_order) side (h.sides.each c no_order (omega (arith, choice, orders_count log p.choices orders h.sides)))) all in
+      let more : (side : Side) → All (IsOrder log) (order_at orders (c, side) ∷ decided) = λ side. All-cons (IsOrder log) (order_at orders (c, side)) decided (sided_order log (slice_index_or orders c no_order) side (h.sides.each c no_order lt)) all in
       let below : (side : Side) (j : ℕ) → IsChild nodes i c side j → order_at orders (c, side) ∷ decided ≡ map (order_at orders) (cube_of nodes j) = λ side j child. ap (λ os. order_at orders (c, side) ∷ os) is ∙ sym (ap (map (order_at orders)) (child_cube p nodes h.shown i c side j child)) in
       (record { decided = all; round = tt; rests = tt }, each_from_append (RoundStands ss (kept_by ss entries)) one two (visits_stand a (below One first s.one) (more One)) (visits_stand b (below Two second s.two) (more Two)))
   visits_stand (visited.left_out i decided) is all = (record { decided = all; round = tt; rests = tt }, tt)

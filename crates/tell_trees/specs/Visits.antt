@@ -55,7 +55,7 @@ pub data IsVisited (ss : List ClientSession) (orders : List ChainOrder) (nodes :
       IsVisited ss orders nodes i decided n (n + 1)
       (round_at decided (Some (without_runs ss line)) ∷ [])
   split : (i : ℕ) (decided : List ChainOrder) (n m k c first second : ℕ) (one two : List RoundView)
-      → IsGrown nodes i (Inner c first second) →
+      → IsGrown nodes i (Inner c first second) → c < length orders →
       IsVisited ss orders nodes first (order_at orders (c, One) ∷ decided) n m one
       → IsVisited ss orders nodes second (order_at orders (c, Two) ∷ decided) m k two
       → IsVisited ss orders nodes i decided n k (round_at decided None ∷ (one ++ two))

@@ -3,7 +3,6 @@
 ghost use Rattle.std.specs.Prelude.{◌≡◌, ◌∷◌, length, map, IfOk};
 ghost use Rattle.std.specs.Option.{option_map};
 ghost use Rattle.tell_steps.specs.Rounds.{round_view};
-ghost use Rattle.tell_steps.specs.Steps as steps;
 ghost use Rattle.tell_trees.specs.Trees.{AreVisits, leaves_round};
 ghost use Rattle.tell_trees.specs.Visits.{IsTreeOver, leaf_count, round_at};
 
@@ -14,18 +13,7 @@ use serializability::NodeIx;
 use session_history::History;
 use std::alloc::{AllocError, Global};
 use tell_reasons::ChainOrder;
-use tell_steps::{Item, Round};
-
-/// The same two chains the other way round.
-fn turned(order: ChainOrder) -> ChainOrder
-    ensures order { result ≡ steps.turned order }
-{
-    ChainOrder {
-        key: order.key,
-        first: order.second,
-        second: order.first,
-    }
-}
+use tell_steps::{Item, Round, turned};
 
 /// A node that is still to be visited, and the orders that its cube decides, the newest first.
 #[derive(Drop)]

@@ -1,8 +1,8 @@
-use Rattle.std.proofs.Common.{◌≡◌, ◌++◌, drop, map}
+use Rattle.std.proofs.Common.{◌≡◌, ◌++◌, take, map}
 use Rattle.session_log.specs.Text.{view}
 use Rattle.log_lines.specs.Rows.{rows_of}
 use Rattle.part_graphs.specs.Hops.{circle_arrows}
 use Rattle.part_graphs.proofs.hops.put_circle.Given as goal
 
 abbrev pub invariant-loop-edge : goal.invariant-loop-edge
-invariant-loop-edge l = l.out.items ++ circle_arrows (rows_of l.log.places.now) (map view l.log.sessions.now) (drop l.edge-index l.edges) ≡ l.initial.out.items ++ circle_arrows (rows_of l.log.places.now) (map view l.log.sessions.now) l.edges
+invariant-loop-edge l = l.out.items ≡ l.initial.out.items ++ circle_arrows (rows_of l.log.places.now) (map view l.log.sessions.now) (take l.edge-index l.edges)

@@ -1,6 +1,6 @@
-use Rattle.std.proofs.Common.{ℕ, ◌<◌}
-use Rattle.tell_steps.specs.Steps.{IsNamed}
+use Rattle.std.proofs.Common.{◌≡◌, ℕ, ◌<◌, true}
+use Rattle.tell_steps.specs.Rounds.{is_named}
 use Rattle.tell_steps.proofs.whole.first_unnamed.Given as goal
 
 abbrev pub invariant-loop-step : goal.invariant-loop-step
-invariant-loop-step l = (k : ℕ) → k < l.step → IsNamed l.items k
+invariant-loop-step l = (k : ℕ) → k < l.step → is_named l.items k ≡ true

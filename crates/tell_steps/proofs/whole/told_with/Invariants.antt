@@ -1,17 +1,25 @@
-use Rattle.std.proofs.Common.{◌≡◌, [], map, take}
-use Rattle.tell_steps.specs.Ledgers.{orders_of}
-use Rattle.tell_steps.specs.Told.{AreWalksTold}
-use Rattle.tell_steps.specs.Rounds.{round_view, AreAllTold}
+use Rattle.std.proofs.Common.{◌≡◌, [], ◌++◌, List, map, drop}
+use Rattle.std.specs.List.{All}
+use Rattle.log_definitions.specs.Numbers.{log_of}
+use Rattle.tell_steps.specs.declared.item.Item.{Item}
+use Rattle.tell_steps.specs.Steps.{IsOrder}
+use Rattle.tell_steps.specs.Ledgers.{orders_of, AreBuilt}
+use Rattle.tell_steps.specs.Told.{AreStepsTold}
+use Rattle.tell_steps.specs.Rounds.{round_view, AreRoundsTold, AreAllTold}
 use Rattle.tell_steps.proofs.whole.told_with.Given as goal
 
+-- what is told, and what is told of what is left, is told of all
 abbrev pub invariant-loop-step : goal.invariant-loop-step
 invariant-loop-step l = record {
-  earlier : l.earlier.items ≡ orders_of (take l.step-index l.steps);
-  told : AreWalksTold l.chains [] (take l.step-index l.steps) l.items.items;
+  orders : All (IsOrder (log_of l.chains)) l.earlier.items;
+  earlier : l.earlier.items ++ orders_of (drop l.step-index l.steps) ≡ orders_of l.steps;
+  built : AreBuilt l.chains [] l.steps → AreBuilt l.chains l.earlier.items (drop l.step-index l.steps);
+  told : (after : List Item) → AreStepsTold l.chains l.earlier.items (drop l.step-index l.steps) after → AreStepsTold l.chains [] l.steps (l.items.items ++ after);
 }
 
 abbrev pub invariant-loop-round : goal.invariant-loop-round
 invariant-loop-round l = record {
+  orders : All (IsOrder (log_of l.chains)) l.earlier.items;
   earlier : l.earlier.items ≡ orders_of l.steps;
-  told : AreAllTold l.chains l.steps (map round_view (take l.round-index l.rounds)) l.items.items;
+  told : (after : List Item) → AreRoundsTold l.chains (orders_of l.steps) (map round_view (drop l.round-index l.rounds)) after → AreAllTold l.chains l.steps (map round_view l.rounds) (l.items.items ++ after);
 }

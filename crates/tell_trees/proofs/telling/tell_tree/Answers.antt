@@ -4,9 +4,10 @@ use Rattle.log_definitions.specs.Numbers.{log_of}
 use Rattle.prune_ledger.specs.declared.ledger.Ledger.{Ledger}
 use Rattle.tell_steps.specs.Ledgers.{AreEntries}
 use Rattle.tell_steps.specs.Rounds.{round_view}
+use Rattle.tell_trees.specs.Orders.{AreOrdersOf}
 use Rattle.tell_trees.specs.Trees.{AreVisits}
 use Rattle.tell_trees.proofs.Cubes.{IsSearched, orders_count, ledger_shown, rounds_stand}
-use Rattle.tell_trees.proofs.Tellings.{whole_told}
+use Rattle.tell_trees.proofs.Counted.{told_count}
 use Rattle.tell_trees.proofs.telling.tell_tree.Goals as goal
 
 pub visits-requires : goal.visits-requires
@@ -39,7 +40,9 @@ pub returns : goal.returns
 returns c =
     let ss = c.args.history.now in let nodes = c.nodes-nodes.result.now in let orders = c.deref.result.now in let p = c.args.reduced.now.poly in
     let visited : AreVisits ss orders nodes (map round_view c.deref-2.result.now) = rw c.deref-2.ensures.value c.in_ok-rounds.ensures.visited in
+    let sides : AreOrdersOf (log_of ss) p.choices orders = rw (c.deref.ensures.value, ← c.requires.chains) c.in_ok-orders.ensures.orders in
+    let count = told_count nodes p (rw c.nodes-nodes.ensures.nodes c.requires.tree) visited.visited in
     record {
       told = rw (← c.nodes-nodes.ensures.nodes) (IfOk-weaker c.tell_rounds.result _ _
-          (λ items t. whole_told ss orders nodes p (rw c.nodes-nodes.ensures.nodes c.requires.tree) (map round_view c.deref-2.result.now) visited items.items t (rw (c.deref.ensures.value, ← c.requires.chains) c.in_ok-orders.ensures.orders)) c.tell_rounds.ensures.told);
+          (λ items t. record { orders = orders; sides = sides; rounds = map round_view c.deref-2.result.now; visits = visited; count = count; told = t }) c.tell_rounds.ensures.told);
     }

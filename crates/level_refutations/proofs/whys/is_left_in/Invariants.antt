@@ -1,0 +1,8 @@
+use Rattle.std.proofs.Common.{◌≡◌, map, drop}
+use Rattle.std.specs.List.{list_any, enumerate_from}
+use Rattle.session_log.specs.Text.{view}
+use Rattle.level_refutations.specs.Whys.{is_left_by, is_left_in}
+use Rattle.level_refutations.proofs.whys.is_left_in.Given as goal
+
+abbrev pub invariant-loop-i : goal.invariant-loop-i
+invariant-loop-i l = list_any (is_left_by l.own l.key l.wid) (enumerate_from l.i (map view (drop l.i l.sessions))) ≡ is_left_in l.own l.key l.wid (map view l.sessions)
