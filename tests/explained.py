@@ -195,17 +195,25 @@ class Log:
 
     def known_as(self, names):
         """What a cycle is called, by the kinds of its edges."""
-        return self.named_by([self.reason(a, b)[0] for a, b in zip(names, names[1:])])
+        return self.named_by([[self.reason(a, b)[0] for a, b in zip(names, names[1:])]])
 
     def misses(self, kinds):
         """Whether edges of these kinds miss a write, one by one."""
         return [kind in ('anti-dependency', 'version order', 'missed write') for kind in kinds]
 
-    def named_by(self, kinds, besides=()):
-        """What a cycle of edges of these kinds is called, where what is told besides takes edges of these."""
-        misses = self.misses(kinds)
-        missed, are_apart = sum(misses), not any(one and two for one, two in zip(misses, misses[1:] + misses[:1]))
-        every = {*kinds, *besides}
+    def mildness(self, kinds):
+        """How mild a cycle of these edges is: the more of them miss a write, up to two; of equals one without an order of writes."""
+        return min(2, sum(self.misses(kinds))), 'order of writes' not in kinds
+
+    def named_by(self, cycles, besides=()):
+        """What one of these cycles is called, each of edges of these kinds, whichever it is, where what is told besides takes edges of these:
+        all that the mildest ones are, with as many edges as the longest of them."""
+        best = max(map(self.mildness, cycles))
+        mildest = [kinds for kinds in cycles if self.mildness(kinds) == best]
+        misses = [self.misses(kinds) for kinds in mildest]
+        missed, are_apart = min(map(sum, misses)), not any(one and two for it in misses for one, two in zip(it, it[1:] + it[:1]))
+        longest, kinds = max(map(len, mildest)), set().union(*mildest)
+        every = kinds.union(besides, *cycles)
         by_order = lambda none, session, moments: moments if 'moments' in every else session if 'session' in every else none
         if not missed and 'read' in kinds:
             return by_order('circular information flow (G1c)', *('a read from the future (G1c%s)' % end for end in ('-process', '-realtime')))
@@ -213,15 +221,15 @@ class Log:
             return by_order('write cycle (G0)', 'cycle of writes and sessions (G0-process)', 'cycle of writes and real time (G0-realtime)')
         if not missed:
             return 'session order against real time'
-        if missed == 1 and ('order of writes' in kinds or len(kinds) > 2):
+        if missed == 1 and ('order of writes' in kinds or longest > 2):
             return 'cycle with one missed write' + by_order(' (G-single)', ' and sessions (G-single-process)', ' and real time (G-single-realtime)')
         if missed == 1 and 'read' not in kinds:
             return by_order(None, 'a session misses its own write (G-single-process)', 'stale read (G-single-realtime)')
         if missed == 1:
             return 'read skew' + by_order(' (G-single)', ' by way of sessions (G-single-process)', ' by way of real time (G-single-realtime)')
-        if len(kinds) == 2:
+        if longest == 2:
             return 'write skew' + by_order(' (G2-item)', ' by way of sessions (G2-item-process)', ' by way of real time (G2-item-realtime)')
-        if missed == len(kinds):
+        if missed == longest:
             return 'write skew in a ring' + by_order(' (G2-item)', ' by way of sessions (G2-item-process)', ' by way of real time (G2-item-realtime)')
         if are_apart:
             return 'long fork' + by_order(' (G-nonadjacent-item)', ' by way of sessions (G-nonadjacent-item-process)',
@@ -490,14 +498,13 @@ class Telling:
 
     def known_as(self, edges):
         """The name of the cycle that these edges close, which is the last line: that of the mildest among this cycle and what refutes the
-        other order of each step. Of these one that misses more writes is milder, up to two; of equals the cycle, else the first."""
+        other order of each step."""
         cycle = self.kinds(edges)
-        mildest = max([cycle] + self.refuting, key=lambda kinds: min(2, sum(self.log.misses(kinds))))
-        right = 'known as: ' + self.log.named_by(mildest, {*cycle} | self.taken)
+        right = 'known as: ' + self.log.named_by([cycle] + self.refuting, self.taken)
         told(self.rest() == [right], 'wanted %r' % right)
         self.at += 1
         self.met['A9 ' + right] += 1
-        self.met['A9 named by a step'] += mildest is not cycle
+        self.met['A9 named by a step'] += self.log.named_by([cycle], self.taken) != right[len('known as: '):]
 
     def kinds(self, edges):
         """The kinds of edges, each with the number of the step that it rests on, if there is one."""

@@ -5,7 +5,7 @@ By a driver that is made here it is asked what becomes of a transaction where a 
 apart. Then the whole test that docs/COLLECTING.md has is compiled and run as it stands there. Then clients of H2, HSQLDB, Derby and SQLite, embedded, run a small load at once, of which some break their connection off; PROGRAM must find that
 its log keeps what the store promises. A compiler or a store that is not installed is passed over, with a line that says so. Last line: 'jdbc: N
 passed, M failed'."""
-import os, re, shutil, subprocess, sys, tempfile
+import os, re, shutil, signal, subprocess, sys, tempfile
 
 HERE = os.path.dirname(os.path.abspath(__file__))
 TOP = os.path.dirname(HERE)
@@ -91,12 +91,23 @@ def compiled(folder):
     return folder
 
 
-def java(folder, *words, jar=None, cwd=None):
-    """What a class of the test writes, with a store's jar."""
+def java(folder, *words, jar=None, cwd=None, late=LATE):
+    """What a class of the test writes, with a store's jar. Of one that does not end the status is not 0, and its threads stand in what it says."""
     path = folder + (os.pathsep + os.path.join(JARS, jar) if jar else '')
     how = ['-XX:+UseSerialGC', '-XX:TieredStopAtLevel=1', '-Dderby.locks.waitTimeout=5', '-Dderby.locks.deadlockTimeout=1', '-Dderby.stream.error.file=/dev/null']
-    return subprocess.run(['java', *how, '-cp', path, *words], cwd=cwd or folder, stdin=subprocess.DEVNULL, stdout=subprocess.PIPE,
-                          stderr=subprocess.PIPE, universal_newlines=True, timeout=LATE)
+    with subprocess.Popen(['java', *how, '-cp', path, *words], cwd=cwd or folder, stdin=subprocess.DEVNULL, stdout=subprocess.PIPE,
+                          stderr=subprocess.PIPE, universal_newlines=True) as process:
+        try:
+            said, error = process.communicate(timeout=late)
+        except subprocess.TimeoutExpired:
+            process.send_signal(signal.SIGQUIT)
+            try:
+                process.communicate(timeout=5)
+            except subprocess.TimeoutExpired:
+                process.kill()
+            said, error = process.communicate()
+            error += 'it did not end in %d s:\n%s' % (late, said)
+    return subprocess.CompletedProcess(process.args, process.returncode, said, error)
 
 
 def jar_of(command):

@@ -416,6 +416,11 @@ class Checks:
             self.expect(ran.returncode == 0 and re.sub(r' \((transfer, <b>thread</b> 4|audit of 1\.1)\)', '', got) == said, 'told %r: %r' % (at, got))
             named, keys = re.compile('1[.]1 .transfer'), re.compile(r"(?:reads|wrote|writes|write|version of|update of|see 2[.]1's|\]) 1[.]1 \(tr")
             self.expect(all(named.search(line) for line in got.split('\n') if re.search('which 1[.]1|1[.]1 and|1[.]1 before|by 1[.]1', line)) and not keys.search(got), 'told %r: %r' % (at, got))
+        told = subprocess.run([self.program, 'audit', '--explain', path], stdout=subprocess.PIPE).stdout
+        other = self.put('shifted.log', 'session 7\nbegin\nr x 0\ncommit\n' + LABELLED)
+        self.put('shifted.log.labels', '1 1 transfer\n')
+        ran = subprocess.run([sys.executable, TOLD, other], input=told, stdout=subprocess.PIPE, stderr=subprocess.PIPE)
+        self.expect(ran.returncode == AROUND and b'standard input tells another log: 1.1 does not stand in these lines' in ran.stderr, 'told of another log: %r' % ran)
         for more in ([], ['--level', 'snapshot']):
             graph = subprocess.run([self.program, 'explain', '--format', 'dot', *more, path], stdout=subprocess.PIPE).stdout.decode()
             ran = subprocess.run([sys.executable, TOLD, path], input=graph.encode(), stdout=subprocess.PIPE, stderr=subprocess.PIPE)

@@ -27,8 +27,13 @@ SMALL, LARGE = 500, 2500
 # runs a way may take until one breaks a level that it does not promise.
 RUNS, SECONDS, TRIES = 2, 60, 12
 # What a store says that fails by itself. HSQLDB looks for deadlocks by a call for each transaction that waits, and where others wait in a
-# ring these calls do not end.
-OWN_FAULTS = {'HSQLDB': 'org.hsqldb.TransactionManagerCommon.checkDeadlock'}
+# ring these calls do not end. A run in Java in which clients wait in the store for good is such a fault too, and so many of them are none.
+OWN_FAULTS = {store: r'it did not end in [\s\S]*\tat %s\.' % package for store, package in
+              (('H2', 'org.h2'), ('HSQLDB', 'org.hsqldb'), ('Derby', 'org.apache.derby'))}
+OWN_FAULTS['HSQLDB'] += r'|org.hsqldb.TransactionManagerCommon.checkDeadlock'
+MOST_OWN = 2
+# In so many seconds a run of a store in Java ends.
+LATE = 200
 # What the members of etcd take for a dead leader, in milliseconds: a busy machine is slow to answer.
 HEARTBEAT, ELECTION = 300, 3000
 
@@ -208,7 +213,7 @@ def embedded(jar, url):
 
         def collector(words, seed, transactions, keys, log):
             size = ['transactions=%d' % transactions, 'keys=%d' % keys, 'pause=%d' % (transactions < 1000), 'seed=%d' % seed]
-            ran = jdbc.java(folder, 'Load', url + ''.join(it for it in words if it[0] == ';'), words[0], log, *size, *(it for it in words[1:] if it[0] != ';'), jar=jar)
+            ran = jdbc.java(folder, 'Load', url + ''.join(it for it in words if it[0] == ';'), words[0], log, *size, *(it for it in words[1:] if it[0] != ';'), jar=jar, late=LATE)
             ran.stdout = ran.stderr
             return ran
         yield collector
@@ -334,7 +339,7 @@ class Checks:
 
     def way(self, store, collector, way):
         """Runs of one way: where it promises a level small ones and a large one; then, until one breaks the level that some must break."""
-        name, answers, is_broken = ' '.join([store, *way.words]), [], False
+        name, answers, is_broken, faults = ' '.join([store, *way.words]), [], False, 0
         sizes = [SMALL] * RUNS if way.kept else []
         if way.kept and not {'--moments', 'moments=1', 'all'} & {*way.words}:
             sizes.insert(1, max(SMALL, self.large // way.part))
@@ -345,8 +350,10 @@ class Checks:
             count = sizes[0] if sizes and not is_late else SMALL
             began = time.monotonic()
             collected = self.collect(collector, way.words, seed, count)
-            if collected.returncode and OWN_FAULTS.get(store, name) in collected.stdout:
-                print('stores: note: %s failed by itself, and is run again: %s' % (name, OWN_FAULTS[store]))
+            own = store in OWN_FAULTS and collected.returncode and re.search(OWN_FAULTS[store], collected.stdout)
+            if own and faults < MOST_OWN:
+                faults += 1
+                print('stores: note: %s failed by itself, and is run again: %s' % (name, own[0].split('\n')[-1].strip()))
                 continue
             del sizes[:1]
             if collected.returncode:

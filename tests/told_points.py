@@ -7,7 +7,7 @@ the one point stands before the other. Each step must follow from lines and from
 circle, or two that write a key of which neither can commit first, and behind it the steps. So no order is left. At `prefix` a step says only
 which of two commits first, and where evidence against a weaker level is told, tests/levels.py looks at it. Nothing that is told may
 name a lock. `explain --level` must say the same. Last line: 'told points: N passed, M failed'."""
-import argparse, collections, concurrent.futures, itertools, os, random, re, sys
+import argparse, collections, concurrent.futures, itertools, json, os, random, re, sys
 
 HERE = os.path.dirname(os.path.abspath(__file__))
 sys.path.insert(0, HERE)
@@ -47,6 +47,16 @@ WANTED = {'lost update (G-single)', 'read skew (G-single)', 'circular informatio
 # Two writers of a key: what the first sentence says begins with one of them and ends at the other.
 TWO_WRITERS = '\n'.join('session 1,begin,r z 2,r w 0,w k 10,commit,session 2,begin,r y 0,w k 11,w w 12,commit,session 3,begin,w y 1,w z 2,commit,'.split(',')).encode()
 TWO_SAID = "in short: 1.1 and 2.1 both wrote k. If 1.1 came first, 2.1 did not see 3.1's y; 1.1 saw 3.1's z. If 2.1 came first, 1.1 did not see 2.1's w"
+# Logs of one fault, as transactions by sessions; the levels at which it has one name, and that name.
+ALIKE = [
+    # two writers at levels of points, a step and a circle at serializability, and either of two ties
+    ('r x 1/r y 2/w x 3; w x 4|w y 2; r z 0/w x 1|r x 4/w w 5', ('serializable', 'snapshot', 'prefix', 'causal'),
+     'cycle with one missed write and sessions (G-single-process)'),
+    # what a read sees of an update of an update
+    ('w x 1; r x 1/w x 2; r x 2/w x 3/w y 4; r y 4/r x 1', ('causal', 'read-atomic'), 'read skew (G-single)'),
+    # a lost update, of which one writer misses another write too, and before
+    ('r a 0/r b 0/w b 1; r b 0/w a 2/w b 3', ('serializable', 'snapshot'), 'lost update (G-single)'),
+]
 
 
 def replicas_text(seed):
@@ -330,6 +340,16 @@ def told(program, text, level):
         raise type(wrong)('%s: %s in\n%s' % (level, wrong, '\n'.join(why)))
 
 
+def named_otherwise(program, words, levels, name):
+    """What is wrong with the name of a fault at these levels."""
+    sessions = ['session %d\n' % number + ''.join('begin\n%s\ncommit\n' % ops.replace('/', '\n') for ops in it.strip().split('|'))
+                for number, it in enumerate(words.split(';'), 1)]
+    for level in levels:
+        said = call(program, 'audit', '--only', '--level', level, '--format', 'json', text=''.join(sessions).encode())[1]
+        if json.loads(said)['known_as'] != name:
+            yield '%s at %s: %s' % (words, level, said)
+
+
 def judged(job):
     program, name, text = job
     try:
@@ -355,6 +375,7 @@ def main():
             faults += [] if fault is None else [fault]
     said = call(program, 'audit', '--explain', '--only', '--level', 'snapshot', text=TWO_WRITERS)[1]
     faults += [] if TWO_SAID in said.split('\n') else ['two writers: %r' % said]
+    faults += [fault for words, levels, name in ALIKE for fault in named_otherwise(program, words, levels, name)]
     missing = sorted(WANTED - set(met))
     faults += ['nothing met: %s' % ', '.join(missing)] if missing and words.cases >= CASES else []
     for fault in faults[:SHOWN]:

@@ -4,7 +4,7 @@ transactions, as `3.1268 (transfer, thread 4)`; each once in a line. So it is of
 
 As a module it reads what they say by its grammar (docs/FORMATS.md, 'What `explain` says' and 'Snapshots and commits'). Nothing is judged here: a
 reader of a text gets its parts, each with the number of its line in that text, counted from 1."""
-import argparse, re, sys
+import argparse, os, re, sys
 from dataclasses import dataclass, field
 from typing import List, Optional, Tuple
 
@@ -38,6 +38,8 @@ PAIR = re.compile(r'    %s reads %s ([0-9]+) \(line %s\) and %s ([0-9]+) \(line 
 KEPT = r'%s (?:reads|wrote) %s ([0-9]+) \(line %s\)(?:%s|%s|%s)?, which %%s before %s' % (NODE, KEY, NUMBER, BEHIND, OVER, OF, VERSION)
 # By how many decisions the walk of a step is indented.
 WALK = 2
+# A transaction of a part, and its lines.
+OF_PART = re.compile(r'%s \(lines %s to %s\)' % (NODE, NUMBER, NUMBER))
 # Where a line of an anomaly names a transaction.
 TELLS = re.compile('(?:^|, which |; )%s (?=reads |then reads |wrote |writes |overwrites )' % NODE)
 # What is no name though it may look like one: a key behind what it stands behind; and a name.
@@ -450,14 +452,27 @@ def labelled_graph(line, labels):
     return DOT_TEXT.sub(lambda text: r'\n'.join(labelled(it, quoted) for it in text[0].split(r'\n')), line)
 
 
+def of_another(path, line):
+    """The first transaction of a part that does not stand in a log where the part says; None where all do."""
+    import scripts
+    told = {name: (int(first), int(last)) for name, first, last in OF_PART.findall(line)}
+    with open(path, encoding='utf-8', errors='replace') as lines:
+        there = {it.name: (it.lines[0][0], it.lines[-1][0]) for it in scripts.transactions_of(lines, set(told))}
+    return next((name for name, lines in told.items() if there.get(name) != lines), None)
+
+
 def main():
     import scripts
     words = argparse.ArgumentParser(description='Puts the labels of a log behind the names of its transactions in what explain said. Unproved.')
     words.add_argument('log', help='the log; its labels stand in LOG.labels')
-    labels, is_graph = scripts.labels_of(words.parse_args().log, is_needed=True), False
+    log = words.parse_args().log
+    labels, is_graph = scripts.labels_of(log, is_needed=True), False
     for line in sys.stdin:
         if line.startswith('{"'):
             raise scripts.Stop('standard input is an object of --format json, and names in it stay as they are: give the text')
+        name = of_another(log, line) if re.match('(// )?transactions ', line) and os.path.exists(log) else None
+        if name:
+            raise scripts.Stop('standard input tells another log: %s does not stand in these lines of %s' % (name, log))
         is_graph = is_graph or GRAPH.fullmatch(line) is not None
         sys.stdout.write((labelled_graph if is_graph else labelled)(line, labels))
 

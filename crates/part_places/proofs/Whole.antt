@@ -12,7 +12,7 @@ use Rattle.part_laws.specs.Chosen.{stays, thin, thin_txn, flagged}
 use Rattle.log_parts.specs.Picked.{flag_of, picked, with_txns}
 use Rattle.log_lines.specs.Rows.{TxnRow, Table, Fits, op_counts, line_at}
 use Rattle.log_lines.specs.Places.{BeginsAt, IsLineOf, StandsAt}
-use Rattle.log_lines.proofs.Texts.{begin_line, operation_line, ending_line}
+use Rattle.log_lines.proofs.Own.{begin_line, operation_line, ending_line}
 use Rattle.log_lines.proofs.Nodes.{counts, counts_in}
 use Rattle.part_places.specs.PartRows.{staying, part_row, flagged_rows, with_rows, part_table, IsInText}
 

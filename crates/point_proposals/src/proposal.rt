@@ -36,10 +36,23 @@ fn lost<'a>(two: &Neither<'a>) -> Option<&'a [u8]> {
     one.is_same(&other).then_some(one.key)
 }
 
+/// The edges of a circle, which ends with one that misses a write, where there is one.
+fn turned<'a>(alloc: Global, circle: &Way<'a>) -> Result<Vec<Edge<'a>>, AllocError> {
+    let edges = circle.edges.as_slice();
+    let seen = edges.iter().rev().take_while(|edge| !edge.is_missed());
+    let (line, behind) = edges.split_at(edges.len().saturating_sub(seen.count()));
+    let mut turned = Vec::with_capacity(alloc, edges.len())?;
+    for edge in behind.iter().chain(line) {
+        turned.push(*edge)?;
+    }
+    Ok(turned)
+}
+
 impl<'a, 'b> Telling<'a, 'b> {
     /// The index of a step among those that are told.
     fn index(&self, step: usize) -> usize {
-        self.needed.iter().filter(|it| **it < step).count()
+        let mut needed = self.needed.iter();
+        needed.position(|it| *it == step).unwrap_or(0)
     }
 
     /// The same of the step of an edge.
@@ -131,21 +144,12 @@ impl<'a, 'b> Telling<'a, 'b> {
         }))
     }
 
-    /// A circle, which ends with an edge that misses a write, where there is one.
-    fn circle(&self, way: &Way<'a>) -> Result<told::Ending, AllocError> {
-        let edges = way.edges.as_slice();
-        let seen = edges.iter().rev().take_while(|edge| !edge.is_missed());
-        let (line, behind) = edges.split_at(edges.len().saturating_sub(seen.count()));
-        let mut circle = self.edges(behind)?;
-        for edge in self.edges(line)?.iter() {
-            circle.push(*edge)?;
-        }
-        Ok(told::Ending::Circle(circle))
-    }
-
     fn ending(&self, ending: &Ending<'a>) -> Result<Option<told::Ending>, AllocError> {
         let two = match ending {
-            Ending::Circle(way) => return Ok(Some(self.circle(way)?)),
+            Ending::Circle(way) => {
+                let edges = turned(self.alloc, way)?;
+                return Ok(Some(told::Ending::Circle(self.edges(&edges)?)));
+            }
             Ending::Neither(two) => two,
         };
         let Some(both) = self.both(two.pair, lost(two).unwrap_or(two.pair.key)) else {
@@ -167,19 +171,43 @@ fn one_rests_on(steps: &[Step<'_>], numbers: &[usize], step: usize) -> bool {
     })
 }
 
-/// The steps on which an ending rests, and those on which these rest in turn.
+/// Puts the steps on which some edges rest, each behind those on which it rests in turn.
+fn put_needed(
+    alloc: Global,
+    steps: &[Step<'_>],
+    edges: &[Edge<'_>],
+    needed: &mut Vec<usize>,
+) -> Result<(), AllocError> {
+    for last in edges.iter().filter_map(|edge| edge.step) {
+        let mut wanted = vec![in alloc; last]?;
+        for number in (0..last).rev() {
+            if one_rests_on(steps, &wanted, number) {
+                wanted.push(number)?;
+            }
+        }
+        for number in wanted.iter().rev() {
+            if !needed.contains(number) {
+                needed.push(*number)?;
+            }
+        }
+    }
+    Ok(())
+}
+
+/// The steps on which an ending rests, in the order in which its edges are told.
 fn needed_by(
     alloc: Global,
     steps: &[Step<'_>],
     ending: &Ending<'_>,
 ) -> Result<Vec<usize>, AllocError> {
-    let mut needed: Vec<usize> = Vec::new(alloc);
-    for number in (0..steps.len()).rev() {
-        if ending.rests_on(number) || one_rests_on(steps, &needed, number) {
-            needed.push(number)?;
+    let mut needed = Vec::new(alloc);
+    match ending {
+        Ending::Circle(way) => put_needed(alloc, steps, &turned(alloc, way)?, &mut needed)?,
+        Ending::Neither(two) => {
+            put_needed(alloc, steps, &two.not_first.edges, &mut needed)?;
+            put_needed(alloc, steps, &two.not_second.edges, &mut needed)?;
         }
     }
-    needed.reverse();
     Ok(needed)
 }
 
@@ -199,10 +227,8 @@ fn tell<'a>(
         needed: &needed,
     };
     let mut steps = Vec::new(alloc);
-    for (number, step) in found.iter().enumerate() {
-        if needed.contains(&number) {
-            steps.extend(telling.step(step)?)?;
-        }
+    for step in needed.iter().filter_map(|number| found.get(*number)) {
+        steps.extend(telling.step(step)?)?;
     }
     match telling.ending(ending)? {
         Some(ending) => Ok(Some(Refutation { steps, ending })),

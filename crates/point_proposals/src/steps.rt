@@ -1,7 +1,7 @@
 //! Which of two that write a key commits first, where the other way round closes a circle.
 
 use crate::graph::{Edge, Graph, Way, Why};
-use crate::nodes::{Node, Part, same_of};
+use crate::nodes::{Access, Node, Part, same_of};
 use std::alloc::{AllocError, Global};
 
 /// At most so many rounds of steps are gone.
@@ -45,16 +45,6 @@ pub enum Ending<'a> {
     Neither(Neither<'a>),
 }
 
-impl Ending<'_> {
-    /// Whether it rests on a step.
-    pub fn rests_on(&self, step: usize) -> bool {
-        match self {
-            Ending::Circle(way) => way.rests_on(step),
-            Ending::Neither(two) => two.not_first.rests_on(step) || two.not_second.rests_on(step),
-        }
-    }
-}
-
 /// A part, what is known of its points, the steps so far, and each two nodes, in both orders, that
 /// write a key and of which no step says which commits first.
 #[derive(Drop)]
@@ -92,6 +82,43 @@ impl<'a, 'b> Search<'a, 'b> {
             steps: Vec::new(alloc),
             open,
         })
+    }
+
+    /// The way of one edge by which a read misses a write.
+    fn missed(&self, read: Access<'a>, write: Access<'a>) -> Result<Way<'a>, AllocError> {
+        let edge = Edge {
+            first: read.node,
+            second: write.node,
+            why: Why::Missed(read, write),
+            step: None,
+        };
+        Ok(Way {
+            edges: vec![in self.alloc; edge]?,
+            cost: 0,
+            overwritten: None,
+        })
+    }
+
+    /// Two that read one version of a key, and both overwrite it.
+    fn lost(&self) -> Result<Option<Neither<'a>>, AllocError> {
+        let part = self.part;
+        for one in part.reads.iter().copied() {
+            for other in part.reads.iter().copied() {
+                let (first, second, key) = (one.node, other.node, one.key);
+                if first.number < second.number
+                    && one.is_same(&other)
+                    && let Some(its) = part.first_write(first, key)
+                    && let Some(others) = part.first_write(second, key)
+                {
+                    return Ok(Some(Neither {
+                        pair: Pair { first, second, key },
+                        not_first: self.missed(other, its)?,
+                        not_second: self.missed(one, others)?,
+                    }));
+                }
+            }
+        }
+        Ok(None)
     }
 
     /// The point of a node before which another one that writes its key commits.
@@ -231,8 +258,9 @@ impl<'a, 'b> Search<'a, 'b> {
 }
 
 /// Why the points of a part have no order: the steps that follow from what is known of them, and to
-/// what they lead; `None` where these do not show it. In each round a circle is sought; else steps
-/// that what is known shows; else those that are forced.
+/// what they lead; `None` where these do not show it. In each round a circle is sought; else, where
+/// keys are locked and there are no steps yet, a lost update; else steps that what is known shows;
+/// else those that are forced.
 pub fn refute<'a>(
     alloc: Global,
     part: &Part<'a>,
@@ -243,6 +271,12 @@ pub fn refute<'a>(
         search.graph.learn_costs();
         if let Some(circle) = search.graph.circle(alloc)? {
             return Ok(Some((search.steps, Ending::Circle(circle))));
+        }
+        if is_locked
+            && search.steps.is_empty()
+            && let Some(two) = search.lost()?
+        {
+            return Ok(Some((search.steps, Ending::Neither(two))));
         }
         let mut steps = search.shown()?;
         if steps.is_empty() {

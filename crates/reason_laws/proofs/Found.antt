@@ -1,10 +1,11 @@
 -- Each known edge between transactions has a reason.
-use Rattle.std.proofs.Common.{◌≡◌, ◌≢◌, ◌⊎◌, ℕ, zero, suc, ◌+◌, ◌<◌, ◌≤◌, true, eqb, not, List, [], ◌∷◌, Option, None, Some, refl, sym, ap, ◌∙◌, subst, inl, inr, arith}
+use Rattle.std.proofs.Common.{◌≡◌, ◌≢◌, ◌⊎◌, ℕ, zero, suc, ◌+◌, ◌<◌, ◌≤◌, true, eqb, not, List, [], ◌∷◌, ◌++◌, Option, None, Some, refl, sym, ap, ◌∙◌, subst, inl, inr, arith}
 use Rattle.std.specs.List.{filter, flat_map, range_with_len, AllByRecursion, Contains}
 use Rattle.std.proofs.lemmas.Bool.{false≢true, and_parts, not-true, eqb-false, ltb-true}
 use Rattle.list_lemmas.proofs.Options.{some_of}
 use Rattle.session_log.specs.Moments.{is_earlier}
 use Rattle.session_log.specs.Text.{ClientSession}
+use Rattle.session_log.specs.declared.session.Op.TheVariants.{Write}
 use Rattle.serializability.specs.Log.{Log, precedes}
 use Rattle.serializability.specs.Reads.{last_write, IsFinal, IsClean}
 use Rattle.serializability.specs.Polygraph.{Edge, arcs, is_arc, committed, source}
@@ -18,8 +19,7 @@ use Rattle.chain_laws.proofs.Coalesced.{head_parts, each_from_readers, none_some
 use Rattle.log_definitions.specs.WellFormed.{keys_in}
 use Rattle.log_definitions.specs.Serial.{begun_of, ended_of}
 use Rattle.log_definitions.specs.Numbers.{number_in, log_of}
-use Rattle.reason_laws.specs.Reasons.{IsNode, ReadsAt, AreOfSession, IsReadBy, IsOverwrittenBy, IsOfInitialBefore, EndsBefore}
-use Rattle.reason_laws.proofs.Links.{trail_of}
+use Rattle.reason_laws.specs.Reasons.{IsNode, IsOpAt, ReadsAt, WritesLastAt, Link, AreLinked, left_by, AreOfSession, IsReadBy, IsOverwrittenBy, IsOfInitialBefore, EndsBefore}
 use Rattle.reason_laws.proofs.Numbers.{wrote, node_from, session_is, earlier_is, writes_key, reads_from, key_read}
 
 -- ---- arcs
@@ -105,6 +105,62 @@ inner_reason ss clean a b lo c =
     overwritten_reason ss clean k.0 w v r (sym (ap (λ n. next log n w) k.1) ∙ e) (node_from ss r rlo rhi) (sym (ap (source log r) k.1) ∙ from) apart))))
     c
 
+-- ---- links of a chain, one after the other
+linked_more : (ss : List ClientSession) (key : List ℕ) (wid : ℕ) (ls : List Link) (l : Link) → AreLinked ss key wid ls → IsNode ss l.node → ReadsAt ss l.node l.read key (left_by wid ls) → WritesLastAt ss l.node l.write key l.wid → AreLinked ss key wid (ls ++ l ∷ [])
+linked_more ss key wid [] l linked n r w = (n, (r, (w, tt)))
+linked_more ss key wid (k ∷ ls) l linked n r w = (linked.0, (linked.1.0, (linked.1.1.0, linked_more ss key k.wid ls l linked.1.1.1 n r w)))
+
+left_more : (wid : ℕ) (ls : List Link) (l : Link) → left_by wid (ls ++ l ∷ []) ≡ l.wid
+left_more wid [] l = refl
+left_more wid (k ∷ ls) l = left_more k.wid ls l
+
+-- links from the initial value to this identity
+pub record Trail (ss : List ClientSession) (key : List ℕ) (wid : ℕ) : Type 0 where
+  pub links : List Link
+  pub linked : AreLinked ss key 0 links
+  pub left : left_by 0 links ≡ wid
+
+pub link_on : (ss : List ClientSession) → IsClean (log_of ss) → (key : List ℕ) (u s y w : ℕ) → IsNode ss u → source (log_of ss) u (number_in (keys_in ss) key) ≡ Some s → IsFinal (log_of ss) u (number_in (keys_in ss) key) y → IsFinal (log_of ss) s (number_in (keys_in ss) key) w → Trail ss key w → Trail ss key y
+link_on ss clean key u s y w node e (inl z) before t = absurd (omega (arith, z.0, node.0))
+link_on ss clean key u s y w node e (inr f) before t =
+    let x = number_in (keys_in ss) key in
+    let r = reads_from ss clean u s key node e in
+    let same : r.wid ≡ w = one_final (log_of ss) s x r.wid w r.final before in
+    let write = writes_key ss u x y key refl f.2 in
+    let link : Link = record { node = u; read = r.place; write = write.0; wid = y } in
+    record {
+      links = t.links ++ link ∷ [];
+      linked = linked_more ss key 0 t.links link t.linked node (subst (λ n. ReadsAt ss u r.place key n) (same ∙ sym t.left) r.reads) write.1;
+      left = left_more 0 t.links link;
+    }
+
+-- links to the node that stands so many steps behind node 0
+pub trail_of : (ss : List ClientSession) → IsClean (log_of ss) → (key : List ℕ) (m u y : ℕ) → Steps (log_of ss) (number_in (keys_in ss) key) m 0 u → IsFinal (log_of ss) u (number_in (keys_in ss) key) y → Trail ss key y
+trail_of ss clean key zero u y s (inl z) = record { links = []; linked = tt; left = sym z.1 }
+trail_of ss clean key zero u y s (inr f) = absurd (omega (arith, s, f.0))
+trail_of ss clean key (suc m) u y s final =
+    let n = next_is (log_of ss) (number_in (keys_in ss) key) s.0 u s.1.1 in
+    let node = node_from ss u n.low n.high in
+    let r = reads_from ss clean u s.0 key node n.from in
+    link_on ss clean key u s.0 y r.wid node n.from final r.final (trail_of ss clean key m s.0 r.wid s.1.0 r.final)
+
+-- a read from the chain of the initial value stands before who reads the key from nobody and writes it
+pub initial_from : (ss : List ClientSession) → IsClean (log_of ss) → (a i b j : ℕ) (key : List ℕ) (wid next : ℕ) → IsNode ss a → IsNode ss b → Trail ss key wid → ReadsAt ss a i key wid → IsOpAt ss b j (Write key next) → source (log_of ss) b (number_in (keys_in ss) key) ≡ None → IsOfInitialBefore ss a i b j
+initial_from ss clean a i b j key wid next first second t reads writes none =
+    let unread : (i v : ℕ) → ReadsAt ss b i key v → ⊥ = λ i v read. (let f = wrote ss clean b i key v second read in none_some (source (log_of ss) b (number_in (keys_in ss) key)) f.node none f.is) in
+    record {
+      first = first;
+      second = second;
+      apart = λ e. unread i wid (subst (λ n. ReadsAt ss n i key wid) e reads);
+      key = key;
+      wid = next;
+      links = t.links;
+      linked = t.linked;
+      reads = subst (ReadsAt ss a i key) (sym t.left) reads;
+      writes = writes;
+      unread = unread;
+    }
+
 -- ---- the chain of the initial value
 each_edge_to : (Q : Edge → Type 0) (t b : ℕ) (rs : List ℕ) → Q (t, b) → AllByRecursion (λ r. Q (r, b)) rs → AllByRecursion Q (edges_to t b rs)
 each_edge_to Q t b [] h k = (h, tt)
@@ -136,23 +192,9 @@ module _ (ss : List ClientSession) (clean : IsClean (log_of ss)) (x b : ℕ) (he
       let k = key_read ss clean a u x node from in
       let y = some_of (last_write x (log.ops b)) p.writer in
       let write = writes_key ss b x y.0 k.0 (sym k.1) y.1 in
-      let second = node_from ss b head.low head.high in
       let r = reads_from ss clean a u k.0 node (sym (ap (source log a) k.1) ∙ from) in
       let t = trail_of ss clean k.0 m u r.wid (subst (λ n. Steps log n m 0 u) k.1 steps) r.final in
-      let unread : (i v : ℕ) → ReadsAt ss b i k.0 v → ⊥ = λ i v read. (let f = wrote ss clean b i k.0 v second read in none_some (source log b x) f.node p.none (ap (source log b) k.1 ∙ f.is)) in
-      let is : IsOfInitialBefore ss a r.place b write.0 = record {
-        first = node;
-        second = second;
-        apart = λ e. unread r.place r.wid (subst (λ n. ReadsAt ss n r.place k.0 r.wid) e r.reads);
-        key = k.0;
-        wid = y.0;
-        links = t.links;
-        linked = t.linked;
-        reads = subst (ReadsAt ss a r.place k.0) (sym t.left) r.reads;
-        writes = write.1.write;
-        unread = unread;
-      } in
-      (r.place, (write.0, is))
+      (r.place, (write.0, initial_from ss clean a r.place b write.0 k.0 r.wid y.0 node (node_from ss b head.low head.high) t r.reads write.1.write (sym (ap (source log b) k.1) ∙ p.none)))
 
   last_reason : (m v : ℕ) → Steps (log_of ss) x m 0 v → 0 < v → (i : ℕ) × ((j : ℕ) × IsOfInitialBefore ss v i b j)
   last_reason zero v s lo = absurd (omega (arith, s, lo))

@@ -1,4 +1,3 @@
 pub mod Numbers
 pub mod Kept
-pub mod Links
 pub mod Found

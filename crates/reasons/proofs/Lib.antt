@@ -1,13 +1,8 @@
 pub mod Positions
 pub mod Ops
 pub mod Firsts
-pub mod Named
-pub mod Least
 pub mod Overwrites
-pub mod Walked
-pub mod Beginnings
+pub mod Initials
 pub mod Pairs
-pub mod Looks
 pub mod Squares
-pub mod Crossing
 pub mod Sessions

@@ -1,5 +1,5 @@
 -- Operations of the sessions, and events of the log.
-use Rattle.std.proofs.Common.{◌≡◌, ℕ, ◌<◌, List, Option, None, Some, refl, sym, ap, ◌∙◌, subst, arith, length, get_or, slice_get, option_map}
+use Rattle.std.proofs.Common.{◌≡◌, ℕ, ◌<◌, List, Option, None, Some, refl, sym, ap, ◌∙◌, subst, length, get_or, slice_get, option_map}
 use Rattle.std.proofs.lemmas.Option.{slice_get-get_or, slice_get-map}
 use Rattle.list_lemmas.proofs.Elements.{get_map}
 use Rattle.session_log.specs.Text.{ClientSession, key_of}
@@ -10,28 +10,22 @@ use Rattle.serializability.specs.declared.event.Event.TheVariants as event
 use Rattle.log_definitions.specs.WellFormed.{keys_in}
 use Rattle.log_definitions.specs.Serial.{ops_of}
 use Rattle.log_definitions.specs.Numbers.{number_in, event_of, log_of}
-use Rattle.log_definitions.proofs.Keys.{number_below, same_number}
+use Rattle.log_definitions.proofs.Keys.{same_number}
 use Rattle.serializability.specs.Log.{Log}
 use Rattle.serializability.specs.Events.{event_key}
-use Rattle.log_definitions.proofs.Nodes.{log_keys}
 use Rattle.reason_laws.specs.Reasons.{IsOpAt}
-use Rattle.reason_laws.proofs.Numbers.{ops_is, listed_at}
+use Rattle.reason_laws.proofs.Numbers.{ops_is, listed_at, key_within}
 
 -- ---- one operation, and its event
-pub record OpIn (keys : List (List ℕ)) (ops : List Op) (i : ℕ) (e : Event) : Type 0 where
-  pub op : Op
-  pub stands : slice_get ops i ≡ Some op
-  pub event : event_of keys op ≡ e
-
-op_from : (keys : List (List ℕ)) (ops : List Op) (i : ℕ) (e : Event) (o : Option Op) → slice_get ops i ≡ o → option_map (event_of keys) o ≡ Some e → OpIn keys ops i e
-op_from keys ops i e None at h = cc
-op_from keys ops i e (Some o) at h = record { op = o; stands = at; event = cc }
+op_from : (keys : List (List ℕ)) (e : Event) (o : Option Op) → option_map (event_of keys) o ≡ Some e → (op : Op) × (o ≡ Some op) × (event_of keys op ≡ e)
+op_from keys e None h = cc
+op_from keys e (Some o) h = (o, refl, cc)
 
 pub event_at : (ss : List ClientSession) (v i : ℕ) (o : Op) → IsOpAt ss v i o → slice_get ((log_of ss).ops v) i ≡ Some (event_of (keys_in ss) o)
 event_at ss v i o h = ap (λ es. slice_get es i) (ops_is ss v) ∙ get_map (event_of (keys_in ss)) (ops_of ss v) i o h
 
-pub op_of : (ss : List ClientSession) (v i : ℕ) (e : Event) → slice_get ((log_of ss).ops v) i ≡ Some e → OpIn (keys_in ss) (ops_of ss v) i e
-op_of ss v i e h = op_from (keys_in ss) (ops_of ss v) i e (slice_get (ops_of ss v) i) refl (sym (slice_get-map (event_of (keys_in ss)) (ops_of ss v) i) ∙ ap (λ es. slice_get es i) (sym (ops_is ss v)) ∙ h)
+pub op_of : (ss : List ClientSession) (v i : ℕ) (e : Event) → slice_get ((log_of ss).ops v) i ≡ Some e → (op : Op) × IsOpAt ss v i op × (event_of (keys_in ss) op ≡ e)
+op_of ss v i e h = op_from (keys_in ss) e (slice_get (ops_of ss v) i) (sym (slice_get-map (event_of (keys_in ss)) (ops_of ss v) i) ∙ ap (λ es. slice_get es i) (sym (ops_is ss v)) ∙ h)
 
 -- an operation like the event, of this key
 abbrev pub op_like : List ℕ → Event → Op
@@ -49,7 +43,7 @@ op_is ss v i e (Read key w) h is = subst (OpAt ss v i) is (record { key = key; n
 op_is ss v i e (Write key w) h is = subst (OpAt ss v i) is (record { key = key; number = refl; stands = h })
 
 pub op_at : (ss : List ClientSession) (v i : ℕ) (e : Event) → slice_get ((log_of ss).ops v) i ≡ Some e → OpAt ss v i e
-op_at ss v i e h = let o = op_of ss v i e h in op_is ss v i e o.op o.stands o.event
+op_at ss v i e h = let o = op_of ss v i e h in op_is ss v i e o.0 o.1 o.2
 
 -- keys of one number are one key
 pub same_key : (ss : List ClientSession) (v i : ℕ) (o : Op) (key : List ℕ) → IsOpAt ss v i o → number_in (keys_in ss) (key_of o) ≡ number_in (keys_in ss) key → key_of o ≡ key
@@ -63,10 +57,7 @@ key_of_event keys (Write key w) = refl
 pub key_below : (ss : List ClientSession) (v i : ℕ) (e : Event) → slice_get ((log_of ss).ops v) i ≡ Some e → event_key e < (log_of ss).keys
 key_below ss v i e h =
     let o = op_of ss v i e h in
-    let below = number_below (keys_in ss) (key_of o.op) (listed_at ss v i o.op o.stands) in
-    let n : event_key e ≡ number_in (keys_in ss) (key_of o.op) = ap event_key (sym o.event) ∙ key_of_event (keys_in ss) o.op in
-    let all = log_keys ss in
-    omega (arith, below, n, all)
+    subst (λ n. n < (log_of ss).keys) (sym (key_of_event (keys_in ss) o.0) ∙ ap event_key o.2) (key_within ss v i o.0 o.1)
 
 -- ---- the item of a loop over the events of a node
 pub item_at : (log : Log) (v i : ℕ) (es : List Event) (d : Event) → es ≡ log.ops v → i < length es → slice_get (log.ops v) i ≡ Some (get_or es i d)

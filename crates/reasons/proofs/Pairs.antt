@@ -1,22 +1,25 @@
--- What the readers of a key read, one by one.
-use Rattle.std.proofs.Common.{◌≡◌, ℕ, ◌+◌, ◌<◌, ◌≤◌, List, [], ◌∷◌, ◌++◌, Option, None, Some, refl, sym, ap, ◌∙◌, subst, inl, inr, arith, map, option_map}
-use Rattle.std.specs.List.{Contains, cons_option, filter_map, AllByRecursion}
+-- What the readers of a key read, one by one, and how often a search looks at it.
+use Rattle.std.proofs.Common.{◌≡◌, ℕ, ◌+◌, ◌-◌, ◌*◌, ◌<◌, ◌≤◌, List, [], ◌∷◌, ◌++◌, length, get_or, Option, None, Some, refl, sym, ◌∙◌, subst, inl, inr, arith, map, option_map}
+use Rattle.std.specs.List.{Contains, cons_option, filter_map, sum_by, AllByRecursion, range_with_len}
 use Rattle.std.proofs.lemmas.Bool.{cases_eq}
 use Rattle.std.proofs.lemmas.List.Elements.{Contains-append_left, Contains-append_right, Contains-append_cases}
+use Rattle.std.proofs.lemmas.List.Sums.{sum_by_push}
 use Rattle.list_lemmas.proofs.Elements.{mapped}
+use Rattle.list_lemmas.proofs.Each.{member as each_contained, each_member}
 use Rattle.serializability.specs.Log.{Log}
 use Rattle.serializability.specs.Reads.{IsClean}
 use Rattle.serializability.specs.Polygraph.{source, all_keys}
-use Rattle.serializability.proofs.Sources.{source_is}
+use Rattle.serializability.proofs.Places.{each_from_range, each_of_range, each_from_map, each_of_map}
 use Rattle.serializability.proofs.Serial.{some_cases}
-use Rattle.list_lemmas.proofs.Each.{member, each_member}
-use Rattle.serializability.proofs.Places.{each_from_range, each_of_range, each_from_map}
-use Rattle.reach_laws.proofs.Walks.{each_contained}
-use Rattle.session_history.specs.Tables.{sources_of, pair_at}
+use Rattle.serializability.proofs.SoFar.{range_last}
+use Rattle.serializability.proofs.Sources.{source_is}
+use Rattle.log_definitions.proofs.Members.{each_weaker}
+use Rattle.chain_laws.proofs.Walks.{some_one}
+use Rattle.session_history.specs.Tables.{sources_of, writers_in, pair_at}
 use Rattle.session_history.specs.declared.reads.ReadFrom.{ReadFrom}
 use Rattle.write_chains.proofs.Gathered.{pair_of}
-use Rattle.reasons.specs.declared.crossings.Pair.{Pair}
-use Rattle.reasons.specs.Squares.{ReadsBoth, pair, pairs_by, ArePairs}
+use Rattle.reasons.specs.declared.crossed.Pair.{Pair}
+use Rattle.reasons.specs.Crossed.{looks_at, ReadsBoth, pair, pairs_by, ArePairs}
 
 -- a key that is read is one of the log's
 pub key_within : (log : Log) → IsClean log → (r x u : ℕ) → 0 < r → r ≤ log.nodes → source log r x ≡ Some u → x < log.keys
@@ -50,42 +53,46 @@ among log r x w below e =
     let all = each_of (Contains (sources_of log r)) (source log r) (all_keys log) (each_member (Contains (sources_of log r)) (sources_of log r) (λ p c. c)) in
     each_of_range (λ x. (w : ℕ) → source log r x ≡ Some w → Contains (sources_of log r) (x, w)) 0 log.keys all x (omega arith) (omega (arith, below)) w e
 
--- ---- the pairs of a node
-
-by_reads : (r u : ℕ) (reads : List ReadFrom) → map (λ read. pair r u read.key read.source) reads ≡ pairs_by r u (map pair_of reads)
-by_reads r u [] = refl
-by_reads r u (read ∷ reads) = ap (λ l. pair r u read.key read.source ∷ l) (by_reads r u reads)
-
-pub pairs_read : (log : Log) (r u : ℕ) (reads : List ReadFrom) → map pair_of reads ≡ sources_of log r → map (λ read. pair r u read.key read.source) reads ≡ pairs_by r u (sources_of log r)
-pairs_read log r u reads e = by_reads r u reads ∙ ap (pairs_by r u) e
-
 -- ---- one node more
 pub node_further : (log : Log) → IsClean log → (x r u : ℕ) (old : List Pair) → 0 < r → r ≤ log.nodes → source log r x ≡ Some u → ArePairs log x r old → ArePairs log x (r + 1) (old ++ pairs_by r u (sources_of log r))
 node_further log clean x r u old low high from h =
     let own = pairs_by r u (sources_of log r) in
-    let In : Pair → Type 0 = λ p. ReadsBoth log p.reader x p.version p.key p.source in
+    let In : Pair → Type 0 = λ p. ReadsBoth log x p.reader p.version p.key p.source in
+    let pair_read : ℕ × ℕ → Pair = λ q. pair r u q.0 q.1 in
+    let read = each_weaker (Read log r) (λ q. In (pair_read q)) (λ q k. record { low = low; high = high; first = from; second = k.1 }) (sources_of log r) (reads_of log r) in
     record {
       sound = λ p c.
           elim (Contains-append_cases old own p c) [
             | inl c ↦ h.sound p c
-            | inr c ↦ each_contained In own p (each_from_map In (λ (q : ℕ × ℕ). pair r u q.0 q.1) (sources_of log r) (each_member (λ (q : ℕ × ℕ). In (pair r u q.0 q.1)) (sources_of log r) read)) c
+            | inr c ↦ each_contained In own p (each_from_map In pair_read (sources_of log r) read) c
           ];
       all = λ s v y w b lt.
           elim (cases_eq s r) [
-            | inl same ↦ Contains-append_right old own (pair s v y w) (at s v y w b same)
+            | inl same ↦
+                let b = subst (λ n. ReadsBoth log x n v y w) same b in
+                let version = some_one (source log r x) u v from b.first in
+                let is = mapped pair_read (sources_of log r) (y, w) (among log r y w (key_within log clean r y w low high b.second) b.second) in
+                Contains-append_right old own (pair s v y w) (subst (Contains own) (cc) is)
             | inr ne ↦ Contains-append_left old own (pair s v y w) (h.all s v y w b (omega (arith, ne, lt)))
           ];
     }
-  where
-    read : (q : ℕ × ℕ) → Contains (sources_of log r) q → ReadsBoth log r x u q.0 q.1
-    read q c = record { low = low; high = high; first = from; second = (member (Read log r) (sources_of log r) q (reads_of log r) c).1 }
 
-    at : (s v y w : ℕ) → ReadsBoth log s x v y w → s ≡ r → Contains (pairs_by r u (sources_of log r)) (pair s v y w)
-    at s v y w b same =
-        let first : source log r x ≡ Some v = subst (λ n. source log n x ≡ Some v) same b.first in
-        let second : source log r y ≡ Some w = subst (λ n. source log n y ≡ Some w) same b.second in
-        let found : Some u ≡ Some v = sym from ∙ first in
-        let version : u ≡ v = cc in
-        let within = key_within log clean r y w low high second in
-        let is = mapped (λ (q : ℕ × ℕ). pair r u q.0 q.1) (sources_of log r) (y, w) (among log r y w within second) in
-        subst (λ n. Contains (pairs_by r u (sources_of log r)) (pair n v y w)) (sym same) (subst (λ n. Contains (pairs_by r u (sources_of log r)) (pair r n y w)) version is)
+-- ---- how often a search looks at what is read, read by read
+-- at one read, where so many keys are read
+abbrev pub looks_by : Log → ℕ → ℕ × ℕ → ℕ
+looks_by log count read = count * (length (writers_in log read.0) + 1)
+
+-- its key is one of the log's
+pub key_read : (log : Log) (r : ℕ) (reads : List ReadFrom) → map pair_of reads ≡ sources_of log r → (i : ℕ) (read : ReadFrom) → i < length reads → read ≡ get_or reads i read → read.key < log.keys
+key_read log r reads e i read lt is =
+    (each_contained (λ (read : ReadFrom). Read log r (pair_of read)) reads read (each_of_map (Read log r) pair_of reads (subst (AllByRecursion (Read log r)) (sym e) (reads_of log r))) (i, lt, sym is)).0
+
+-- the nodes below this one
+abbrev pub looks_below : Log → ℕ → ℕ
+looks_below log r = sum_by (looks_at log) (range_with_len 1 (r - 1))
+
+pub looks_further : (log : Log) (r : ℕ) → 0 < r → looks_below log (r + 1) ≡ looks_below log r + looks_at log r
+looks_further log r low =
+    let count : r + 1 - 1 ≡ (r - 1) + 1 = omega (arith, low) in
+    let last : 1 + (r - 1) ≡ r = omega (arith, low) in
+    rw (count, range_last 1 (r - 1), sum_by_push (looks_at log) (range_with_len 1 (r - 1)) (1 + (r - 1)), last) refl

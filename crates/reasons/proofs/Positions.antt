@@ -9,7 +9,6 @@ use Rattle.list_lemmas.proofs.Options.{none_of}
 use Rattle.session_log.proofs.Lines.{position_none}
 use Rattle.serializability.specs.declared.event.Event.{Event}
 use Rattle.serializability.specs.declared.event.Event.TheVariants as event
-use Rattle.reasons.specs.Events.{NoneBefore}
 
 -- what stands at the place of the first that passes
 pub record FirstAt (p : Event → Bool) (xs : List Event) (i : ℕ) : Type 0 where
@@ -46,13 +45,6 @@ never_passes p xs none = go (position p xs) refl
     go : (o : Option ℕ) → position p xs ≡ o → o ≡ None
     go None e = refl
     go (Some i) e = let f = first_at p xs i (sym e) in absurd (none i f.item f.stands f.passes)
-
--- ---- a loop that looks for the first operation of a kind
-pub not_before : (P : Event → Type 0) (ops : List Event) (n j : ℕ) (e : Event) → NoneBefore P ops n → slice_get ops j ≡ Some e → P e → n ≤ j
-not_before P ops n j e h at is = elim (cases_lt j n) [
-  | inl lt ↦ absurd (h.none j e lt at is)
-  | inr le ↦ le
-]
 
 -- ---- fewer of the first ones
 pub take_fewer : {X : Type 0} (P : X → Type 0) (i k : ℕ) (xs : List X) → i ≤ k → AllByRecursion P (take k xs) → AllByRecursion P (take i xs)

@@ -1,25 +1,35 @@
--- Four nodes that read all four pairs, found among what the readers of a key read.
-use Rattle.std.proofs.Common.{◌≡◌, ◌≢◌, ◌⊎◌, ℕ, ◌+◌, ◌<◌, Bool, true, false, List, [], ◌∷◌, ◌++◌, Option, None, Some, refl, sym, ap, ◌∙◌, subst, inl, inr, arith, eqb, eq-eqb, cond, is_some, map, option_map, Contains, nat_cmp}
+-- Four nodes that read all four pairs, found among what the readers of a key read, and the crossed
+-- reads of the sessions that they have.
+use Rattle.std.proofs.Common.{◌≡◌, ◌≢◌, ◌⊎◌, ℕ, ◌+◌, Bool, true, false, List, [], ◌∷◌, ◌++◌, Option, None, Some, refl, sym, ap, ◌∙◌, subst, inl, inr, arith, eqb, eq-eqb, cond, is_some, map, option_map, Contains, nat_cmp}
 use Rattle.std.specs.Cmp.{IsTotalOrder, Equal-is}
 use Rattle.std.specs.BTreeMap.{BTreeMap, get, is_at, Updates, IsFromIterResult}
 use Rattle.std.proofs.lemmas.Cmp.{nat_cmp_total, on_total, then_total}
-use Rattle.std.proofs.lemmas.Bool.{cases_eq, ne_eqb, false≢true}
+use Rattle.std.proofs.lemmas.Bool.{ne_eqb, false≢true}
 use Rattle.std.proofs.lemmas.List.Elements.{Contains-push_cases}
 use Rattle.std.proofs.lemmas.Map.Lookups.{CmpEqualImpliesEq, exact_unsigned, exact_pairs}
 use Rattle.std.proofs.lemmas.Map.Views.{IfSome-btree_map_get_from_list, btree_map_contains_key_from_list}
 use Rattle.list_lemmas.proofs.Each.{member, each_member}
 use Rattle.list_lemmas.proofs.Elements.{mapped}
 use Rattle.list_lemmas.proofs.Options.{some_of}
+use Rattle.session_log.specs.Text.{ClientSession}
 use Rattle.serializability.specs.Log.{Log}
 use Rattle.serializability.specs.Reads.{IsClean, IsFinal}
 use Rattle.serializability.proofs.Places.{each_from_map}
-use Rattle.serializability.proofs.Sources.{source_is}
+use Rattle.serializability.proofs.Sources.{source_is, one_final}
+use Rattle.log_definitions.specs.WellFormed.{keys_in}
+use Rattle.log_definitions.specs.Numbers.{number_in, log_of}
+use Rattle.reason_laws.specs.Reasons.{IsNode, ReadsAt}
+use Rattle.reason_laws.specs.Crossed.{ReadsPair, AreCrossed}
+use Rattle.reason_laws.specs.declared.crossing.Crossing.{Crossing}
+use Rattle.reason_laws.specs.declared.crossing.PairRead.{PairRead}
+use Rattle.reason_laws.proofs.Numbers.{wrote, source_of_read, within, node_from, reads_in}
 use Rattle.session_history.specs.Tables.{writers_in}
 use Rattle.write_chains.proofs.Nexts.{writer_among}
-use Rattle.reasons.specs.declared.crossings.Pair.{Pair}
-use Rattle.reasons.specs.declared.crossings.Shared.{Shared}
-use Rattle.reasons.specs.declared.crossings.Square.{Square}
-use Rattle.reasons.specs.Squares.{ReadsBoth, IsSquare, NoSquare, pair, ArePairs, IsSquareOf, NoSquareOf, pair_cmp, triple_cmp, by_versions, AreReaders, shared_by, HasEntered}
+use Rattle.reasons.specs.declared.crossed.Pair.{Pair}
+use Rattle.reasons.specs.declared.crossed.Shared.{Shared}
+use Rattle.reasons.specs.declared.crossed.Square.{Square}
+use Rattle.reasons.specs.Firsts.{IsPairOf}
+use Rattle.reasons.specs.Crossed.{ReadsBoth, IsSquare, NoSquare, pair, ArePairs, IsSquareOf, AmongPairs, NoSquareOf, pair_cmp, triple_cmp, by_versions, AreReaders, shared_by, HasEntered}
 
 -- ---- the index of readers
 triples_total : IsTotalOrder triple_cmp
@@ -100,57 +110,103 @@ module _ (pairs : List Pair) (readers : ℕ × (ℕ × ℕ) → Option ℕ) (are
       let same : c.0 ≡ d.0 = cc in
       q.apart_too (sym a.1.1 ∙ sym c.1.1 ∙ ap (λ (s : Shared). s.source) same ∙ d.1.1 ∙ b.1.1)
 
--- ---- from the pairs of a key to the log
-pub square_from : (log : Log) (x n u : ℕ) (pairs : List Pair) (s : Square) → ArePairs log x n pairs → s.first ≡ x → IsSquareOf pairs u s → IsSquare log s
-square_from log x n u pairs s h first q =
+-- ---- from the pairs of a key to the log, and back
+squared : (R S : ℕ → ℕ → ℕ → ℕ → Type 0) → ((r u y w : ℕ) → R r u y w → S r u y w) → (u : ℕ) (s : Square) → IsSquareOf R u s → IsSquareOf S u s
+squared R S by u s q = record {
+  two = q.two;
+  apart = q.apart;
+  this = q.this;
+  that = q.that;
+  apart_too = q.apart_too;
+  one_one = by s.one_one u s.second q.this q.one_one;
+  one_two = by s.one_two u s.second q.that q.one_two;
+  two_one = by s.two_one q.two s.second q.this q.two_one;
+  two_two = by s.two_two q.two s.second q.that q.two_two;
+}
+
+pub square_from : (log : Log) (x n u : ℕ) (pairs : List Pair) (s : Square) → ArePairs log x n pairs → s.first ≡ x → IsSquareOf (AmongPairs pairs) u s → IsSquare log s
+square_from log x n u pairs s h first q = record { one = u; square = squared (AmongPairs pairs) (ReadsBoth log s.first) (λ r v y w c. subst (λ k. ReadsBoth log k r v y w) (sym first) (h.sound (pair r v y w) c)) u s q }
+
+pub none_with : (log : Log) → IsClean log → (x : ℕ) (pairs : List Pair) → ArePairs log x (log.nodes + 1) pairs → NoSquareOf pairs 0 → ((u : ℕ) → Contains (writers_in log x) u → NoSquareOf pairs u) → NoSquare log x
+none_with log clean x pairs h initial none s first q =
+    let own = squared (ReadsBoth log s.first) (AmongPairs pairs) (λ r v y w b. (let high = b.high in h.all r v y w (subst (λ k. ReadsBoth log k r v y w) first b) (omega (arith, high)))) q.one s q.square in
+    let b = subst (λ k. ReadsBoth log k s.one_one q.one s.second q.square.this) first q.square.one_one in
+    elim (source_is log clean s.one_one x q.one b.low b.high b.first).final [
+      | inl z ↦ initial s (subst (λ v. IsSquareOf (AmongPairs pairs) v s) z.0 own)
+      | inr f ↦ none q.one (writer_among log x q.one (record { low = f.0; high = f.1; writer = ap is_some f.2 })) s own
+    ]
+
+-- ---- from the log to the sessions
+pair_from : (ss : List ClientSession) (p : PairRead) (r x u y w : ℕ) (key : List ℕ) (wid : ℕ) (other : List ℕ) (beside : ℕ) → number_in (keys_in ss) key ≡ x → number_in (keys_in ss) other ≡ y → ReadsBoth (log_of ss) x r u y w → IsPairOf ss r x y p → IsFinal (log_of ss) u x wid → IsFinal (log_of ss) w y beside → ReadsPair ss p key wid other beside
+pair_from ss p r x u y w key wid other beside n m b h one two = record {
+  node = subst (IsNode ss) (sym h.node) (node_from ss r b.low b.high);
+  first = subst (λ v. ReadsAt ss v p.first key wid) (sym h.node) (h.first.reads key u wid n b.first one);
+  second = subst (λ v. ReadsAt ss v p.second other beside) (sym h.node) (h.second.reads other w beside m b.second two);
+}
+
+pub crossed_by : (ss : List ClientSession) → IsClean (log_of ss) → (s : Square) → IsSquare (log_of ss) s → (c : Crossing) → IsPairOf ss s.one_one s.first s.second c.one_one → IsPairOf ss s.one_two s.first s.second c.one_two → IsPairOf ss s.two_one s.first s.second c.two_one → IsPairOf ss s.two_two s.first s.second c.two_two → AreCrossed ss c
+crossed_by ss clean s is c one_one one_two two_one two_two =
+    let u = is.one in
+    let q = is.square in
+    let log = log_of ss in
+    let x = s.first in
+    let y = s.second in
+    let a = source_is log clean s.one_one x u q.one_one.low q.one_one.high q.one_one.first in
+    let b = source_is log clean s.two_one x q.two q.two_one.low q.two_one.high q.two_one.first in
+    let d = source_is log clean s.one_one y q.this q.one_one.low q.one_one.high q.one_one.second in
+    let e = source_is log clean s.one_two y q.that q.one_two.low q.one_two.high q.one_two.second in
+    let k = reads_in ss s.one_one x a.w a.before a.reads a.external in
+    let l = reads_in ss s.one_one y d.w d.before d.reads d.external in
     record {
-      one = u;
-      two = q.two;
-      apart = λ same. q.apart (sym same);
-      this = q.this;
-      that = q.that;
-      apart_too = q.apart_too;
-      one_one = subst (λ k. ReadsBoth log s.one_one k u s.second q.this) (sym first) (h.sound (pair s.one_one u s.second q.this) q.one_one);
-      one_two = subst (λ k. ReadsBoth log s.one_two k u s.second q.that) (sym first) (h.sound (pair s.one_two u s.second q.that) q.one_two);
-      two_one = subst (λ k. ReadsBoth log s.two_one k q.two s.second q.this) (sym first) (h.sound (pair s.two_one q.two s.second q.this) q.two_one);
-      two_two = subst (λ k. ReadsBoth log s.two_two k q.two s.second q.that) (sym first) (h.sound (pair s.two_two q.two s.second q.that) q.two_two);
+      first = k.key;
+      second = l.key;
+      one = a.w;
+      two = b.w;
+      apart = λ same. q.apart (sym (clean.apart u q.two x b.w (subst (IsFinal log u x) same a.final) b.final));
+      this = d.w;
+      that = e.w;
+      apart_too = λ same. q.apart_too (clean.apart q.this q.that y e.w (subst (IsFinal log q.this y) same d.final) e.final);
+      one_one = pair_from ss c.one_one s.one_one x u y q.this k.key a.w l.key d.w k.number l.number q.one_one one_one a.final d.final;
+      one_two = pair_from ss c.one_two s.one_two x u y q.that k.key a.w l.key e.w k.number l.number q.one_two one_two a.final e.final;
+      two_one = pair_from ss c.two_one s.two_one x q.two y q.this k.key b.w l.key d.w k.number l.number q.two_one two_one b.final d.final;
+      two_two = pair_from ss c.two_two s.two_two x q.two y q.that k.key b.w l.key e.w k.number l.number q.two_two two_two b.final e.final;
     }
 
-writer_in : (log : Log) (x u w : ℕ) → 0 < u → IsFinal log u x w → Contains (writers_in log x) u
-writer_in log x u w wrote (inl f) = absurd (omega (arith, f.0, wrote))
-writer_in log x u w wrote (inr f) = writer_among log x u (record { low = f.0; high = f.1; writer = ap is_some f.2 })
+-- ---- from the sessions to the log
+both_of : (ss : List ClientSession) → IsClean (log_of ss) → (p : PairRead) (key : List ℕ) (wid u : ℕ) (other : List ℕ) (beside w : ℕ) → ReadsPair ss p key wid other beside → IsFinal (log_of ss) u (number_in (keys_in ss) key) wid → IsFinal (log_of ss) w (number_in (keys_in ss) other) beside → ReadsBoth (log_of ss) (number_in (keys_in ss) key) p.node u (number_in (keys_in ss) other) w
+both_of ss clean p key wid u other beside w h first second = record {
+  low = h.node.0;
+  high = within ss p.node h.node;
+  first = source_of_read ss clean p.node p.first key wid u h.node h.first first;
+  second = source_of_read ss clean p.node p.second other beside w h.node h.second second;
+}
 
--- no version that a node wrote has such nodes
-module _ (log : Log) (clean : IsClean log) (x : ℕ) (pairs : List Pair) (writers : List ℕ) (are : writers ≡ writers_in log x) (h : ArePairs log x (log.nodes + 1) pairs) (none : (u : ℕ) → Contains writers u → NoSquareOf pairs u) where
-  pair_of : (r u y w : ℕ) → ReadsBoth log r x u y w → Contains pairs (pair r u y w)
-  pair_of r u y w b = let high = b.high in h.all r u y w b (omega (arith, high))
+-- versions of one writer are one version
+versions_apart : (log : Log) (x a b u w : ℕ) → a ≢ b → IsFinal log u x a → IsFinal log w x b → u ≢ w
+versions_apart log x a b u w apart first second same = apart (one_final log w x a b (subst (λ n. IsFinal log n x a) same first) second)
 
-  written : (s : Square) (u v this that : ℕ) → 0 < u → v ≢ u → this ≢ that → ReadsBoth log s.one_one x u s.second this → ReadsBoth log s.one_two x u s.second that → ReadsBoth log s.two_one x v s.second this → ReadsBoth log s.two_two x v s.second that → ⊥
-  written s u v this that wrote apart apart_too a b c d =
-      let from = source_is log clean s.one_one x u a.low a.high a.first in
-      none u (subst (λ l. Contains l u) (sym are) (writer_in log x u from.w wrote from.final)) s (record {
-        two = v;
-        apart = apart;
-        this = this;
-        that = that;
-        apart_too = apart_too;
-        one_one = pair_of s.one_one u s.second this a;
-        one_two = pair_of s.one_two u s.second that b;
-        two_one = pair_of s.two_one v s.second this c;
-        two_two = pair_of s.two_two v s.second that d;
-      })
-
-  turned : Square → Square
-  turned s = record { first = s.first; second = s.second; one_one = s.two_one; one_two = s.two_two; two_one = s.one_one; two_two = s.one_two }
-
-  pub none_with : NoSquare log x
-  unfolding turned
-  none_with s first q =
-      let a = subst (λ k. ReadsBoth log s.one_one k q.one s.second q.this) first q.one_one in
-      let b = subst (λ k. ReadsBoth log s.one_two k q.one s.second q.that) first q.one_two in
-      let c = subst (λ k. ReadsBoth log s.two_one k q.two s.second q.this) first q.two_one in
-      let d = subst (λ k. ReadsBoth log s.two_two k q.two s.second q.that) first q.two_two in
-      elim (cases_eq q.one 0) [
-        | inl zero ↦ written (turned s) q.two q.one q.this q.that (let apart = q.apart in omega (arith, zero, apart)) q.apart q.apart_too c d a b
-        | inr ne ↦ written s q.one q.two q.this q.that (omega (arith, ne)) (λ same. q.apart (sym same)) q.apart_too a b c d
-      ]
+pub none_crossed : (ss : List ClientSession) → IsClean (log_of ss) → ((s : Square) → IsSquare (log_of ss) s → ⊥) → (c : Crossing) → AreCrossed ss c → ⊥
+none_crossed ss clean none c h =
+    let log = log_of ss in
+    let x = number_in (keys_in ss) h.first in
+    let y = number_in (keys_in ss) h.second in
+    let one = wrote ss clean c.one_one.node c.one_one.first h.first h.one h.one_one.node h.one_one.first in
+    let two = wrote ss clean c.two_one.node c.two_one.first h.first h.two h.two_one.node h.two_one.first in
+    let this = wrote ss clean c.one_one.node c.one_one.second h.second h.this h.one_one.node h.one_one.second in
+    let that = wrote ss clean c.one_two.node c.one_two.second h.second h.that h.one_two.node h.one_two.second in
+    none
+    (record { first = x; second = y; one_one = c.one_one.node; one_two = c.one_two.node; two_one = c.two_one.node; two_two = c.two_two.node })
+    (record {
+      one = one.node;
+      square = record {
+        two = two.node;
+        apart = versions_apart log x h.two h.one two.node one.node (λ e. h.apart (sym e)) two.final one.final;
+        this = this.node;
+        that = that.node;
+        apart_too = versions_apart log y h.this h.that this.node that.node h.apart_too this.final that.final;
+        one_one = both_of ss clean c.one_one h.first h.one one.node h.second h.this this.node h.one_one one.final this.final;
+        one_two = both_of ss clean c.one_two h.first h.one one.node h.second h.that that.node h.one_two one.final that.final;
+        two_one = both_of ss clean c.two_one h.first h.two two.node h.second h.this this.node h.two_one two.final this.final;
+        two_two = both_of ss clean c.two_two h.first h.two two.node h.second h.that that.node h.two_two two.final that.final;
+      };
+    })

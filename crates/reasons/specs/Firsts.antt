@@ -1,5 +1,5 @@
--- The first read of a key in a node.
-use Rattle.std.specs.Prelude.{◌≡◌, ℕ, ◌≤◌, List, Some}
+-- Operations on numbered keys: which of them read what, and the first read of a key in a node.
+use Rattle.std.specs.Prelude.{◌≡◌, ℕ, ◌≤◌, List, Some, ◌<◌, ◌==◌, Bool, false, slice_get}
 use Rattle.session_log.specs.Text.{ClientSession}
 use Rattle.session_log.specs.declared.session.Op.TheVariants.{Read}
 use Rattle.serializability.specs.Log.{Log}
@@ -9,6 +9,22 @@ use Rattle.log_definitions.specs.WellFormed.{keys_in}
 use Rattle.log_definitions.specs.Numbers.{number_in, log_of}
 use Rattle.reason_laws.specs.Reasons.{IsOpAt, ReadsAt}
 use Rattle.reason_laws.specs.declared.crossing.PairRead.{PairRead}
+use Rattle.serializability.specs.declared.event.Event.{Event}
+use Rattle.serializability.specs.declared.event.Event.TheVariants as event
+use Rattle.serializability.specs.Anomalies.{is_write_of}
+
+-- the first is a read that names the second, which is a write
+abbrev pub names : Event → Event → Bool
+names (event.Read x w) e = is_write_of x w e
+names (event.Write x w) e = false
+
+abbrev pub is_read_of : ℕ → Event → Bool
+is_read_of x (event.Read k w) = k == x
+is_read_of x (event.Write k w) = false
+
+-- none of the operations before place n is such
+pub record NoneBefore (P : Event → Type 0) (ops : List Event) (n : ℕ) : Type 0 where
+  pub none : (k : ℕ) (e : Event) → k < n → slice_get ops k ≡ Some e → P e → ⊥
 
 -- the node reads the key before any own write of it
 abbrev pub HasSource : Log → ℕ → ℕ → Type 0

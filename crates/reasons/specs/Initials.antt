@@ -5,7 +5,7 @@ use Rattle.serializability.specs.Polygraph.{source}
 use Rattle.serializability.specs.declared.event.Event.{Event}
 use Rattle.serializability.specs.declared.event.Event.TheVariants as event
 use Rattle.reasons.specs.declared.operations.KeyWrite.{KeyWrite}
-use Rattle.reasons.specs.Events.{NoneBefore}
+use Rattle.reasons.specs.Firsts.{NoneBefore}
 
 -- so many steps back along the sources of the key lead from v to node 0
 abbrev pub IsBackIn : Log → ℕ → ℕ → ℕ → Type 0

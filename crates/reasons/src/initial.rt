@@ -5,8 +5,8 @@ ghost use Rattle.serializability.specs.Reads.{IsClean};
 ghost use Rattle.log_definitions.specs.Numbers.{log_of};
 ghost use Rattle.serializability.specs.Events.{event_key};
 ghost use Rattle.reason_laws.specs.Reasons.{IsNode, IsOfInitialBefore};
-ghost use Rattle.reasons.specs.Events.{NoneBefore};
-ghost use Rattle.reasons.specs.Initials.{FollowsInitial, IsBegun, IsBeginning};
+ghost use Rattle.reasons.specs.Firsts.{NoneBefore};
+ghost use Rattle.reasons.specs.Initials.{FollowsInitial, IsBeginning};
 ghost use Rattle.reasons.specs.Initials.{BeginsAt, ArePlain};
 ghost use Rattle.reasons.specs.Given.{IsLeastInitial, NoneInitial};
 
@@ -16,9 +16,9 @@ use serializability::{Event, NodeIx};
 use session_history::History;
 use std::alloc::{AllocError, Global};
 
-/// Whether a node reads the key from the chain of its initial value. The walk back to it has no
-/// more nodes than write the key.
-#[tactic(auto, using(crate::proofs::Walked::walk_on, crate::proofs::Walked::ended, crate::proofs::Walked::zero_unread))]
+/// Whether a node reads the key from the chain of its initial value. The walk back to it comes to
+/// no node twice.
+#[tactic(auto, using(crate::proofs::Initials::walk_on, crate::proofs::Initials::ended, crate::proofs::Initials::zero_unread))]
 fn follows_initial(history: &History, key: usize, node: NodeIx) -> bool
     requires clean { IsClean (log_of history.now) }
     requires key { key < (log_of history.now).keys }
@@ -26,7 +26,7 @@ fn follows_initial(history: &History, key: usize, node: NodeIx) -> bool
     ensures { IsTrue result ↔ FollowsInitial (log_of history.now) key node }
 {
     let mut first = node;
-    for step in 0..history.writers_of(key).len() + 2 {
+    for step in 0..history.committed() + 2 {
         match history.source_of(first, key) {
             Some(source) => first = source,
             None => return first == NodeIx::INITIAL,
@@ -35,34 +35,9 @@ fn follows_initial(history: &History, key: usize, node: NodeIx) -> bool
     false
 }
 
-/// Whether `b`, where it writes the key, begins a chain behind that of the initial value, which `a`
-/// reads from.
-fn is_begun(history: &History, a: NodeIx, b: NodeIx, key: usize) -> bool
-    requires clean { IsClean (log_of history.now) }
-    requires first { IsNode history.now a }
-    requires key { key < (log_of history.now).keys }
-    ensures { IsTrue result ↔ IsBegun (log_of history.now) a b key }
-{
-    history.source_of(b, key).is_none() && follows_initial(history, key, a)
-}
-
-/// The same with marks of the keys of which it is known not to be so: it is asked of each of these
-/// once.
-fn judge(plain: &mut [bool], history: &History, a: NodeIx, b: NodeIx, key: usize) -> bool
-    requires clean { IsClean (log_of history.now) }
-    requires first { IsNode history.now a }
-    requires key { key < (log_of history.now).keys }
-    requires plain { ArePlain (log_of history.now) a b plain.old }
-    ensures plain { ArePlain (log_of history.now) a b plain.new }
-    ensures begun { IsTrue result ↔ IsBegun (log_of history.now) a b key }
-{
-    let begun = !plain[key] && is_begun(history, a, b, key);
-    plain[key] = !begun;
-    begun
-}
-
 /// Whether an operation of `b` begins a chain behind that of the initial value of its key, which
-/// `a` reads from.
+/// `a` reads from. Keys of which it is known not to be so are marked: it is asked of each of these
+/// once.
 fn is_beginning(plain: &mut [bool], history: &History, a: NodeIx, b: NodeIx, event: Event) -> bool
     requires clean { IsClean (log_of history.now) }
     requires first { IsNode history.now a }
@@ -71,10 +46,13 @@ fn is_beginning(plain: &mut [bool], history: &History, a: NodeIx, b: NodeIx, eve
     ensures plain { ArePlain (log_of history.now) a b plain.new }
     ensures begins { IsTrue result ↔ IsBeginning (log_of history.now) a b event }
 {
-    match event {
-        Event::Read { .. } => false,
-        Event::Write { key, .. } => judge(plain, history, a, b, key),
-    }
+    let Event::Write { key, .. } = event else {
+        return false;
+    };
+    let unread = !plain[key] && history.source_of(b, key).is_none();
+    let begun = unread && follows_initial(history, key, a);
+    plain[key] = !begun;
+    begun
 }
 
 /// The first operation of `b` that begins a chain behind that of the initial value of its key,
@@ -108,7 +86,7 @@ fn begins_behind_initial(
 /// The first operation of `b` that begins a chain behind that of the initial value of its key, and
 /// the first read of `a` from that one. The one error is that memory runs out for a byte of each
 /// key.
-#[tactic(auto, using(crate::proofs::Beginnings::initial_is, crate::proofs::Beginnings::initial_least))]
+#[tactic(auto, using(crate::proofs::Initials::initial_is, crate::proofs::Initials::initial_least))]
 pub fn before_by_initial(
     alloc: Global,
     history: &History,

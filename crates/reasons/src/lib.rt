@@ -5,7 +5,6 @@
 #![tactic(auto)]
 
 mod crossed;
-mod crossings;
 mod initial;
 mod operations;
 mod overwritten;

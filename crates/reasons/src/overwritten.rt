@@ -6,33 +6,12 @@ ghost use Rattle.log_definitions.specs.Numbers.{log_of};
 ghost use Rattle.serializability.specs.Events.{event_key};
 ghost use Rattle.reason_laws.specs.Reasons.{IsNode, IsOverwrittenBy};
 ghost use Rattle.reasons.specs.Given.{IsLeastOverwrite, NoneOverwritten};
-ghost use Rattle.reasons.specs.Overwrites.{ReadsAlike, IsBelow, IsLess, IsLeastWrite};
+ghost use Rattle.reasons.specs.Overwrites.{IsLess, IsLeastWrite};
 
 use crate::operations::{KeyWrite, Operations};
 use crate::read::read_of;
 use serializability::{Event, NodeIx};
 use session_history::History;
-
-/// Whether both nodes read the key from one node.
-fn reads_alike(history: &History, a: NodeIx, b: NodeIx, key: usize) -> bool
-    requires key { key < (log_of history.now).keys }
-    ensures { IsTrue result ↔ ReadsAlike (log_of history.now) a b key }
-{
-    match history.source_of(a, key) {
-        Some(source) => history.source_of(b, key) == Some(source),
-        None => false,
-    }
-}
-
-/// Whether the key is less than that of the write, if there is one.
-fn is_below(key: usize, least: Option<KeyWrite>) -> bool
-    ensures { IsTrue result ↔ IsBelow key least }
-{
-    match least {
-        Some(write) => key < write.key,
-        None => true,
-    }
-}
 
 /// Whether an operation of `b` writes a key that both nodes read alike, and a lesser one than this.
 fn writes_less(
@@ -45,14 +24,20 @@ fn writes_less(
     requires key { event_key event < (log_of history.now).keys }
     ensures { IsTrue result ↔ IsLess (log_of history.now) a b least event }
 {
-    match event {
-        Event::Read { .. } => false,
-        Event::Write { key, .. } => is_below(key, least) && reads_alike(history, a, b, key),
+    let Event::Write { key, .. } = event else {
+        return false;
+    };
+    if least.is_some_and(|write| write.key <= key) {
+        return false;
+    }
+    match history.source_of(a, key) {
+        Some(source) => history.source_of(b, key) == Some(source),
+        None => false,
     }
 }
 
 /// The least key that both nodes read alike and `b` writes, with its first write of it.
-#[tactic(auto, using(crate::proofs::Ops::key_below_at, crate::proofs::Least::least_more, crate::proofs::Least::least_same, crate::proofs::Ops::item_at))]
+#[tactic(auto, using(crate::proofs::Ops::key_below_at, crate::proofs::Overwrites::least_more, crate::proofs::Overwrites::least_same, crate::proofs::Ops::item_at))]
 fn least_write(history: &History, a: NodeIx, b: NodeIx) -> Option<KeyWrite>
     ensures { let log = log_of history.now in IsLeastWrite log a b (length (log.ops b)) result }
 {

@@ -4,7 +4,7 @@ ghost use Rattle.std.specs.Prelude.{IsTrue, not, None, is_some, ◌≡◌, ◌�
 ghost use Rattle.serializability.specs.Reads.{IsClean};
 ghost use Rattle.log_definitions.specs.Numbers.{IsWellFormedList, log_of};
 ghost use Rattle.reason_laws.specs.Reasons.{IsNode, IsReadBy};
-ghost use Rattle.reasons.specs.Events as spec;
+ghost use Rattle.reasons.specs.Firsts as spec;
 ghost use Rattle.reasons.specs.Given.{IsLeastRead, NoneRead};
 ghost use Rattle.reasons.specs.Firsts.{HasSource, IsFirstRead};
 
@@ -57,7 +57,7 @@ fn names(read: Event, write: Event) -> bool
 }
 
 /// Whether an operation is a read that may name a write of the node.
-#[tactic(auto, using(crate::proofs::Named::none_unwritten, crate::proofs::Named::none_by_write))]
+#[tactic(auto, using(crate::proofs::Firsts::none_unwritten, crate::proofs::Firsts::none_by_write))]
 fn may_name(history: &History, node: NodeIx, event: Event) -> bool
     requires well_formed { IsWellFormedList history.now }
     requires node { IsNode history.now node }
@@ -102,7 +102,7 @@ fn first_reading(history: &History, a: NodeIx, b: NodeIx) -> Option<usize>
 }
 
 /// The first read of `b` that names a write of `a`, and that write.
-#[tactic(auto, using(crate::proofs::Named::is_read, crate::proofs::Named::least_read))]
+#[tactic(auto, using(crate::proofs::Firsts::is_read, crate::proofs::Firsts::least_read))]
 pub fn read_by(history: &History, a: NodeIx, b: NodeIx) -> Option<Operations>
     requires well_formed { IsWellFormedList history.now }
     requires first { IsNode history.now a }

@@ -39,13 +39,10 @@ fn ended_before(history: &History, a: NodeIx, b: NodeIx) -> bool
     requires apart { a ≢ b }
     ensures { IsTrue result ↔ EndsBefore history.now a b }
 {
-    match history.ended_of(a) {
-        Some(end) => match history.begun_of(b) {
-            Some(begin) => end < begin,
-            None => false,
-        },
-        None => false,
-    }
+    let (Some(end), Some(begin)) = (history.ended_of(a), history.begun_of(b)) else {
+        return false;
+    };
+    end < begin
 }
 
 /// Why `a` stands before `b` in each serial order, where the log shows it. The one error is that

@@ -15,19 +15,12 @@ pub fn is_behind(history: &History, a: NodeIx, b: NodeIx) -> bool
     a.get() < b.get() && history.session_of(a) == history.session_of(b)
 }
 
-/// Whether three nodes stand one behind the other in one session.
-fn goes_on(history: &History, a: NodeIx, b: NodeIx, c: NodeIx) -> bool
-    ensures { result ≡ spec.goes_on history.now a b c }
-{
-    is_behind(history, a, b) && is_behind(history, b, c)
-}
-
 /// Whether a node stands in one session between the one before it and the first behind it.
 fn is_between(history: &History, before: NodeIx, node: NodeIx, behind: &[NodeIx]) -> bool
     ensures { result ≡ spec.is_between history.now before node behind.now }
 {
     match behind.first() {
-        Some(next) => goes_on(history, before, node, *next),
+        Some(next) => is_behind(history, before, node) && is_behind(history, node, *next),
         None => false,
     }
 }

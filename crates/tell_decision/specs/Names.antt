@@ -1,11 +1,10 @@
 -- What the cycle of an explanation is called, by what its edges are.
-use Rattle.std.specs.Prelude.{ℕ, Bool, ◌&&◌, nat_lt, if◌then◌else◌, List, [], ◌∷◌}
-use Rattle.std.specs.Prelude.{is_some}
+use Rattle.std.specs.Prelude.{ℕ, Bool, if◌then◌else◌, List, [], ◌∷◌, is_some}
 use Rattle.log_definitions.specs.Numbers.{log_of}
 use Rattle.serializability.specs.Reads.{external_read}
 use Rattle.session_log.specs.Text.{ClientSession}
 use Rattle.reasons.specs.declared.reason.Reason.TheVariants as reason
-use Rattle.tell_reasons.specs.Names.{followed, with_orders, cycle_name}
+use Rattle.tell_reasons.specs.Names.{followed, milder, cycle_name}
 use Rattle.tell_reasons.specs.declared.names.Shape.{Shape}
 use Rattle.tell_reasons.specs.declared.names.TheConstants.{NO_EDGES, MISSED, READ, WRITTEN}
 use Rattle.tell_reasons.specs.declared.names.TheConstants.{SESSION, MOMENTS}
@@ -44,18 +43,12 @@ abbrev pub name_of : List ClientSession → List Item → List ℕ
 name_of ss items = cycle_name (shape_after ss NO_EDGES items)
 
 -- ---- a cycle behind steps
--- the one that misses more writes, where two are as many as more; of equals the first; with the
--- orders of sessions and of moments of both
-abbrev pub milder : Shape → Shape → Shape
-milder c d = if nat_lt c.missed 2 && nat_lt c.missed d.missed then with_orders d c
-    else with_orders c d
-
 -- of a circle and of what stands behind this item: the cycle, or what refutes the other order of a
 -- step, with the edge by that order, which closes a circle
 abbrev pub milder_with : List ClientSession → Shape → Item → List Item → Shape
 milder_with ss c (Step n o u v) behind =
     milder c (followed (shape_after ss NO_EDGES behind) (kind_by_order ss o.key u))
-milder_with ss c (Cycle start edges) behind = milder (shape_after ss NO_EDGES behind) c
+milder_with ss c (Cycle start edges) behind = milder c (shape_after ss NO_EDGES behind)
 milder_with ss c _ behind = c
 
 abbrev pub mildest_after : List ClientSession → Shape → List Item → Shape
@@ -63,7 +56,6 @@ mildest_after ss c [] = c
 mildest_after ss c (i ∷ items) = mildest_after ss (milder_with ss c i items) items
 
 -- The log does not say which order the store had: that of the steps, against which the cycle
--- stands, or one that a step refutes. The mildest of these; of equals the cycle, else the first
--- step.
+-- stands, or one that a step refutes. The mildest of these.
 abbrev pub name_behind : List ClientSession → List Item → List ℕ
 name_behind ss items = cycle_name (mildest_after ss NO_EDGES items)

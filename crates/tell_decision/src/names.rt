@@ -8,7 +8,7 @@ use reasons::Reason;
 use serializability::{Event, NodeIx};
 use session_history::History;
 use tell_reasons::names::{
-    MISSED, MOMENTS, NO_EDGES, READ, SESSION, Shape, WRITTEN, cycle_name, followed, with_orders,
+    MISSED, MOMENTS, NO_EDGES, READ, SESSION, Shape, WRITTEN, cycle_name, followed, milder,
 };
 use tell_reasons::{ChainOrder, Why};
 use tell_steps::Item;
@@ -80,18 +80,6 @@ pub fn name_of(history: &History, items: &[Item]) -> &'static str
     cycle_name(shape_of(history, items))
 }
 
-/// The circle that misses more writes, where two are as many as more; of equals the first. It has
-/// the orders of sessions and of moments that either takes.
-fn milder(circle: Shape, other: Shape) -> Shape
-    ensures { result ≡ spec.milder circle other }
-{
-    if circle.missed < 2 && circle.missed < other.missed {
-        with_orders(other, circle)
-    } else {
-        with_orders(circle, other)
-    }
-}
-
 /// The milder one of a circle and of what stands behind this item: the cycle, or what refutes the
 /// other order of a step, with the edge by that order, which closes a circle.
 fn milder_with(history: &History, circle: Shape, item: Item, behind: &[Item]) -> Shape
@@ -103,7 +91,7 @@ fn milder_with(history: &History, circle: Shape, item: Item, behind: &[Item]) ->
             let last = kind_by_order(history, order.key, source);
             milder(circle, followed(line, last))
         }
-        Item::Cycle { .. } => milder(line, circle),
+        Item::Cycle { .. } => milder(circle, line),
         _ => circle,
     }
 }

@@ -1,8 +1,7 @@
 -- What the field calls what a refutation by points shows, by what its edges are.
-use Rattle.std.specs.Prelude.{ℕ, ◌==◌, ◌&&◌, not, nat_lt, min, max, false, if◌then◌else◌}
-use Rattle.std.specs.Prelude.{List, [], ◌∷◌, codes, fold, is_some, Option, Some}
+use Rattle.std.specs.Prelude.{ℕ, false, if◌then◌else◌, List, [], ◌∷◌, codes, fold, is_some, Option, Some}
 use Rattle.session_log.specs.Text.{ClientSession}
-use Rattle.tell_reasons.specs.{Names.followed, Names.with_orders, Names.cycle_name}
+use Rattle.tell_reasons.specs.Names.{followed, milder, cycle_name}
 use Rattle.tell_reasons.specs.declared.names.{Shape.Shape, TheConstants.NO_EDGES, TheConstants.MISSED}
 use Rattle.tell_reasons.specs.declared.names.TheConstants.{READ, WRITTEN, SESSION, MOMENTS}
 use Rattle.point_refutations.specs.declared.refutation.Why.TheVariants as why
@@ -33,27 +32,10 @@ refuted (Shown first second edges) = followed (shape_of_way edges.items) WRITTEN
 refuted (Forced both against) = supposed against
 refuted (Later both against) = supposed against
 
--- the one that misses more writes, where two are as many as more; of equals the first; with the
--- orders of sessions and of moments of both
-abbrev pub milder : Shape → Shape → Shape
-milder c d = if nat_lt c.missed 2 && nat_lt c.missed d.missed then with_orders d c
-    else with_orders c d
-
 -- The log does not say which order two writers had: that of a step, or the one that it refutes. The
--- mildest of a circle and of these; of equals the circle, else the first step.
+-- mildest of a circle and of these.
 abbrev pub mildest_after : Shape → List Step → Shape
 mildest_after c steps = fold (λ found s. milder found (refuted s)) c steps
-
--- either of two circles, where as many of their edges miss a write: the one without an order of
--- writes, else what both are, with as many edges as the longer one
-abbrev pub alike : Shape → Shape → Shape
-alike s t = if s.has_written && not t.has_written then with_orders t s
-    else if t.has_written && not s.has_written then with_orders s t
-    else record (followed s t) { missed = s.missed; edges = max s.edges t.edges }
-
--- either of two circles, of which one closes whichever transaction commits first: the milder one
-abbrev pub either : Shape → Shape → Shape
-either s t = if min s.missed 2 == min t.missed 2 then alike s t else milder s t
 
 -- of a circle of points no two neighbours miss a write
 abbrev pub name_of : Shape → List ℕ
@@ -68,7 +50,7 @@ abbrev pub ending_name : List ClientSession → List Step → Ending → List �
 ending_name ss steps (Circle edges) = circle_name steps edges.items
 ending_name ss steps (Neither both not_one not_other) = if are_lost ss not_one not_other
     then codes "lost update (G-single)"
-    else name_of (mildest_after (either (supposed not_one) (supposed not_other)) steps)
+    else name_of (mildest_after (milder (supposed not_one) (supposed not_other)) steps)
 
 abbrev pub refutation_name : List ClientSession → Refutation → Option (List ℕ)
 refutation_name ss r = Some (ending_name ss r.steps.items r.ending)

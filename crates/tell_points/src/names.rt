@@ -9,7 +9,7 @@ use crate::short::are_lost;
 use point_refutations::{Against, Edge, Ending, Refutation, Step, Why};
 use session_log::Session;
 use tell_reasons::names::{
-    MISSED, MOMENTS, NO_EDGES, READ, SESSION, Shape, WRITTEN, cycle_name, followed, with_orders,
+    MISSED, MOMENTS, NO_EDGES, READ, SESSION, Shape, WRITTEN, cycle_name, followed, milder,
 };
 
 /// What an edge is, for the name of a circle.
@@ -53,18 +53,6 @@ fn refuted(step: &Step) -> Shape
     }
 }
 
-/// The circle that misses more writes, where two are as many as more; of equals the first. It has
-/// the orders of sessions and of moments that either takes.
-fn milder(circle: Shape, other: Shape) -> Shape
-    ensures { result ≡ spec.milder circle other }
-{
-    if circle.missed < 2 && circle.missed < other.missed {
-        with_orders(other, circle)
-    } else {
-        with_orders(circle, other)
-    }
-}
-
 /// The mildest of a circle and of what each step refutes.
 fn mildest(circle: Shape, steps: &[Step]) -> Shape
     ensures { result ≡ spec.mildest_after circle steps.now }
@@ -72,35 +60,6 @@ fn mildest(circle: Shape, steps: &[Step]) -> Shape
     steps
         .iter()
         .fold(circle, |found, step| milder(found, refuted(step)))
-}
-
-/// Either of two circles, where as many of their edges miss a write, as names have it: the one
-/// without an order of writes, else what both are, with as many edges as the longer one.
-fn alike(one: Shape, other: Shape) -> Shape
-    ensures { result ≡ spec.alike one other }
-{
-    if one.has_written && !other.has_written {
-        with_orders(other, one)
-    } else if other.has_written && !one.has_written {
-        with_orders(one, other)
-    } else {
-        Shape {
-            missed: one.missed,
-            edges: one.edges.max(other.edges),
-            ..followed(one, other)
-        }
-    }
-}
-
-/// Either of two circles, of which one closes whichever transaction commits first: the milder one.
-fn either(one: Shape, other: Shape) -> Shape
-    ensures { result ≡ spec.either one other }
-{
-    if one.missed.min(2) == other.missed.min(2) {
-        alike(one, other)
-    } else {
-        milder(one, other)
-    }
 }
 
 /// The name of a circle, no two neighbours of which miss a write.
@@ -139,7 +98,7 @@ pub fn ending_name(sessions: &[Session], steps: &[Step], ending: &Ending) -> &'s
             if are_lost(sessions, not_one, not_other) {
                 return "lost update (G-single)";
             }
-            name_of(mildest(either(supposed(not_one), supposed(not_other)), steps))
+            name_of(mildest(milder(supposed(not_one), supposed(not_other)), steps))
         }
     }
 }

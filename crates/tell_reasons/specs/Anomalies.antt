@@ -1,11 +1,11 @@
 -- How an anomaly is told: the reads that show it, who wrote what they name, and what their
 -- transactions did with the key besides. Operations count from 0.
 use Rattle.std.specs.Prelude.{ℕ, ◌+◌, ◌-◌, ◌&&◌, ◌==◌, Bool, false, List, [], ◌++◌, drop, position}
-use Rattle.std.specs.Prelude.{codes, slice_get, Option, None, Some, nat_lt, if◌then◌else◌}
-use Rattle.std.specs.Option.{option_map}
+use Rattle.std.specs.Prelude.{codes, decimal, slice_get, Option, None, Some, nat_lt, if◌then◌else◌}
+use Rattle.std.specs.Option.{option_map, option_map_or}
 use Rattle.std.specs.Str.{bytes_eq}
+use Rattle.session_log.specs.Text.{key_of, is_write}
 use Rattle.session_log.specs.declared.session.Op.{Op}
-use Rattle.session_log.specs.declared.session.Op.TheVariants.{Read, Write}
 use Rattle.session_log.specs.declared.session.Outcome.{Outcome}
 use Rattle.session_log.specs.declared.session.Outcome.TheVariants.{Commit, Abort, Unknown}
 use Rattle.serializability.specs.declared.anomaly.Anomaly.{Anomaly}
@@ -15,26 +15,24 @@ use Rattle.order_text.specs.Text.{name_text}
 use Rattle.log_lines.specs.Rows.{TxnRow, line_at}
 use Rattle.log_lines.specs.Placed.{table_in, op_line_in}
 use Rattle.log_lines.specs.declared.placed.PlacedHistory.{PlacedHistory}
-use Rattle.tell_reasons.specs.Reasons.{named, in_line, op_at, op_in_line, key_and_wid, key_text}
-use Rattle.tell_reasons.specs.Reasons.{wid_text, op_wid, does_text, key_bytes}
+use Rattle.tell_reasons.specs.Reasons.{named, in_line, op_at, op_in_line, key_text, op_wid, does_text}
+use Rattle.tell_reasons.specs.Reasons.{key_bytes, key_and_wid}
 use Rattle.tell_reasons.specs.Versions.{left_at, read_at, written_before, other_before}
 use Rattle.tell_reasons.specs.Writes.{OpOf, first_op, is_write_as}
 
--- ---- operations of a key
+-- a write of the key
 abbrev pub is_write_of : List ℕ → Op → Bool
-is_write_of key (Read k wid) = false
-is_write_of key (Write k wid) = bytes_eq key k
+is_write_of key op = is_write op && bytes_eq key (key_of op)
 
 -- the place of the first that passes behind place i
 abbrev pub next_position : {X : Type 0} → (X → Bool) → List X → ℕ → Option ℕ
 next_position passes xs i = option_map (λ more. i + 1 + more) (position passes (drop (i + 1) xs))
 
 -- ---- who wrote what a read names
--- the transaction wrote the key again
-abbrev pub overwrote_text : List Op → TxnRow → Option ℕ → List ℕ
-overwrote_text ops row None = []
-overwrote_text ops row (Some i) = codes " and overwrote with " ++ wid_text
-    (slice_get ops i) ++ in_line (line_at row i)
+-- the transaction wrote the key again, at this place
+unfoldable pub overwrote_text : List Op → TxnRow → Option ℕ → List ℕ
+overwrote_text ops row again = option_map_or (λ i. codes " and overwrote with "
+    ++ decimal (op_wid (slice_get ops i)) ++ in_line (line_at row i)) again []
 
 -- it is not committed
 abbrev pub outcome_text : Outcome → ℕ → List ℕ
@@ -83,36 +81,31 @@ read_text log v reads i =
     ++ writer_text log (op_line_in log v i) (key_text (op_at log.history.now v i))
     (op_wid (op_at log.history.now v i)) ++ codes "\n"
 
--- what a transaction did with a key before its read: this write, else this read, else nothing
-abbrev pub done_text : PlacedHistory → ℕ → Option ℕ → Option ℕ → List ℕ
-done_text log v (Some i) read = does_text log v (codes " writes ") i ++ codes "\n"
-done_text log v None (Some i) = read_text log v (codes " reads ") i
-done_text log v None None = []
+-- behind what the transaction did with the key before: this write, else this read, else nothing
+abbrev pub then_read_text : PlacedHistory → ℕ → Option ℕ → Option ℕ → ℕ → List ℕ
+then_read_text log v (Some write) other i = (does_text log v (codes " writes ") write ++ codes "\n")
+    ++ read_text log v (codes " then reads ") i
+then_read_text log v None (Some other) i = read_text log v (codes " reads ") other
+    ++ read_text log v (codes " then reads ") i
+then_read_text log v None None i = read_text log v (codes " reads ") i
 
--- the words of a read, behind this write or this read
-abbrev pub words_of_read : Option ℕ → Option ℕ → List ℕ
-words_of_read None None = codes " reads "
-words_of_read _ _ = codes " then reads "
-
--- a read that is an anomaly, operation i of node v, behind what was done before: the latest write
--- of the key, else its first read that names another identity
+-- a read that is an anomaly, operation i of node v, behind the latest write of the key before it, else
+-- behind its first read that names another identity
 unfoldable pub bad_read_text : PlacedHistory → ℕ → ℕ → List ℕ
-bad_read_text log v i =
-    done_text log v (written_before log.history.now v i) (other_before log.history.now v i)
-    ++ read_text log v (words_of_read (written_before log.history.now v i)
-    (other_before log.history.now v i)) i
+bad_read_text log v i = then_read_text log v (written_before log.history.now v i)
+    (other_before log.history.now v i) i
 
 -- ---- a lost update
--- node v writes a key last at this operation
-abbrev pub overwrites_text : PlacedHistory → ℕ → Option ℕ → List ℕ
-overwrites_text log v None = []
-overwrites_text log v (Some i) = named log v ++ (codes " overwrites it with "
-    ++ (wid_text (op_at log.history.now v i) ++ (op_in_line log v i ++ codes "\n")))
+-- node v writes the key last at operation i
+abbrev pub overwrites_text : PlacedHistory → ℕ → ℕ → List ℕ
+overwrites_text log v i = named log v ++ (codes " overwrites it with "
+    ++ (decimal (op_wid (op_at log.history.now v i)) ++ (op_in_line log v i ++ codes "\n")))
 
 -- its first read of key number x, and its last write of it
 unfoldable pub update_text : PlacedHistory → ℕ → ℕ → List ℕ
-update_text log x v = done_text log v None (read_at log.history.now x v)
-    ++ overwrites_text log v (left_at log.history.now x v)
+update_text log x v =
+    option_map_or (read_text log v (codes " reads ")) (read_at log.history.now x v) []
+    ++ option_map_or (overwrites_text log v) (left_at log.history.now x v) []
 
 -- which of two nodes did not see what the other wrote: of one session the second, else both
 unfoldable pub unseen_text : PlacedHistory → ℕ → ℕ → List ℕ
@@ -121,13 +114,12 @@ unseen_text log a b =
     then named log b ++ (codes " did not see " ++ (named log a ++ codes "'s\n"))
     else codes "neither saw the other's\n"
 
--- two updates of key number x
+-- two updates of key number x: in a sentence, and of each its first read and its last write
 unfoldable pub both_text : PlacedHistory → ℕ → ℕ → ℕ → List ℕ
 both_text log x a b = codes "in short: " ++ (named log a ++ (codes " and " ++ (named log b
     ++ (codes " read one version of " ++ (key_bytes log.history.now x
     ++ codes " and both overwrote it; ")))))
 
--- in a sentence, and of each its first read and its last write
 unfoldable pub updates_text : PlacedHistory → ℕ → ℕ → ℕ → List ℕ
 updates_text log x a b =
     both_text log x a b ++ unseen_text log a b ++ update_text log x a ++ update_text log x b

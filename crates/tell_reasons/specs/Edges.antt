@@ -1,7 +1,5 @@
 -- How it is told why one node stands before another, in a line.
-use Rattle.std.specs.Prelude.{ℕ, ◌==◌, if◌then◌else◌, List, [], ◌∷◌, ◌++◌, codes, decimal}
-use Rattle.std.specs.Prelude.{unwrap_or, Option, None, Some}
-use Rattle.tell_reasons.specs.declared.why.ChainOrder.{ChainOrder}
+use Rattle.std.specs.Prelude.{ℕ, ◌==◌, if◌then◌else◌, List, ◌++◌, codes, decimal, unwrap_or}
 use Rattle.tell_reasons.specs.declared.why.Why.{Why}
 use Rattle.tell_reasons.specs.declared.why.Why.TheVariants as why
 use Rattle.log_definitions.specs.Serial.{begun_of, ended_of}
@@ -9,8 +7,8 @@ use Rattle.log_definitions.specs.Numbers.{log_of}
 use Rattle.log_lines.specs.Placed.{begin_in, end_line_in}
 use Rattle.reasons.specs.declared.reason.Reason.{Reason}
 use Rattle.reasons.specs.declared.reason.Reason.TheVariants as reason
-use Rattle.tell_reasons.specs.Reasons.{before_text, named, op_at, op_in_line, op_wid, in_line}
-use Rattle.tell_reasons.specs.Reasons.{key_and_wid, wid_text, reads_text, wrote_text}
+use Rattle.tell_reasons.specs.Reasons.{named, op_at, op_in_line, op_wid, in_line, key_and_wid}
+use Rattle.tell_reasons.specs.Reasons.{reads_text, wrote_text}
 use Rattle.tell_reasons.specs.Versions.{behind_text, held_text, version_text, whose_text}
 use Rattle.log_lines.specs.declared.placed.PlacedHistory.{PlacedHistory}
 
@@ -23,9 +21,9 @@ abbrev pub reason_text : PlacedHistory → ℕ → ℕ → Reason → List ℕ
 reason_text log a b reason.Session = codes "session " ++ decimal ((log_of log.history.now).session a)
 reason_text log a b (reason.Read written read) = reads_text log b read ++ wrote_text log a written
 reason_text log a b (reason.Overwritten read overwrites) =
-    reads_text log a read ++ (whose_text log a read ++ (codes ", and " ++ (named log b
-    ++ (codes ", which reads it too, overwrites it with " ++ (wid_text (op_at log.history.now b overwrites)
-    ++ op_in_line log b overwrites)))))
+    reads_text log a read ++ whose_text log a read ++ codes ", and " ++ named log b
+    ++ codes ", which reads it too, overwrites it with "
+    ++ decimal (op_wid (op_at log.history.now b overwrites)) ++ op_in_line log b overwrites
 reason_text log a b (reason.Initial read begins) =
     reads_text log a read ++ origin_text log a read ++ codes ", and " ++ named log b
     ++ codes " wrote " ++ key_and_wid (op_at log.history.now b begins)
@@ -35,15 +33,16 @@ reason_text log a b reason.Moments =
     ++ in_line (end_line_in log a) ++ codes ", " ++ named log b ++ codes " began at "
     ++ decimal (unwrap_or (begun_of log.history.now b) 0) ++ in_line (begin_in log b)
 
--- what a has of the key of this order, and that by a step, or by supposition, it comes before what b
--- wrote of it: `7.1 reads y 3 (line 30) of 3.1, which by [1] comes before 4, which 4.1 wrote (line 15)`
-abbrev pub comes_text : PlacedHistory → ChainOrder → ℕ → ℕ → Option ℕ → List ℕ
-comes_text log o a b (Some number) = held_text log o.key o.first a ++ (codes ", which by ["
-    ++ (decimal number ++ (codes "] comes before " ++ (version_text log o.key b ++ codes "\n"))))
-comes_text log o a b None = held_text log o.key o.first a
-    ++ (codes ", which by supposition comes before " ++ (version_text log o.key b ++ codes "\n"))
+-- the log shows it; or what a has of the key of this order, by a step, or by supposition, comes before
+-- what b wrote of it: `7.1 reads y 3 (line 30) of 3.1, which by [1] comes before 4, which 4.1 wrote
+-- (line 15)`
+abbrev pub because_text : PlacedHistory → ℕ → ℕ → Why → List ℕ
+because_text log a b (why.Known r) = reason_text log a b r
+because_text log a b (why.Forced number o) = held_text log o.key o.first a
+    ++ (codes ", which by [" ++ decimal number) ++ (codes "] comes before " ++ version_text log o.key b)
+because_text log a b (why.Chosen o) = held_text log o.key o.first a
+    ++ (codes ", which by supposition comes before " ++ version_text log o.key b)
 
 abbrev pub why_text : PlacedHistory → ℕ → ℕ → Why → List ℕ
-why_text log a b (why.Known r) = before_text log a b ++ reason_text log a b r ++ 10 ∷ []
-why_text log a b (why.Forced number o) = before_text log a b ++ comes_text log o a b (Some number)
-why_text log a b (why.Chosen o) = before_text log a b ++ comes_text log o a b None
+why_text log a b w = (named log a ++ codes " before " ++ named log b ++ codes ": ")
+    ++ because_text log a b w ++ codes "\n"

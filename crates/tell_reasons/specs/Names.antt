@@ -1,7 +1,7 @@
 -- What cycles are called, by what their edges are: in plain words, and behind these in brackets the
 -- name that the literature has (Adya 1999; Elle).
-use Rattle.std.specs.Prelude.{ℕ, ◌+◌, ◌-◌, ◌^◌, ◌==◌, ◌&&◌, ◌||◌, not, nat_lt, Bool, min, List}
-use Rattle.std.specs.Prelude.{if◌then◌else◌, codes}
+use Rattle.std.specs.Prelude.{ℕ, ◌+◌, ◌-◌, ◌*◌, ◌^◌, ◌==◌, ◌&&◌, ◌||◌, not, nat_lt, Bool, false, min, max}
+use Rattle.std.specs.Prelude.{List, if◌then◌else◌, codes}
 use Rattle.tell_reasons.specs.declared.names.Shape.{Shape}
 
 -- what the edges of a line and of one behind it are
@@ -28,6 +28,28 @@ with_orders s t = record s {
 -- in a circle of these edges no two neighbours miss a write; the first stands behind the last
 abbrev pub are_apart : Shape → Bool
 are_apart s = not (s.beside || (s.first && s.last))
+
+-- ---- of two circles
+-- by how many edges miss a write, where two are as many as more, then by whether none is of an order
+-- of writes; nothing is milder than no edges
+abbrev pub mildness : Shape → ℕ
+mildness s = if s.edges == 0 then 0 else 2 * min s.missed 2 + (if s.has_written then 1 else 2)
+
+-- what two circles are that are as mild, with as many edges as the longer one
+abbrev pub either : Shape → Shape → Shape
+either s t = record (followed s t) {
+  edges = max s.edges t.edges;
+  missed = min s.missed t.missed;
+  first = false;
+  last = false;
+  beside = not (are_apart s && are_apart t);
+}
+
+-- the milder one, or what both are; with the orders of sessions and of moments that either takes
+abbrev pub milder : Shape → Shape → Shape
+milder s t = if nat_lt (mildness s) (mildness t) then with_orders t s
+    else if nat_lt (mildness t) (mildness s) then with_orders s t
+    else either s t
 
 -- ---- names
 abbrev pub by_order : Shape → List ℕ → List ℕ → List ℕ → List ℕ

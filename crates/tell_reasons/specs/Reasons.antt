@@ -1,8 +1,9 @@
 -- How it is told why one node stands before another, in the log's own lines. Operations count from
 -- 0.
-use Rattle.std.specs.Prelude.{ℕ, ◌==◌, List, [], ◌∷◌, ◌++◌, if◌then◌else◌}
-use Rattle.std.specs.Prelude.{codes, decimal, slice_get, unwrap_or, Option, None, Some}
-use Rattle.session_log.specs.Text.{ClientSession}
+use Rattle.std.specs.Prelude.{ℕ, ◌==◌, List, [], ◌∷◌, ◌++◌, if◌then◌else◌, codes, decimal}
+use Rattle.std.specs.Prelude.{slice_get, unwrap_or, Option, None, Some}
+use Rattle.std.specs.Option.{option_map_or}
+use Rattle.session_log.specs.Text.{ClientSession, key_of}
 use Rattle.session_log.specs.declared.session.Op.{Op}
 use Rattle.session_log.specs.declared.session.Op.TheVariants.{Read, Write}
 use Rattle.log_definitions.specs.WellFormed.{keys_in}
@@ -32,37 +33,26 @@ op_in_line log v i = in_line (op_line_in log v i)
 abbrev pub key_bytes : List ClientSession → ℕ → List ℕ
 key_bytes ss x = unwrap_or (slice_get (keys_in ss) x) []
 
--- an operation's key and identity, with a space between; its key; its identity
-unfoldable pub key_and_wid : Option Op → List ℕ
-key_and_wid None = []
-key_and_wid (Some (Read key wid)) = key ++ 32 ∷ decimal wid
-key_and_wid (Some (Write key wid)) = key ++ 32 ∷ decimal wid
-
--- an operation as its line has it: `r x 7`
-unfoldable pub listed_text : Option Op → List ℕ
-listed_text None = []
-listed_text (Some (Read key wid)) = codes "r " ++ (key ++ 32 ∷ decimal wid)
-listed_text (Some (Write key wid)) = codes "w " ++ (key ++ 32 ∷ decimal wid)
-
 abbrev pub view_access : Access → Op
 view_access (access.Read key wid) = Read key.now wid
 view_access (access.Write key wid) = Write key.now wid
 
+-- an operation's key; the identity that it names; both, with a space between
 unfoldable pub key_text : Option Op → List ℕ
-key_text None = []
-key_text (Some (Read key wid)) = key
-key_text (Some (Write key wid)) = key
+key_text op = option_map_or key_of op []
 
-unfoldable pub wid_text : Option Op → List ℕ
-wid_text None = []
-wid_text (Some (Read key wid)) = decimal wid
-wid_text (Some (Write key wid)) = decimal wid
-
--- the identity that an operation names
 unfoldable pub op_wid : Option Op → ℕ
 op_wid None = 0
 op_wid (Some (Read key wid)) = wid
 op_wid (Some (Write key wid)) = wid
+
+unfoldable pub key_and_wid : Option Op → List ℕ
+key_and_wid op = key_text op ++ 32 ∷ decimal (op_wid op)
+
+-- an operation as its line has it: `r x 7`
+unfoldable pub listed_text : Option Op → List ℕ
+listed_text (Some (Write key wid)) = codes "w " ++ key_and_wid (Some (Write key wid))
+listed_text op = codes "r " ++ key_and_wid op
 
 -- a key's initial value, or its version of this identity
 unfoldable pub base_text : ℕ → List ℕ
@@ -75,10 +65,6 @@ does_text log v does i = named log v ++ does ++ key_and_wid (op_at log.history.n
 
 abbrev pub reads_text : PlacedHistory → ℕ → ℕ → List ℕ
 reads_text log v i = does_text log v (codes " reads ") i
-
--- `A before B: ` and why
-abbrev pub before_text : PlacedHistory → ℕ → ℕ → List ℕ
-before_text log a b = named log a ++ codes " before " ++ named log b ++ codes ": "
 
 -- node v wrote what was told: `, which 11.1 wrote (line 54)`
 unfoldable pub wrote_text : PlacedHistory → ℕ → ℕ → List ℕ

@@ -9,7 +9,7 @@ use Rattle.serializability.specs.declared.event.Event.{Event}
 use Rattle.serializability.specs.declared.event.Event.TheVariants.{Read, Write}
 use Rattle.session_log.specs.Text.{ClientSession}
 use Rattle.log_definitions.specs.Numbers.{log_of}
-use Rattle.tell_reasons.specs.Reasons.{named, key_bytes, op_at, op_wid, wid_text, op_in_line}
+use Rattle.tell_reasons.specs.Reasons.{named, key_bytes, op_at, op_wid, op_in_line}
 use Rattle.tell_reasons.specs.Reasons.{does_text, reads_text, wrote_text, base_text}
 use Rattle.tell_reasons.specs.declared.why.ChainOrder.{ChainOrder}
 use Rattle.log_lines.specs.declared.placed.PlacedHistory.{PlacedHistory}
@@ -65,7 +65,8 @@ version_of ss x v = option_map_or (λ i. op_wid (op_at ss v i)) (left_at ss x v)
 
 -- the version of the key that a node leaves: `25, which 11.1 wrote (line 54)`
 unfoldable pub version_text : PlacedHistory → ℕ → ℕ → List ℕ
-version_text log x v = option_map_or (λ i. wid_text (op_at log.history.now v i) ++ wrote_text log v i)
+version_text log x v =
+    option_map_or (λ i. decimal (op_wid (op_at log.history.now v i)) ++ wrote_text log v i)
     (left_at log.history.now x v) (named log v)
 
 -- over what node v wrote, by its first read of the key: ` over 16009`
@@ -90,11 +91,6 @@ behind_text log base v i = if op_wid (op_at log.history.now v i) == base then []
     option_map_or (writer_text log (key_number log.history.now v i) base)
     (source_at log.history.now v i) (update_of base)
 
--- over what node v wrote operation i, where that does not leave the version `base` itself
-unfoldable pub updates_text : List ClientSession → ℕ → ℕ → ℕ → List ℕ
-updates_text ss base v i = if op_wid (op_at ss v i) == base then [] else
-    over_text ss (key_number ss v i) base v
-
 -- whose version of a key it is that node `head` leaves: ` of 3.1`
 unfoldable pub of_text : PlacedHistory → ℕ → ℕ → List ℕ
 of_text log x head = option_map_or (λ i. codes " of " ++ named log head)
@@ -105,43 +101,41 @@ unfoldable pub whose_text : PlacedHistory → ℕ → ℕ → List ℕ
 whose_text log v i = option_map_or (of_text log (key_number log.history.now v i))
     (source_at log.history.now v i) []
 
--- whose version operation i of node v reads, where that is the one that `head` leaves; or who wrote
--- an update of it that it reads
-unfoldable pub from_text : PlacedHistory → ℕ → ℕ → ℕ → ℕ → List ℕ
-from_text log x head v i =
-    if op_wid (op_at log.history.now v i) == version_of log.history.now x head
-    then of_text log x head else behind_text log (version_of log.history.now x head) v i
-
--- a node's first read of the key, and how that goes back to the version of `head`: `7.1 reads y 3
--- (line 30) of 3.1`, `9.16 reads k1 16013 (line 1193), which 4.2 wrote (line 77) over 16009`
+-- a node's first read of the key, and whose version it reads, where that is the one that `head`
+-- leaves; or who wrote an update of it that it reads: `7.1 reads y 3 (line 30) of 3.1`, `9.16 reads k1
+-- 16013 (line 1193), which 4.2 wrote (line 77) over 16009`
 unfoldable pub had_text : PlacedHistory → ℕ → ℕ → ℕ → List ℕ
-had_text log x head v = option_map_or (λ i. reads_text log v i ++ from_text log x head v i)
+had_text log x head v = option_map_or (λ i. reads_text log v i
+    ++ (if op_wid (op_at log.history.now v i) == version_of log.history.now x head
+    then of_text log x head else behind_text log (version_of log.history.now x head) v i))
     (read_at log.history.now x v) (named log v)
 
 -- the version of a key that a node has, by its last write of it, or else by its first read, and how
 -- that goes back to that of `head`
 unfoldable pub held_text : PlacedHistory → ℕ → ℕ → ℕ → List ℕ
-held_text log x head v =
-    option_map_or (λ i. does_text log v (codes " wrote ") i
-    ++ updates_text log.history.now (version_of log.history.now x head) v i)
+held_text log x head v = option_map_or (λ i. does_text log v (codes " wrote ") i
+    ++ (if op_wid (op_at log.history.now v i) == version_of log.history.now x head then []
+    else over_text log.history.now x (version_of log.history.now x head) v))
     (left_at log.history.now x v) (had_text log x head v)
 
 -- which of two versions of a key comes first: `x: 25, which 11.1 wrote (line 54), comes before 20,
 -- which 6.1 wrote (line 28)`
 unfoldable pub versions_text : PlacedHistory → ChainOrder → List ℕ
-versions_text log o =
-    key_bytes log.history.now o.key ++ (codes ": " ++ (version_text log o.key o.first
-    ++ (codes ", comes before " ++ version_text log o.key o.second)))
+versions_text log o = key_bytes log.history.now o.key ++ (codes ": " ++ version_text log o.key o.first)
+    ++ (codes ", comes before " ++ version_text log o.key o.second)
 
--- node u, which comes after v, reads a version or an update of it, by operation i: so the version comes
--- after the one that v wrote: `    14.1, which comes after 11.1, reads 20 (line 68), so 20 is the later
--- version:`
-unfoldable pub later_text : PlacedHistory → ℕ → ℕ → ℕ → ℕ → List ℕ
-later_text log version u v i =
+-- node u, which comes after v, reads this by operation i: `    14.1, which comes after 11.1, reads 20
+-- (line 68)`
+unfoldable pub after_text : PlacedHistory → ℕ → ℕ → ℕ → List ℕ
+after_text log u v i =
     codes "    " ++ (named log u ++ (codes ", which comes after " ++ (named log v
-    ++ (codes ", reads " ++ (wid_text (op_at log.history.now u i) ++ (op_in_line log u i
-    ++ (behind_text log version u i ++ (codes ", so " ++ (decimal version
-    ++ codes " is the later version:\n")))))))))
+    ++ (codes ", reads " ++ (decimal (op_wid (op_at log.history.now u i)) ++ op_in_line log u i)))))
+
+-- this is a version or an update of it: so the version comes after the one that v wrote: `, so 20 is the
+-- later version:`
+unfoldable pub later_text : PlacedHistory → ℕ → ℕ → ℕ → ℕ → List ℕ
+later_text log version u v i = after_text log u v i ++ behind_text log version u i
+    ++ (codes ", so " ++ (decimal version ++ codes " is the later version:\n"))
 
 -- why the first of two versions of a key comes first: u reads the other one. Nothing, where u does not
 -- read the key

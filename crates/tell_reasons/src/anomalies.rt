@@ -1,126 +1,67 @@
 //! What is wrong with a read, or with two transactions that update one key, in the log's own lines.
 
 ghost use Rattle.std.specs.Prelude.{◌≡◌, ◌++◌, OnOk};
-ghost use Rattle.tell_reasons.specs.Anomalies as spec;
-ghost use Rattle.tell_reasons.specs.Anomalies.{read_text, done_text, update_text, anomaly_text};
+ghost use Rattle.tell_reasons.specs.Anomalies.{read_text, bad_read_text};
+ghost use Rattle.tell_reasons.specs.Anomalies.{update_text, unseen_text, both_text, updates_text, anomaly_text};
 
-use crate::phrases::{key_in, line_of, op_of, put_does, put_text, wid_in};
+use crate::phrases::{key_in, line_of, op_of, wid_in};
 use crate::places::{last_write, other_read};
 use crate::say;
 use crate::versions::{left_at, read_at};
+use crate::words::Said;
 use crate::writers::put_writer;
-use log_lines::PlacedHistory;
+use log_lines::PlacedHistory as Log;
 use serializability::{Anomaly, NodeIx};
-use std::alloc::AllocError;
 
 /// Appends the line of a read, in these words, and who wrote what it names.
 #[tactic(auto, unfolding(crate::specs::Anomalies::read_text))]
-fn put_read(
-    out: &mut Vec<u8>,
-    log: &PlacedHistory<'_>,
-    node: NodeIx,
-    reads: &[u8],
-    op: usize,
-) -> Result<(), AllocError>
+fn put_read(out: &mut Vec<u8>, log: &Log<'_>, node: NodeIx, reads: &[u8], op: usize) -> Said
     ensures text { OnOk result (out.new.items
         ≡ out.old.items ++ read_text log.now node reads.now op) }
 {
-    let line = line_of(log, node, op);
     let read = op_of(log.history, node, op);
-    put_does(out, log, node, reads, op)?;
-    put_writer(out, log, line, key_in(read), wid_in(read))?;
-    put_text(out, b"\n")
-}
-
-/// Appends what a transaction did with a key before its read: this write, else this read.
-fn put_done(
-    out: &mut Vec<u8>,
-    log: &PlacedHistory<'_>,
-    node: NodeIx,
-    write: Option<usize>,
-    read: Option<usize>,
-) -> Result<(), AllocError>
-    ensures text { OnOk result (out.new.items
-        ≡ out.old.items ++ done_text log.now node write read) }
-{
-    match write {
-        Some(write) => say!(out, log; Does(node, b" writes ", write), Text(b"\n")),
-        None => match read {
-            Some(read) => put_read(out, log, node, b" reads ", read),
-            None => Ok(()),
-        },
-    }
-}
-
-/// The words of a read, behind this write or this read of its transaction.
-fn words_of_read(write: Option<usize>, read: Option<usize>) -> &'static [u8]
-    ensures { result.now ≡ spec.words_of_read write read }
-{
-    match (write, read) {
-        (None, None) => b" reads ",
-        _ => b" then reads ",
-    }
+    say!(out, log; Does(node, reads, op))?;
+    put_writer(out, log, line_of(log, node, op), key_in(read), wid_in(read))?;
+    say!(out, log; Text(b"\n"))
 }
 
 /// Appends the lines of a read that is an anomaly: first what its transaction did with the key
 /// before, by its latest write, else by its first read of another identity.
 #[tactic(auto, unfolding(crate::specs::Anomalies::bad_read_text))]
-fn put_bad_read(
-    out: &mut Vec<u8>,
-    log: &PlacedHistory<'_>,
-    node: NodeIx,
-    op: usize,
-) -> Result<(), AllocError>
+fn put_bad_read(out: &mut Vec<u8>, log: &Log<'_>, node: NodeIx, op: usize) -> Said
     ensures text { OnOk result (out.new.items
-        ≡ out.old.items ++ spec.bad_read_text log.now node op) }
+        ≡ out.old.items ++ bad_read_text log.now node op) }
 {
-    let write = last_write(log.history, node, op);
-    let read = other_read(log.history, node, op);
-    put_done(out, log, node, write, read)?;
-    put_read(out, log, node, words_of_read(write, read), op)
+    if let Some(write) = last_write(log.history, node, op) {
+        say!(out, log; Does(node, b" writes ", write), Text(b"\n"))?;
+        put_read(out, log, node, b" then reads ", op)
+    } else if let Some(read) = other_read(log.history, node, op) {
+        put_read(out, log, node, b" reads ", read)?;
+        put_read(out, log, node, b" then reads ", op)
+    } else {
+        put_read(out, log, node, b" reads ", op)
+    }
 }
 
-/// Appends the last write of a key in a node.
-fn put_overwrites(
-    out: &mut Vec<u8>,
-    log: &PlacedHistory<'_>,
-    node: NodeIx,
-    write: Option<usize>,
-) -> Result<(), AllocError>
-    ensures text { OnOk result (out.new.items
-        ≡ out.old.items ++ spec.overwrites_text log.now node write) }
+/// Appends the lines of an update of a key.
+#[tactic(auto, unfolding(crate::specs::Anomalies::update_text))]
+fn put_update(out: &mut Vec<u8>, log: &Log<'_>, key: usize, node: NodeIx) -> Said
+    ensures text { OnOk result (out.new.items ≡ out.old.items ++ update_text log.now key node) }
 {
-    match write {
+    if let Some(read) = read_at(log.history, key, node) {
+        put_read(out, log, node, b" reads ", read)?;
+    }
+    match left_at(log.history, key, node) {
         Some(write) => say!(out, log; Node(node), Text(b" overwrites it with "),
             Identity(node, write), AtLine(node, write), Text(b"\n")),
         None => Ok(()),
     }
 }
 
-/// Appends the lines of an update of a key.
-#[tactic(auto, unfolding(crate::specs::Anomalies::update_text))]
-fn put_update(
-    out: &mut Vec<u8>,
-    log: &PlacedHistory<'_>,
-    key: usize,
-    node: NodeIx,
-) -> Result<(), AllocError>
-    ensures text { OnOk result (out.new.items ≡ out.old.items ++ update_text log.now key node) }
-{
-    put_done(out, log, node, None, read_at(log.history, key, node))?;
-    put_overwrites(out, log, node, left_at(log.history, key, node))
-}
-
 /// Appends which of two nodes did not see what the other wrote: of one session the second, else both.
 #[tactic(auto, unfolding(crate::specs::Anomalies::unseen_text))]
-fn put_unseen(
-    out: &mut Vec<u8>,
-    log: &PlacedHistory<'_>,
-    first: NodeIx,
-    second: NodeIx,
-) -> Result<(), AllocError>
-    ensures text { OnOk result (out.new.items
-        ≡ out.old.items ++ spec.unseen_text log.now first second) }
+fn put_unseen(out: &mut Vec<u8>, log: &Log<'_>, first: NodeIx, second: NodeIx) -> Said
+    ensures text { OnOk result (out.new.items ≡ out.old.items ++ unseen_text log.now first second) }
 {
     if log.history.session_of(first) == log.history.session_of(second) {
         say!(out, log; Node(second), Text(b" did not see "), Node(first), Text(b"'s\n"))
@@ -131,15 +72,8 @@ fn put_unseen(
 
 /// Appends that two nodes update a key.
 #[tactic(auto, unfolding(crate::specs::Anomalies::both_text))]
-fn put_both(
-    out: &mut Vec<u8>,
-    log: &PlacedHistory<'_>,
-    key: usize,
-    first: NodeIx,
-    second: NodeIx,
-) -> Result<(), AllocError>
-    ensures text { OnOk result (out.new.items
-        ≡ out.old.items ++ spec.both_text log.now key first second) }
+fn put_both(out: &mut Vec<u8>, log: &Log<'_>, key: usize, first: NodeIx, second: NodeIx) -> Said
+    ensures text { OnOk result (out.new.items ≡ out.old.items ++ both_text log.now key first second) }
 {
     say!(out, log; Text(b"in short: "), Node(first), Text(b" and "), Node(second),
         Text(b" read one version of "), Key(key), Text(b" and both overwrote it; "))
@@ -147,15 +81,9 @@ fn put_both(
 
 /// Appends two updates of a key, in a sentence and in lines.
 #[tactic(auto, unfolding(crate::specs::Anomalies::updates_text))]
-fn put_updates(
-    out: &mut Vec<u8>,
-    log: &PlacedHistory<'_>,
-    key: usize,
-    first: NodeIx,
-    second: NodeIx,
-) -> Result<(), AllocError>
+fn put_updates(out: &mut Vec<u8>, log: &Log<'_>, key: usize, first: NodeIx, second: NodeIx) -> Said
     ensures text { OnOk result (out.new.items
-        ≡ out.old.items ++ spec.updates_text log.now key first second) }
+        ≡ out.old.items ++ updates_text log.now key first second) }
 {
     put_both(out, log, key, first, second)?;
     put_unseen(out, log, first, second)?;
@@ -165,11 +93,7 @@ fn put_updates(
 
 /// Appends the lines that show the anomaly of a log. Where memory runs out, a part of them may have
 /// been appended.
-pub fn put_anomaly(
-    out: &mut Vec<u8>,
-    log: &PlacedHistory<'_>,
-    anomaly: Anomaly,
-) -> Result<(), AllocError>
+pub fn put_anomaly(out: &mut Vec<u8>, log: &Log<'_>, anomaly: Anomaly) -> Said
     ensures text { OnOk result (out.new.items ≡ out.old.items ++ anomaly_text log.now anomaly) }
 {
     match anomaly {

@@ -3,14 +3,13 @@
 ghost use Rattle.std.specs.Prelude.{◌≡◌, ◌++◌, OnOk};
 ghost use Rattle.tell_reasons.specs.Crossed.{pair_text, crossing_text};
 
-use crate::phrases::put_text;
 use crate::say;
-use log_lines::PlacedHistory;
+use crate::words::Said;
+use log_lines::PlacedHistory as Log;
 use reason_laws::{Crossing, PairRead};
-use std::alloc::AllocError;
 
 /// Appends what a transaction reads, as `    5.1 reads x 1 (line 19) and y 3 (line 20)`.
-fn put_pair(out: &mut Vec<u8>, log: &PlacedHistory<'_>, pair: PairRead) -> Result<(), AllocError>
+fn put_pair(out: &mut Vec<u8>, log: &Log<'_>, pair: PairRead) -> Said
     ensures text { OnOk result (out.new.items ≡ out.old.items ++ pair_text log.now pair) }
 {
     say!(out, log; Text(b"    "), Does(pair.node, b" reads ", pair.first), Text(b" and "),
@@ -20,20 +19,13 @@ fn put_pair(out: &mut Vec<u8>, log: &PlacedHistory<'_>, pair: PairRead) -> Resul
 /// Appends that all four pairs of two versions of a key and two of another were read, and what that
 /// is called.
 #[tactic(auto, using(std::proofs::Common::append_assoc))]
-pub fn put_crossing(
-    out: &mut Vec<u8>,
-    log: &PlacedHistory<'_>,
-    crossing: Crossing,
-) -> Result<(), AllocError>
+pub fn put_crossing(out: &mut Vec<u8>, log: &Log<'_>, crossing: Crossing) -> Said
     ensures text { OnOk result (out.new.items ≡ out.old.items ++ crossing_text log.now crossing) }
 {
-    put_text(
-        out,
-        b"four transactions read these pairs of versions; in a serial order each key changes once from one version to the other, so it has at most three of them:\n",
-    )?;
+    say!(out, log; Text(b"four transactions read these pairs of versions; in a serial order each key changes once from one version to the other, so it has at most three of them:\n"))?;
     put_pair(out, log, crossing.one_one)?;
     put_pair(out, log, crossing.one_two)?;
     put_pair(out, log, crossing.two_one)?;
     put_pair(out, log, crossing.two_two)?;
-    put_text(out, b"known as: long fork (G-nonadjacent-item)\n")
+    say!(out, log; Text(b"known as: long fork (G-nonadjacent-item)\n"))
 }

@@ -21,4 +21,4 @@ pub use crossed::put_crossing;
 pub use edge::put_edge;
 pub use versions::{left_at, put_since, put_versions};
 pub use why::{ChainOrder, Why};
-pub use words::{Word, put_words};
+pub use words::{Said, Word, put_words};

@@ -94,13 +94,61 @@ pub fn followed(line: Shape, next: Shape) -> Shape
 }
 
 /// With the orders of sessions and of moments that another line has.
-pub fn with_orders(line: Shape, other: Shape) -> Shape
+fn with_orders(line: Shape, other: Shape) -> Shape
     ensures { result ≡ spec.with_orders line other }
 {
     Shape {
         has_session: line.has_session | other.has_session,
         has_moments: line.has_moments | other.has_moments,
         ..line
+    }
+}
+
+/// Whether no two neighbours in a circle of these edges miss a write; the first stands behind the
+/// last.
+fn are_apart(line: Shape) -> bool
+    ensures { result ≡ spec.are_apart line }
+{
+    !(line.beside || (line.first && line.last))
+}
+
+/// How mild a circle is: by how many of its edges miss a write, where two are as many as more, then
+/// by whether none is of an order of writes. Nothing is milder than no edges.
+fn mildness(circle: Shape) -> u8
+    ensures { result ≡ spec.mildness circle }
+{
+    if circle.edges == 0 {
+        0
+    } else {
+        2 * circle.missed.min(2) + if circle.has_written { 1 } else { 2 }
+    }
+}
+
+/// What two circles are that are as mild, with as many edges as the longer one.
+fn either(one: Shape, other: Shape) -> Shape
+    ensures { result ≡ spec.either one other }
+{
+    Shape {
+        edges: one.edges.max(other.edges),
+        missed: one.missed.min(other.missed),
+        first: false,
+        last: false,
+        beside: !(are_apart(one) && are_apart(other)),
+        ..followed(one, other)
+    }
+}
+
+/// The milder one of two circles, or what both are; with the orders of sessions and of moments that
+/// either takes.
+pub fn milder(one: Shape, other: Shape) -> Shape
+    ensures { result ≡ spec.milder one other }
+{
+    if mildness(one) < mildness(other) {
+        with_orders(other, one)
+    } else if mildness(other) < mildness(one) {
+        with_orders(one, other)
+    } else {
+        either(one, other)
     }
 }
 
@@ -192,19 +240,19 @@ fn name_often_missed(line: Shape) -> &'static str
             "write skew in a ring by way of sessions (G2-item-process)",
             "write skew in a ring by way of real time (G2-item-realtime)",
         )
-    } else if line.beside || (line.first && line.last) {
-        by_order(
-            line,
-            "cycle of missed writes (G2-item)",
-            "cycle of missed writes and sessions (G2-item-process)",
-            "cycle of missed writes and real time (G2-item-realtime)",
-        )
-    } else {
+    } else if are_apart(line) {
         by_order(
             line,
             "long fork (G-nonadjacent-item)",
             "long fork by way of sessions (G-nonadjacent-item-process)",
             "long fork by way of real time (G-nonadjacent-item-realtime)",
+        )
+    } else {
+        by_order(
+            line,
+            "cycle of missed writes (G2-item)",
+            "cycle of missed writes and sessions (G2-item-process)",
+            "cycle of missed writes and real time (G2-item-realtime)",
         )
     }
 }

@@ -17,20 +17,14 @@ use session_log::Op;
 fn writes(event: Event, key: usize) -> bool
     ensures { result ≡ is_write_in key event }
 {
-    match event {
-        Event::Read { .. } => false,
-        Event::Write { key: written, .. } => key == written,
-    }
+    matches!(event, Event::Write { key: written, .. } if key == written)
 }
 
 /// Whether an event reads the key.
 pub fn reads(event: Event, key: usize) -> bool
     ensures { result ≡ is_read_in key event }
 {
-    match event {
-        Event::Read { key: read, .. } => key == read,
-        Event::Write { .. } => false,
-    }
+    matches!(event, Event::Read { key: read, .. } if key == read)
 }
 
 /// How far the last of these that writes the key is from the end.
@@ -81,10 +75,7 @@ pub fn other_read(history: &History, node: NodeIx, op: usize) -> Option<usize>
 fn is_write_of(op: &Op, key: &[u8]) -> bool
     ensures { result ≡ spec.is_write_of key.now op.now }
 {
-    match op {
-        Op::Read { .. } => false,
-        Op::Write { key: written, .. } => key == written.as_bytes(),
-    }
+    op.is_write() && key == op.key().as_bytes()
 }
 
 /// The first of these that writes the key.

@@ -1,22 +1,28 @@
 //! What a line says, as a list of words.
 
-ghost use Rattle.std.specs.Prelude.{◌≡◌, ◌++◌, OnOk};
+ghost use Rattle.std.specs.Prelude.{◌≡◌, ◌++◌, decimal, OnOk};
+ghost use Rattle.std.specs.Option.{option_map};
+ghost use Rattle.order_text.specs.Text.{name_text};
+ghost use Rattle.tell_reasons.specs.Reasons as spec;
+ghost use Rattle.tell_reasons.specs.Reasons.{named, in_line, key_and_wid, view_access};
 ghost use Rattle.tell_reasons.specs.Words.{word_text, words_text};
 
-use crate::phrases::{
-    key_bytes, key_in, op_of, put_does, put_in_line, put_listed, put_named, put_number, put_op,
-    put_op_in_line, put_place, put_text, put_wid, put_wrote,
-};
-use crate::versions::{put_behind, put_held, put_version, put_whose};
-use log_lines::PlacedHistory;
+use crate::phrases::{Access, key_bytes, key_in, line_of, op_of, place_of, wid_at, wid_in};
+use itoa::Buffer;
+use log_lines::PlacedHistory as Log;
 use serializability::NodeIx;
 use std::alloc::AllocError;
+
+/// What saying something gives: nothing, unless memory runs out.
+pub type Said = Result<(), AllocError>;
 
 /// A part of what a line says. Operations of a node count from 0.
 #[derive(Clone, Copy)]
 pub enum Word<'a> {
     Text(&'a [u8]),
     Number(u64),
+    /// The identity of a version, or that this is the initial value.
+    Base(u64),
     /// A line of the log, as ` (line 12)`.
     Line(usize),
     /// The name of a transaction: its session, and its place there.
@@ -39,14 +45,6 @@ pub enum Word<'a> {
     Does(NodeIx, &'a [u8], usize),
     /// That a node wrote what was told, as `, which 11.1 wrote (line 54)`.
     Wrote(NodeIx, usize),
-    /// The version of a key that a node leaves, as `25, which 11.1 wrote (line 54)`.
-    Version(usize, NodeIx),
-    /// Who wrote what a node's operation reads, where that is not the version of this identity.
-    Behind(u64, NodeIx, usize),
-    /// Whose version a node's operation reads, as ` of 3.1`.
-    Whose(NodeIx, usize),
-    /// The version of a key, and how it goes back to that of the first node, that the other node has.
-    Held(usize, NodeIx, NodeIx),
 }
 
 /// Appends words: `say!(out, log; Node(a), Text(b" before "), Node(b))`.
@@ -57,38 +55,108 @@ macro_rules! say {
     };
 }
 
+/// Appends a text.
+fn put_text(out: &mut Vec<u8>, text: &[u8]) -> Said
+    ensures text { OnOk result (out.new.items ≡ out.old.items ++ text.now) }
+{
+    out.extend_from_slice(text)?;
+    Ok(())
+}
+
+/// Appends a number.
+fn put_number(out: &mut Vec<u8>, number: u64) -> Said
+    ensures text { OnOk result (out.new.items ≡ out.old.items ++ decimal number) }
+{
+    put_text(out, Buffer::new().format(number).as_bytes())
+}
+
+/// Appends the name of a transaction.
+fn put_name(out: &mut Vec<u8>, session: u16, place: usize) -> Said
+    ensures text { OnOk result (out.new.items ≡ out.old.items ++ name_text (session, place)) }
+{
+    put_number(out, u64::from(session))?;
+    put_text(out, b".")?;
+    put_number(out, place as u64)
+}
+
+/// Appends the name of a node.
+#[tactic(auto, unfolding(crate::specs::Reasons::named))]
+fn put_node(out: &mut Vec<u8>, log: &Log<'_>, node: NodeIx) -> Said
+    ensures text { OnOk result (out.new.items ≡ out.old.items ++ named log.now node) }
+{
+    put_name(out, log.history.session_of(node), place_of(log, node))
+}
+
+/// Appends a line of the log.
+#[tactic(auto, unfolding(crate::specs::Reasons::in_line))]
+fn put_line(out: &mut Vec<u8>, line: usize) -> Said
+    ensures text { OnOk result (out.new.items ≡ out.old.items ++ in_line line) }
+{
+    put_text(out, b" (line ")?;
+    put_number(out, line as u64)?;
+    put_text(out, b")")
+}
+
+/// Appends the key and the identity of an operation.
+#[tactic(auto, unfolding(crate::specs::Reasons::key_and_wid))]
+pub fn put_op(out: &mut Vec<u8>, op: Option<Access<'_>>) -> Said
+    ensures text { OnOk result (out.new.items
+        ≡ out.old.items ++ key_and_wid (option_map view_access op.entry)) }
+{
+    put_text(out, key_in(op))?;
+    put_text(out, b" ")?;
+    put_number(out, wid_in(op))
+}
+
+/// Appends an operation as its line has it.
+#[tactic(auto, unfolding(crate::specs::Reasons::listed_text))]
+fn put_listed(out: &mut Vec<u8>, op: Option<Access<'_>>) -> Said
+    ensures text { OnOk result (out.new.items
+        ≡ out.old.items ++ spec.listed_text (option_map view_access op.entry)) }
+{
+    match op {
+        Some(Access::Write(..)) => put_text(out, b"w ")?,
+        _ => put_text(out, b"r ")?,
+    }
+    put_op(out, op)
+}
+
 /// Appends a word.
-fn put_word(out: &mut Vec<u8>, log: &PlacedHistory<'_>, word: &Word<'_>) -> Result<(), AllocError>
+#[tactic(auto, unfolding(crate::specs::Reasons::base_text, crate::specs::Reasons::does_text, crate::specs::Reasons::wrote_text))]
+fn put_word(out: &mut Vec<u8>, log: &Log<'_>, word: &Word<'_>) -> Said
     ensures text { OnOk result (out.new.items ≡ out.old.items ++ word_text log.now word.now) }
 {
     match word {
         Word::Text(text) => put_text(out, text),
-        Word::Number(number) => put_number(out, *number),
-        Word::Line(line) => put_in_line(out, *line),
-        Word::Name(session, place) => put_place(out, *session, *place),
-        Word::Node(node) => put_named(out, log, *node),
+        Word::Base(0) => put_text(out, b"the initial value"),
+        Word::Number(number) | Word::Base(number) => put_number(out, *number),
+        Word::Line(line) => put_line(out, *line),
+        Word::Name(session, place) => put_name(out, *session, *place),
+        Word::Node(node) => put_node(out, log, *node),
         Word::Key(key) => put_text(out, key_bytes(log.history, *key)),
         Word::KeyOf(node, op) => put_text(out, key_in(op_of(log.history, *node, *op))),
         Word::Operation(node, op) => put_op(out, op_of(log.history, *node, *op)),
         Word::Listed(node, op) => put_listed(out, op_of(log.history, *node, *op)),
-        Word::Identity(node, op) => put_wid(out, op_of(log.history, *node, *op)),
-        Word::AtLine(node, op) => put_op_in_line(out, log, *node, *op),
-        Word::Does(node, does, op) => put_does(out, log, *node, does, *op),
-        Word::Wrote(node, op) => put_wrote(out, log, *node, *op),
-        Word::Version(key, node) => put_version(out, log, *key, *node),
-        Word::Behind(base, node, op) => put_behind(out, log, *base, *node, *op),
-        Word::Whose(node, op) => put_whose(out, log, *node, *op),
-        Word::Held(key, head, node) => put_held(out, log, *key, *head, *node),
+        Word::Identity(node, op) => put_number(out, wid_at(log.history, *node, *op)),
+        Word::AtLine(node, op) => put_line(out, line_of(log, *node, *op)),
+        Word::Does(node, does, op) => {
+            put_node(out, log, *node)?;
+            put_text(out, does)?;
+            put_op(out, op_of(log.history, *node, *op))?;
+            put_line(out, line_of(log, *node, *op))
+        }
+        Word::Wrote(node, op) => {
+            put_text(out, b", which ")?;
+            put_node(out, log, *node)?;
+            put_text(out, b" wrote")?;
+            put_line(out, line_of(log, *node, *op))
+        }
     }
 }
 
 /// Appends what words say, one behind the other.
 #[tactic(auto, using(crate::proofs::Joined::words_next))]
-pub fn put_words(
-    out: &mut Vec<u8>,
-    log: &PlacedHistory<'_>,
-    words: &[Word<'_>],
-) -> Result<(), AllocError>
+pub fn put_words(out: &mut Vec<u8>, log: &Log<'_>, words: &[Word<'_>]) -> Said
     ensures text { OnOk result (out.new.items ≡ out.old.items ++ words_text log.now words.now) }
 {
     for word in words {

@@ -7,7 +7,7 @@ ghost use Rattle.log_lines.specs.Rows.{view_place, rows_of};
 ghost use Rattle.tell_reasons.specs.Writes as spec;
 ghost use Rattle.tell_reasons.specs.Writes.{view_write, first_in, first_op};
 
-use log_lines::{PlacedHistory, TxnPlace};
+use log_lines::{PlacedHistory as Log, TxnPlace};
 use session_log::{Op, Session, Txn};
 
 /// A write that was found.
@@ -26,13 +26,8 @@ pub struct WriteAt<'a> {
 fn is_write_as(op: &Op, key: Option<&[u8]>, wid: u64) -> bool
     ensures { result ≡ spec.is_write_as (option_copied key.entry) wid op.now }
 {
-    match op {
-        Op::Read { .. } => false,
-        Op::Write {
-            key: written,
-            wid: own,
-        } => *own == wid && key.map_or(true, |key| key == written.as_bytes()),
-    }
+    matches!(op, Op::Write { key: written, wid: own }
+        if *own == wid && key.map_or(true, |key| key == written.as_bytes()))
 }
 
 /// The first operation that writes this identity, under this key or under any.
@@ -69,7 +64,7 @@ fn write_in<'a>(
 }
 
 /// The first write of this identity, under this key, or under any where none is given.
-pub fn write_at<'a>(log: &PlacedHistory<'a>, key: Option<&[u8]>, wid: u64) -> Option<WriteAt<'a>>
+pub fn write_at<'a>(log: &Log<'a>, key: Option<&[u8]>, wid: u64) -> Option<WriteAt<'a>>
     ensures { option_map view_write result
         ≡ first_op (spec.is_write_as (option_copied key.entry) wid) log.now.history.now
         (rows_of log.now.places.now) }

@@ -2,8 +2,9 @@
 -- part, with those of its operations that reasons name, in their lines, and an arrow for each edge,
 -- labelled and coloured by its kind.
 use Rattle.std.specs.Prelude.{ℕ, zero, suc, ◌==◌, ◌&&◌, ◌||◌, Bool, false, if◌then◌else◌, List, [], ◌∷◌}
-use Rattle.std.specs.Prelude.{◌++◌, length, codes, decimal}
+use Rattle.std.specs.Prelude.{◌++◌, length, codes, decimal, Option, None, Some}
 use Rattle.std.specs.List.{filter, flat_map, list_any}
+use Rattle.std.specs.Option.{option_map_or}
 use Rattle.log_definitions.specs.Numbers.{log_of}
 use Rattle.log_lines.specs.declared.placed.PlacedHistory.{PlacedHistory}
 use Rattle.reasons.specs.declared.reason.Reason.{Reason}
@@ -17,25 +18,18 @@ use Rattle.tell_steps.specs.declared.item.Item.TheVariants.{Edge}
 use Rattle.tell_texts.specs.declared.boxes.Look.{Look}
 use Rattle.tell_texts.specs.declared.boxes.Look.TheVariants as look
 
--- the operations that a reason names, each with its node
-abbrev pub reason_names : ℕ → ℕ → Reason → List (ℕ × ℕ)
-reason_names a b reason.Session = []
-reason_names a b (reason.Read written read) = (a, written) ∷ (b, read) ∷ []
-reason_names a b (reason.Overwritten read overwrites) = (a, read) ∷ (b, overwrites) ∷ []
-reason_names a b (reason.Initial read begins) = (a, read) ∷ (b, begins) ∷ []
-reason_names a b reason.Moments = []
+-- the operations that a reason names, of the first node and of the second
+abbrev pub reason_ops : Reason → Option (ℕ × ℕ)
+reason_ops (reason.Read written read) = Some (written, read)
+reason_ops (reason.Overwritten read overwrites) = Some (read, overwrites)
+reason_ops (reason.Initial read begins) = Some (read, begins)
+reason_ops _ = None
 
-abbrev pub item_names : Item → List (ℕ × ℕ)
-item_names (Edge a b (why.Known r)) = reason_names a b r
-item_names _ = []
-
--- whether an operation of the node stands among these
-abbrev pub is_named : List (ℕ × ℕ) → ℕ → ℕ → Bool
-is_named named v i = list_any (λ x. (x.0 == v) && (x.1 == i)) named
-
--- whether one of these items names this operation of the node
-abbrev pub one_names : List Item → ℕ → ℕ → Bool
-one_names items v i = list_any (λ x. is_named (item_names x) v i) items
+-- whether an item names operation i of node v
+abbrev pub names : ℕ → ℕ → Item → Bool
+names v i (Edge a b (why.Known r)) = option_map_or
+    (λ o. ((a == v) && (o.0 == i)) || ((b == v) && (o.1 == i))) (reason_ops r) false
+names v i _ = false
 
 -- whether an item is an edge of the node
 abbrev pub is_edge_of : ℕ → Item → Bool
@@ -50,7 +44,7 @@ before_op look.Line = codes "  "
 
 -- an operation and its line, where one of these items names it
 abbrev pub op_label : Look → PlacedHistory → List Item → ℕ → ℕ → List ℕ
-op_label look log items v i = if one_names items v i
+op_label look log items v i = if list_any (names v i) items
     then before_op look ++ listed_text (op_at log.history.now v i) ++ op_in_line log v i else []
 
 -- the first so many operations of the node, those that these items name

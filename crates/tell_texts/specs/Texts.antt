@@ -34,27 +34,22 @@ item_line log (Leaves count) = if nat_lt 1000 count
     ++ codes " in all; the first 1000 of them:\n"
     else codes "proof: whichever of these versions came first, a cycle closes:\n"
 
--- whether an edge behind an item is of a step's walk, where one in its place is or is not
-abbrev pub walks_behind : Bool → Item → Bool
-walks_behind walks (Step number o u v) = true
-walks_behind walks (Edge a b why) = walks
-walks_behind walks _ = false
-
 -- how deep an item stands, where so many choices are decided before it, and an edge in its place is
--- or is not of a step's walk; and how many are decided behind it
+-- or is not of a step's walk; and how many are decided behind it, and whether an edge there is
 abbrev pub depth_at : ℕ → Bool → Item → ℕ
 depth_at before walks (Decided depth o) = depth - 1
 depth_at before walks (Edge a b why) = if walks then 2 else before
 depth_at before walks _ = before
 
-abbrev pub depth_behind : ℕ → Item → ℕ
-depth_behind before (Decided depth o) = depth
-depth_behind before _ = before
+abbrev pub behind : ℕ → Bool → Item → ℕ × Bool
+behind before walks (Decided depth o) = (depth, false)
+behind before walks (Step number o u v) = (before, true)
+behind before walks (Edge a b why) = (before, walks)
+behind before walks _ = (before, false)
 
 -- the lines of these, where so many choices are decided before the first, and an edge in its place
 -- is or is not of a step's walk
 abbrev pub items_text : PlacedHistory → ℕ → Bool → List Item → List ℕ
 items_text log depth walks [] = []
-items_text log depth walks (i ∷ rest) =
-    (indent (depth_at depth walks i) ++ item_line log i)
-    ++ items_text log (depth_behind depth i) (walks_behind walks i) rest
+items_text log depth walks (i ∷ rest) = (indent (depth_at depth walks i) ++ item_line log i)
+    ++ items_text log (behind depth walks i).0 (behind depth walks i).1 rest

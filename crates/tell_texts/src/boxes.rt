@@ -1,17 +1,17 @@
 //! The boxes of a graph, or lines: transactions, with those of their operations that the explanation
 //! names.
 
-ghost use Rattle.std.specs.Prelude.{◌≡◌, ◌++◌, length, OnOk, IfOk, [], ◌∷◌};
-ghost use Rattle.std.specs.List.{filter};
+ghost use Rattle.std.specs.Prelude.{◌≡◌, ◌++◌, length, OnOk, IfOk};
+ghost use Rattle.std.specs.List.{filter, list_any};
 ghost use Rattle.log_definitions.specs.Numbers.{log_of};
 ghost use Rattle.tell_texts.specs.Graphs as spec;
 
-use log_lines::PlacedHistory;
+use log_lines::PlacedHistory as Log;
 use reasons::Reason;
 use serializability::NodeIx;
 use serializability::numbers::node as node_of;
 use std::alloc::{AllocError, Global};
-use tell_reasons::{Why, say};
+use tell_reasons::{Said, Why, say};
 use tell_steps::Item;
 
 /// How a transaction is shown.
@@ -46,43 +46,42 @@ fn edges_of(alloc: Global, items: &[Item], node: NodeIx) -> Result<Vec<Item>, Al
         .collect(alloc)
 }
 
-/// An operation, by its place among those of its node.
-type OpPlace = (NodeIx, usize);
-
-/// Whether an operation is one of two.
-fn is_either(op: OpPlace, first: OpPlace, second: OpPlace) -> bool
-    ensures { result ≡ spec.is_named (first ∷ second ∷ []) op.0 op.1 }
+/// The operations that a reason names, of the first node and of the second.
+fn reason_ops(reason: Reason) -> Option<(usize, usize)>
+    ensures { result ≡ spec.reason_ops reason }
 {
-    (first.0.get() == op.0.get() && first.1 == op.1)
-        || (second.0.get() == op.0.get() && second.1 == op.1)
+    match reason {
+        Reason::Read { written, read } => Some((written, read)),
+        Reason::Overwritten { read, overwrites } => Some((read, overwrites)),
+        Reason::Initial { read, begins } => Some((read, begins)),
+        Reason::Session | Reason::Moments => None,
+    }
 }
 
-/// Whether an item names an operation.
-fn item_names(op: OpPlace, item: Item) -> bool
-    ensures { result ≡ spec.is_named (spec.item_names item) op.0 op.1 }
+/// Whether an item names an operation of a node.
+fn names(item: Item, node: NodeIx, op: usize) -> bool
+    ensures { result ≡ spec.names node op item }
 {
     match item {
         Item::Edge { first, second, why } => match why {
-            Why::Known(Reason::Read { written, read }) => {
-                is_either(op, (first, written), (second, read))
-            }
-            Why::Known(Reason::Overwritten { read, overwrites }) => {
-                is_either(op, (first, read), (second, overwrites))
-            }
-            Why::Known(Reason::Initial { read, begins }) => {
-                is_either(op, (first, read), (second, begins))
-            }
+            Why::Known(reason) => match reason_ops(reason) {
+                Some((one, other)) => {
+                    (first.get() == node.get() && one == op)
+                        || (second.get() == node.get() && other == op)
+                }
+                None => false,
+            },
             _ => false,
         },
         _ => false,
     }
 }
 
-/// Whether one of these items names an operation.
-fn one_names(items: &[Item], op: OpPlace) -> bool
-    ensures { result ≡ spec.one_names items.now op.0 op.1 }
+/// Whether one of these items names an operation of a node.
+fn one_names(items: &[Item], node: NodeIx, op: usize) -> bool
+    ensures { result ≡ list_any (spec.names node op) items.now }
 {
-    items.iter().any(|item| item_names(op, *item))
+    items.iter().any(|item| names(*item, node, op))
 }
 
 /// What stands before an operation.
@@ -99,15 +98,15 @@ fn before_op(look: Look) -> &'static [u8]
 fn put_op_label(
     out: &mut Vec<u8>,
     look: Look,
-    log: &PlacedHistory<'_>,
+    log: &Log<'_>,
     items: &[Item],
     node: NodeIx,
     op: usize,
-) -> Result<(), AllocError>
+) -> Said
     ensures text { OnOk result (out.new.items
         ≡ out.old.items ++ spec.op_label look log.now items.now node op) }
 {
-    if one_names(items, (node, op)) {
+    if one_names(items, node, op) {
         say!(out, log; Text(before_op(look)), Listed(node, op), AtLine(node, op))
     } else {
         Ok(())
@@ -116,13 +115,7 @@ fn put_op_label(
 
 /// Appends the labels of the operations of a node that these items name.
 #[tactic(auto, using(std::proofs::lemmas::Grind::common_steps, crate::proofs::Pieces::labels_more))]
-fn put_op_labels(
-    out: &mut Vec<u8>,
-    look: Look,
-    log: &PlacedHistory<'_>,
-    items: &[Item],
-    node: NodeIx,
-) -> Result<(), AllocError>
+fn put_op_labels(out: &mut Vec<u8>, look: Look, log: &Log<'_>, items: &[Item], node: NodeIx) -> Said
     ensures text { OnOk result (out.new.items ≡ out.old.items ++ spec.op_labels look log.now
         items.now node (length ((log_of log.now.history.now).ops node))) }
 {
@@ -133,13 +126,7 @@ fn put_op_labels(
 }
 
 /// Appends the box of a node with these edges, where there are any.
-fn put_box(
-    out: &mut Vec<u8>,
-    look: Look,
-    log: &PlacedHistory<'_>,
-    node: NodeIx,
-    edges: &[Item],
-) -> Result<(), AllocError>
+fn put_box(out: &mut Vec<u8>, look: Look, log: &Log<'_>, node: NodeIx, edges: &[Item]) -> Said
     ensures text { OnOk result (out.new.items
         ≡ out.old.items ++ spec.box look log.now node edges.now) }
 {
@@ -163,9 +150,9 @@ pub fn put_boxes(
     alloc: Global,
     out: &mut Vec<u8>,
     look: Look,
-    log: &PlacedHistory<'_>,
+    log: &Log<'_>,
     items: &[Item],
-) -> Result<(), AllocError>
+) -> Said
     ensures text { OnOk result (out.new.items ≡ out.old.items
         ++ spec.boxes look log.now items.now (log_of log.now.history.now).nodes) }
 {
@@ -179,15 +166,10 @@ pub fn put_boxes(
 
 /// Appends a line for each transaction that takes part, with those of its operations that reasons
 /// name.
-pub fn put_table(
-    alloc: Global,
-    out: &mut Vec<u8>,
-    log: &PlacedHistory<'_>,
-    items: &[Item],
-) -> Result<(), AllocError>
+pub fn put_table(alloc: Global, out: &mut Vec<u8>, log: &Log<'_>, items: &[Item]) -> Said
     ensures text { OnOk result (out.new.items
         ≡ out.old.items ++ spec.table_text log.now items.now) }
 {
-    out.extend_from_slice(b"the reads and writes that matter:\n")?;
+    say!(out, log; Text(b"the reads and writes that matter:\n"))?;
     put_boxes(alloc, out, Look::Line, log, items)
 }

@@ -5,10 +5,10 @@ ghost use Rattle.std.specs.List.{flat_map};
 ghost use Rattle.tell_texts.specs.Graphs as spec;
 
 use crate::boxes::{Look, put_boxes};
-use log_lines::PlacedHistory;
+use log_lines::PlacedHistory as Log;
 use reasons::Reason;
-use std::alloc::{AllocError, Global};
-use tell_reasons::{Why, put_versions, say};
+use std::alloc::Global;
+use tell_reasons::{Said, Why, put_versions, say};
 use tell_steps::Item;
 
 /// The kind of a reason, and behind it the colour of an arrow for which there is such a one.
@@ -25,7 +25,7 @@ fn reason_look(reason: Reason) -> &'static [u8]
 }
 
 /// Appends the kind of an edge, and behind it the colour of its arrow.
-fn put_look(out: &mut Vec<u8>, log: &PlacedHistory<'_>, why: Why) -> Result<(), AllocError>
+fn put_look(out: &mut Vec<u8>, log: &Log<'_>, why: Why) -> Said
     ensures text { OnOk result (out.new.items ≡ out.old.items ++ spec.why_look log.now why) }
 {
     match why {
@@ -40,7 +40,7 @@ fn put_look(out: &mut Vec<u8>, log: &PlacedHistory<'_>, why: Why) -> Result<(), 
 }
 
 /// Appends the arrow of an item, where it is an edge.
-fn put_arrow(out: &mut Vec<u8>, log: &PlacedHistory<'_>, item: Item) -> Result<(), AllocError>
+fn put_arrow(out: &mut Vec<u8>, log: &Log<'_>, item: Item) -> Said
     ensures text { OnOk result (out.new.items ≡ out.old.items ++ spec.arrow log.now item) }
 {
     match item {
@@ -55,7 +55,7 @@ fn put_arrow(out: &mut Vec<u8>, log: &PlacedHistory<'_>, item: Item) -> Result<(
 }
 
 /// Appends the arrows of the edges.
-fn put_arrows(out: &mut Vec<u8>, log: &PlacedHistory<'_>, items: &[Item]) -> Result<(), AllocError>
+fn put_arrows(out: &mut Vec<u8>, log: &Log<'_>, items: &[Item]) -> Said
     ensures text { OnOk result (out.new.items
         ≡ out.old.items ++ flat_map (spec.arrow log.now) items.now) }
 {
@@ -68,18 +68,12 @@ fn put_arrows(out: &mut Vec<u8>, log: &PlacedHistory<'_>, items: &[Item]) -> Res
 /// Appends an explanation as a graph: a box for each transaction that takes part, with those of its
 /// operations that reasons name, and an arrow for each edge. Where memory runs out, a part of the
 /// graph may have been appended.
-pub fn put_graph(
-    alloc: Global,
-    out: &mut Vec<u8>,
-    log: &PlacedHistory<'_>,
-    items: &[Item],
-) -> Result<(), AllocError>
+pub fn put_graph(alloc: Global, out: &mut Vec<u8>, log: &Log<'_>, items: &[Item]) -> Said
     ensures text { OnOk result (out.new.items
         ≡ out.old.items ++ spec.graph_text log.now items.now) }
 {
-    out.extend_from_slice(b"strict digraph explanation {\nnode [shape=box];\n")?;
+    say!(out, log; Text(b"strict digraph explanation {\nnode [shape=box];\n"))?;
     put_boxes(alloc, out, Look::Box, log, items)?;
     put_arrows(out, log, items)?;
-    out.extend_from_slice(b"}\n")?;
-    Ok(())
+    say!(out, log; Text(b"}\n"))
 }

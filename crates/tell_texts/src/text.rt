@@ -3,15 +3,14 @@
 ghost use Rattle.std.specs.Prelude.{◌≡◌, ◌*◌, ◌++◌, false, OnOk};
 ghost use Rattle.tell_texts.specs.Texts as spec;
 
-use log_lines::PlacedHistory;
+use log_lines::PlacedHistory as Log;
 use serializability::NodeIx;
-use std::alloc::AllocError;
-use tell_reasons::{ChainOrder, put_edge, put_since, put_versions, say};
+use tell_reasons::{ChainOrder, Said, put_edge, put_since, put_versions, say};
 use tell_steps::Item;
 
 /// Appends two blanks for each choice that is decided.
 #[tactic(auto, using(std::proofs::Common::append_assoc, crate::proofs::Pieces::indent_more))]
-fn put_indent(out: &mut Vec<u8>, depth: usize) -> Result<(), AllocError>
+fn put_indent(out: &mut Vec<u8>, depth: usize) -> Said
     ensures text { OnOk result (out.new.items ≡ out.old.items ++ spec.indent depth) }
 {
     for _ in 0..depth {
@@ -24,11 +23,11 @@ fn put_indent(out: &mut Vec<u8>, depth: usize) -> Result<(), AllocError>
 /// second version itself.
 fn put_reader(
     out: &mut Vec<u8>,
-    log: &PlacedHistory<'_>,
+    log: &Log<'_>,
     order: &ChainOrder,
     source: NodeIx,
     target: NodeIx,
-) -> Result<(), AllocError>
+) -> Said
     ensures text { OnOk result (out.new.items
         ≡ out.old.items ++ spec.reader_text log.now order.now source target) }
 {
@@ -40,7 +39,7 @@ fn put_reader(
 }
 
 /// Appends the lines of an item; of several leaves how many, where that is more than are told.
-fn put_item(out: &mut Vec<u8>, log: &PlacedHistory<'_>, item: Item) -> Result<(), AllocError>
+fn put_item(out: &mut Vec<u8>, log: &Log<'_>, item: Item) -> Said
     ensures text { OnOk result (out.new.items ≡ out.old.items ++ spec.item_line log.now item) }
 {
     match item {
@@ -77,17 +76,6 @@ fn put_item(out: &mut Vec<u8>, log: &PlacedHistory<'_>, item: Item) -> Result<()
     }
 }
 
-/// Whether an edge behind an item is of a step's walk, where one in its place is or is not.
-fn walks_behind(walks: bool, item: Item) -> bool
-    ensures { result ≡ spec.walks_behind walks item }
-{
-    match item {
-        Item::Step { .. } => true,
-        Item::Edge { .. } => walks,
-        _ => false,
-    }
-}
-
 /// How deep an item stands, where so many choices are decided before it.
 fn depth_at(before: usize, walks: bool, item: Item) -> usize
     ensures { result ≡ spec.depth_at before walks item }
@@ -99,34 +87,33 @@ fn depth_at(before: usize, walks: bool, item: Item) -> usize
     }
 }
 
-/// How many choices are decided behind an item, where so many were before it.
-fn depth_behind(before: usize, item: Item) -> usize
-    ensures { result ≡ spec.depth_behind before item }
+/// How many choices are decided behind an item, where so many were before it, and whether an edge
+/// there is of a step's walk, where one in its place is or is not.
+fn behind(before: usize, walks: bool, item: Item) -> (usize, bool)
+    ensures { result ≡ spec.behind before walks item }
 {
     match item {
-        Item::Decided { depth, order: _ } => depth,
-        _ => before,
+        Item::Decided { depth, order: _ } => (depth, false),
+        Item::Step { .. } => (before, true),
+        Item::Edge { .. } => (before, walks),
+        _ => (before, false),
     }
 }
 
 /// Appends the lines of an explanation, indented by how many choices a cube decides, and the walks
 /// of steps by as much as two choices. Where memory runs out, a part of them may have been
 /// appended.
-pub fn put_items(
-    out: &mut Vec<u8>,
-    log: &PlacedHistory<'_>,
-    items: &[Item],
-) -> Result<(), AllocError>
+pub fn put_items(out: &mut Vec<u8>, log: &Log<'_>, items: &[Item]) -> Said
     ensures text { OnOk result (out.new.items
         ≡ out.old.items ++ spec.items_text log.now 0 false items.now) }
 {
-    let mut depth = 0;
-    let mut walks = false;
+    let (mut depth, mut walks) = (0, false);
     for item in items {
         put_indent(out, depth_at(depth, walks, *item))?;
         put_item(out, log, *item)?;
-        depth = depth_behind(depth, *item);
-        walks = walks_behind(walks, *item);
+        let next = behind(depth, walks, *item);
+        depth = next.0;
+        walks = next.1;
     }
     Ok(())
 }

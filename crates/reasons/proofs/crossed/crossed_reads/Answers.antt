@@ -1,4 +1,4 @@
-use Rattle.reasons.proofs.Crossing.{none_crossed}
+use Rattle.reasons.proofs.Squares.{none_crossed}
 use Rattle.reasons.proofs.crossed.crossed_reads.Goals as goal
 
 pub returns-in-None : goal.returns-in-None

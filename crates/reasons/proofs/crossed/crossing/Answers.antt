@@ -1,5 +1,5 @@
 use Rattle.reason_laws.specs.declared.crossing.Crossing.{Crossing}
-use Rattle.reasons.proofs.Crossing.{crossed_by}
+use Rattle.reasons.proofs.Squares.{crossed_by}
 use Rattle.reasons.proofs.crossed.crossing.Goals as goal
 
 pub returns : goal.returns

@@ -1,6 +1,6 @@
 use Rattle.std.proofs.Common.{◌≡◌, ◌-◌, ◌^◌, min}
 use Rattle.log_definitions.specs.Numbers.{log_of}
-use Rattle.reasons.proofs.Looks.{looks_below}
+use Rattle.reasons.proofs.Pairs.{looks_below}
 use Rattle.reasons.proofs.crossed.looks_of.Given as goal
 
 abbrev pub invariant-loop-number : goal.invariant-loop-number

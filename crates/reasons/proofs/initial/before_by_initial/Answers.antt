@@ -1,4 +1,4 @@
-use Rattle.reasons.proofs.Beginnings.{none_initial}
+use Rattle.reasons.proofs.Initials.{none_initial}
 use Rattle.reasons.proofs.initial.before_by_initial.Goals as goal
 
 pub returns-in-None-clause-none : goal.returns-in-None-clause-none

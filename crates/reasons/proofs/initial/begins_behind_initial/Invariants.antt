@@ -1,5 +1,5 @@
 use Rattle.log_definitions.specs.Numbers.{log_of}
-use Rattle.reasons.specs.Events.{NoneBefore}
+use Rattle.reasons.specs.Firsts.{NoneBefore}
 use Rattle.reasons.specs.Initials.{IsBeginning, ArePlain}
 use Rattle.reasons.proofs.initial.begins_behind_initial.Given as goal
 

@@ -1,12 +1,12 @@
-use Rattle.std.proofs.Common.{ap, length, arith}
+use Rattle.std.proofs.Common.{arith}
 use Rattle.std.proofs.lemmas.Bool.{false≢true}
 use Rattle.log_definitions.specs.Numbers.{log_of}
 use Rattle.reason_laws.proofs.Numbers.{within}
-use Rattle.reasons.proofs.Walked.{zero_unread, too_far}
+use Rattle.reasons.proofs.Initials.{zero_unread, too_far}
 use Rattle.reasons.proofs.initial.follows_initial.Goals as goal
 
 pub returns : goal.returns
 returns c =
     let ss = c.args.history.now in
-    let far = too_far (log_of ss) c.args.key (zero_unread ss c.args.key) c.requires.clean c.args.node c.loop-step.first c.loop-step.step c.requires.node.0 (within ss c.args.node c.requires.node) c.loop-step.invariant (omega (arith, c.loop-step-test.false, ap length c.writers_of.ensures.writers)) in
+    let far = too_far (log_of ss) c.args.key (zero_unread ss c.args.key) c.args.node c.loop-step.first c.loop-step.step (within ss c.args.node c.requires.node) c.loop-step.invariant (omega (arith, c.loop-step-test.false, c.committed-step-end.ensures.count)) in
     (λ t. absurd (false≢true t), λ f. absurd (far f))

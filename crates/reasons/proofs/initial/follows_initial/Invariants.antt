@@ -1,5 +1,5 @@
 use Rattle.log_definitions.specs.Numbers.{log_of}
-use Rattle.reasons.proofs.Walked.{Walked}
+use Rattle.reasons.proofs.Initials.{Walked}
 use Rattle.reasons.proofs.initial.follows_initial.Given as goal
 
 abbrev pub invariant-loop-step : goal.invariant-loop-step

@@ -1,6 +1,6 @@
 use Rattle.std.proofs.Common.{arith, ap, length}
 use Rattle.log_definitions.specs.Numbers.{log_of}
-use Rattle.reasons.proofs.Least.{least_all}
+use Rattle.reasons.proofs.Overwrites.{least_all}
 use Rattle.reasons.proofs.overwritten.least_write.Goals as goal
 
 pub returns : goal.returns

@@ -1,6 +1,6 @@
 use Rattle.std.proofs.Common.{sym, ◌∙◌}
 use Rattle.std.proofs.lemmas.Bool.{eqb-false, not-true}
-use Rattle.reasons.proofs.Named.{none_of_other}
+use Rattle.reasons.proofs.Firsts.{none_of_other}
 use Rattle.reasons.proofs.read.may_name.Goals as goal
 
 pub returns-in-Some : goal.returns-in-Some

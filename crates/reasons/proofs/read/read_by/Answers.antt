@@ -1,4 +1,4 @@
-use Rattle.reasons.proofs.Named.{none_read, some_named}
+use Rattle.reasons.proofs.Firsts.{none_read, some_named}
 use Rattle.reasons.proofs.read.read_by.Goals as goal
 
 pub returns-in_default-clause-none : goal.returns-in_default-clause-none

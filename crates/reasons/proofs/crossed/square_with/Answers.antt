@@ -1,9 +1,9 @@
 use Rattle.std.proofs.Common.{sym, subst, take, take_all}
 use Rattle.std.specs.BTreeMap.{get}
 use Rattle.list_lemmas.proofs.Lists.{front_more}
-use Rattle.reasons.specs.Squares.{pair_cmp, triple_cmp}
+use Rattle.reasons.specs.Crossed.{pair_cmp, triple_cmp}
 use Rattle.reasons.proofs.Squares.{IsMet, entered, none_met}
-use Rattle.reasons.proofs.crossings.square_with.Goals as goal
+use Rattle.reasons.proofs.crossed.square_with.Goals as goal
 
 pub loop-pair-preserved : goal.loop-pair-preserved
 loop-pair-preserved c =

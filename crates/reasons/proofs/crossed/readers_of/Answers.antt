@@ -4,9 +4,9 @@ use Rattle.std.proofs.lemmas.Iterator.{YieldsList-from_map, YieldsList-from_slic
 use Rattle.std.proofs.lemmas.Iterator.Adapters.{fact_from_collect}
 use Rattle.std.proofs.lemmas.Iterator.Consumers.{YieldsList-at}
 use Rattle.std.proofs.lemmas.Result.{IfOk-weaker}
-use Rattle.reasons.specs.Squares.{triple_cmp, by_versions, AreReaders}
+use Rattle.reasons.specs.Crossed.{triple_cmp, by_versions, AreReaders}
 use Rattle.reasons.proofs.Squares.{are_readers}
-use Rattle.reasons.proofs.crossings.readers_of.Goals as goal
+use Rattle.reasons.proofs.crossed.readers_of.Goals as goal
 
 pub returns : goal.returns
 returns c =
