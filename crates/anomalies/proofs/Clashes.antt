@@ -1,23 +1,13 @@
 -- The least clash among the writers of a key, one writer further.
-use Rattle.std.proofs.Common.{◌≡◌, ℕ, zero, suc, ◌+◌, ◌<◌, ◌≤◌, Bool, true, false, eqb, cond, ◌&&◌, List, [], ◌∷◌, ◌++◌, length, get_or, Option, None, Some, refl, sym, ap, ◌∙◌, subst, inl, inr, arith, eq-eqb, ne_eqb}
-use Rattle.std.specs.Prelude.{map, option_and_then}
-use Rattle.std.specs.List.{filter, flat_map, range_with_len}
-use Rattle.std.specs.Option.{option_map, option_map_or, option_or}
-use Rattle.std.proofs.lemmas.Bool.{cases_eq, cases_lt, cond-true, cond-false, lt-ltb, le-ltb}
-use Rattle.std.proofs.lemmas.List.{append-nil, get_or_default}
+use Rattle.anomalies.proofs.Prelude.{◌≡◌, ℕ, zero, suc, ◌+◌, ◌<◌, ◌≤◌, Bool, true, false, eqb, cond, ◌&&◌, List, [], ◌∷◌, ◌++◌, length, get_or, Option, None, Some, refl, sym, ap, ◌∙◌, subst, inl, inr, arith, eq-eqb, ne_eqb, map}
+use Rattle.anomalies.proofs.Prelude.{option_and_then, filter, flat_map, range_with_len, option_map, option_map_or, option_or, cases_eq, cases_lt, cond-true, cond-false, lt-ltb, le-ltb, append-nil, get_or_default, Anomaly, Log, committed}
+use Rattle.anomalies.proofs.Prelude.{source, first_some, updates, lost_update, Clash, lost_updates_of, lost_by, readers_from, first_of, first_two, updater_of, AreOfKeysBelow, AreFirst, clash_from, clash_with, lesser, IsLeastClash}
+use Rattle.anomalies.proofs.Prelude.{source_within, first-append}
 use Rattle.std.proofs.lemmas.List.Elements.{filter-append}
-use Rattle.serializability.specs.declared.anomaly.Anomaly.{Anomaly}
-use Rattle.serializability.specs.Log.{Log}
-use Rattle.serializability.specs.Polygraph.{committed, source}
 use Rattle.serializability.specs.Pairs.{pairs_of}
-use Rattle.serializability.specs.Anomalies.{first_some, updates, lost_update}
 use Rattle.serializability.proofs.Serial.{some_cases}
 use Rattle.session_history.specs.Tables.{writers_in}
-use Rattle.anomalies.specs.declared.updates.Clash.{Clash}
 use Rattle.anomalies.specs.declared.updates.Updater.{Updater}
-use Rattle.anomalies.specs.Updates.{lost_updates_of, lost_by, readers_from, first_of, first_two, updater_of, AreOfKeysBelow, AreFirst, clash_from, clash_with, lesser, IsLeastClash}
-use Rattle.serializability.proofs.Sources.{source_within}
-use Rattle.anomaly_laws.proofs.First.{first-append}
 
 -- ---- the readers from u, one node further
 further : (log : Log) (x u v : ℕ) (nodes : List ℕ) (b : Bool) → option_map_or (λ s. eqb s u) (source log v x) false ≡ b → readers_from log x u (nodes ++ v ∷ []) ≡ readers_from log x u nodes ++ cond b (v ∷ []) []

@@ -1,3 +1,4 @@
+mod Prelude
 mod Sound
 mod Named
 mod Usages

@@ -1,15 +1,6 @@
 -- The marks of a node's operations, one operation further.
-use Rattle.std.proofs.Common.{◌≡◌, ℕ, ◌+◌, ◌<◌, eqb, List, [], ◌∷◌, ◌++◌, length, get_or, set, Option, None, Some, refl, sym, ap, ◌∙◌, subst, arith, eq-eqb, inl, inr}
-use Rattle.std.specs.Option.{IfSome}
-use Rattle.std.proofs.lemmas.Bool.{cases_eq, cond-true, cond-false}
-use Rattle.std.proofs.lemmas.List.{get_or-set_same, get_or-set_other, length-set}
-use Rattle.serializability.specs.declared.event.Event.{Event}
-use Rattle.serializability.specs.Log.{Log}
-use Rattle.serializability.specs.Anomalies.{event_anomaly}
-use Rattle.anomalies.specs.declared.reads.LastUse.{LastUse}
-use Rattle.anomalies.specs.declared.reads.Usage.{Usage}
-use Rattle.serializability.specs.Events.{event_key}
-use Rattle.anomalies.specs.Usage.{IsUsage, used_by, used_after, AreBelow, AreMarked}
+use Rattle.anomalies.proofs.Prelude.{◌≡◌, ℕ, ◌+◌, ◌<◌, eqb, List, [], ◌∷◌, ◌++◌, length, get_or, set, Option, None, Some, refl, sym, ap, ◌∙◌, subst, arith, eq-eqb, inl, inr, IfSome, cases_eq, cond-true, cond-false, get_or-set_same}
+use Rattle.anomalies.proofs.Prelude.{get_or-set_other, length-set, Event, Log, event_anomaly, LastUse, Usage, event_key, IsUsage, used_by, used_after, AreBelow, AreMarked}
 use Rattle.anomalies.proofs.Usages.{usage_more, usage_other}
 
 -- ---- before the first operation

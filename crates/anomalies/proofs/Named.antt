@@ -1,17 +1,7 @@
 -- The anomaly of an external read by the write that it names.
-use Rattle.std.proofs.Common.{◌≡◌, ◌≢◌, ℕ, Bool, true, false, eqb, cond, not, ◌&&◌, List, ◌∷◌, ◌++◌, Option, None, Some, sym, ap, ◌∙◌, inl, inr, arith, append_assoc, eq-eqb, ne_eqb}
-use Rattle.std.specs.List.{list_any}
-use Rattle.std.specs.Option.{option_map_or}
-use Rattle.std.proofs.lemmas.Bool.{false≢true, cond-true, cond-false, false_from_ne_true, and_left, and_right, and_from, not_from_true, not_from_false}
-use Rattle.serializability.specs.declared.event.Event.{Event}
-use Rattle.serializability.specs.declared.event.Event.TheVariants.{Read, Write}
-use Rattle.serializability.specs.declared.anomaly.ReadAnomaly.{ReadAnomaly}
-use Rattle.serializability.specs.declared.anomaly.ReadAnomaly.TheVariants.{Unknown, Aborted, Future, Intermediate}
-use Rattle.serializability.specs.Log.{Log}
-use Rattle.serializability.specs.Reads.{last_write, WritesAfter, IsNumbered}
-use Rattle.serializability.specs.Polygraph.{committed}
-use Rattle.serializability.specs.Anomalies.{writes_as, is_unknown, is_aborted, is_intermediate, external_anomaly}
-use Rattle.serializability.proofs.Sources.{Has-from_range, range-from_Has, any_found, any_from, wrote_is}
+use Rattle.anomalies.proofs.Prelude.{◌≡◌, ◌≢◌, ℕ, Bool, true, false, eqb, cond, not, ◌&&◌, List, ◌∷◌, ◌++◌, Option, None, Some, sym, ap, ◌∙◌, inl, inr, arith, append_assoc, eq-eqb, ne_eqb, list_any, option_map_or, false≢true, cond-true}
+use Rattle.anomalies.proofs.Prelude.{cond-false, false_from_ne_true, and_left, and_right, and_from, not_from_true, not_from_false, Event, Read, Write, ReadAnomaly, Unknown, Aborted, Future, Intermediate, Log, last_write, WritesAfter}
+use Rattle.anomalies.proofs.Prelude.{IsNumbered, committed, writes_as, is_unknown, is_aborted, is_intermediate, external_anomaly, Has-from_range, range-from_Has, any_found, any_from, wrote_is, StandsAt, split_anomaly}
 use Rattle.session_history.specs.Writes.{IsUnwritten, IsNodesWrite, IsWrite}
 use Rattle.anomaly_laws.specs.Aborted.{WritesAborted}
 use Rattle.anomaly_laws.specs.Meaning.{IsIntermediateWrite}
@@ -19,7 +9,6 @@ use Rattle.anomaly_laws.proofs.Lists.{contains_at}
 use Rattle.anomaly_laws.proofs.Writes.{writes_split, writes_at, writes_behind}
 use Rattle.anomaly_laws.proofs.Tests.{aborted_writes, intermediate_write, aborted_from as aborted}
 use Rattle.session_history.proofs.Identified.{writes_where_contained}
-use Rattle.anomalies.specs.Usage.{StandsAt, split_anomaly}
 use Rattle.anomalies.proofs.Sound.{IsSound, same_at, same_key}
 
 -- ---- the five tests in turn

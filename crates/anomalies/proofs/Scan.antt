@@ -1,13 +1,6 @@
 -- The first of the results over a range of nodes or keys, and over the operations of a node.
-use Rattle.std.proofs.Common.{◌≡◌, ℕ, ◌+◌, ◌-◌, ◌<◌, ◌≤◌, List, length, get_or, take, drop, Option, None, Some, sym, ap, ◌∙◌, arith}
-use Rattle.std.specs.Prelude.{map}
-use Rattle.std.specs.List.{flat_map, range_with_len}
-use Rattle.std.specs.Option.{option_or}
-use Rattle.std.proofs.lemmas.List.{at_drop_more, at_drop_all, take_more}
-use Rattle.serializability.specs.declared.event.Event.{Event}
-use Rattle.serializability.specs.declared.anomaly.Anomaly.{Anomaly}
-use Rattle.serializability.specs.Anomalies.{Place, places_from, first_some}
-use Rattle.anomaly_laws.proofs.First.{first-append}
+use Rattle.anomalies.proofs.Prelude.{◌≡◌, ℕ, ◌+◌, ◌-◌, ◌<◌, ◌≤◌, List, length, get_or, take, drop, Option, None, Some, sym, ap, ◌∙◌, arith, map, flat_map, range_with_len, option_or, at_drop_more, at_drop_all, take_more, Event, Anomaly}
+use Rattle.anomalies.proofs.Prelude.{Place, places_from, first_some, first-append}
 
 -- ---- what G gives for the numbers from v up to the end
 abbrev pub first_from : {X : Type 0} → (X → Option Anomaly) → (ℕ → List X) → ℕ → ℕ → Option Anomaly

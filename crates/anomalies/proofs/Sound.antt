@@ -1,27 +1,19 @@
 -- What holds of the log of well-formed sessions besides: aborted transactions write no identity twice, and keys are below
 -- their count.
-use Rattle.std.proofs.Common.{◌≡◌, ℕ, zero, suc, ◌<◌, not, List, [], ◌∷◌, ◌++◌, length, get_or, Some, refl, sym, ap, ◌∙◌, arith}
-use Rattle.std.specs.Prelude.{map, slice_get}
-use Rattle.std.specs.List.{filter, AllByRecursion, Contains}
-use Rattle.std.proofs.lemmas.List.{append_cancel_left}
+use Rattle.anomalies.proofs.Prelude.{◌≡◌, ℕ, zero, suc, ◌<◌, not, List, [], ◌∷◌, ◌++◌, length, get_or, Some, refl, sym, ap, ◌∙◌, arith, map, slice_get, filter, AllByRecursion, Contains, append_cancel_left, Event, Write, Log, IsNumbered}
+use Rattle.anomalies.proofs.Prelude.{events_of, log_of, IsWellFormedList, event_key}
 use Rattle.session_log.specs.Text.{ClientSession, Transaction, key_of as op_key}
 use Rattle.session_log.specs.declared.session.Op.{Op}
-use Rattle.serializability.specs.declared.event.Event.{Event}
-use Rattle.serializability.specs.declared.event.Event.TheVariants.{Write}
-use Rattle.serializability.specs.Log.{Log}
-use Rattle.serializability.specs.Reads.{IsNumbered}
 use Rattle.serializability.proofs.Places.{Apart-from_IsDistinct}
 use Rattle.log_definitions.specs.Unknown.{txns_in, ops_in, is_committed, resolved}
 use Rattle.log_definitions.specs.WellFormed.{keys_in, written}
 use Rattle.log_definitions.specs.Serial.{ops_of}
-use Rattle.log_definitions.specs.Numbers.{events_of, log_of, IsWellFormedList}
 use Rattle.log_definitions.proofs.Keys.{Listed, all_listed, number_below}
 use Rattle.log_definitions.proofs.Settled.{txn_ops}
 use Rattle.log_definitions.proofs.Nodes.{each_op}
 use Rattle.log_definitions.proofs.Scanning.{rules_where_no_fault}
 use Rattle.log_definitions.proofs.Identities.{WriteOnce, once_resolved, WriteOnce-filter, apart_at, one_writer, Has_written, same_write}
 use Rattle.log_definitions.proofs.Numbered.{numbered}
-use Rattle.serializability.specs.Events.{event_key}
 
 pub record IsSound (log : Log) : Type 0 where
   pub numbered : IsNumbered log

@@ -1,17 +1,7 @@
 -- One turn of the loop over a node's operations.
-use Rattle.std.proofs.Common.{◌≡◌, ℕ, zero, suc, ◌+◌, ◌<◌, ◌≤◌, List, [], ◌∷◌, length, get_or, set, take, drop, Option, None, Some, sym, ap, ◌∙◌, subst, arith}
-use Rattle.std.specs.List.{AllByRecursion}
-use Rattle.std.specs.Option.{option_map, option_or}
-use Rattle.std.proofs.lemmas.List.{take-append-drop, drop_more, take_more, length-take-le, get_or_default}
-use Rattle.serializability.specs.declared.event.Event.{Event}
+use Rattle.anomalies.proofs.Prelude.{◌≡◌, ℕ, zero, suc, ◌+◌, ◌<◌, ◌≤◌, List, [], ◌∷◌, length, get_or, set, take, drop, Option, None, Some, sym, ap, ◌∙◌, subst, arith, AllByRecursion, option_map, option_or, take-append-drop, drop_more}
+use Rattle.anomalies.proofs.Prelude.{take_more, length-take-le, get_or_default, Event, ReadAnomaly, Log, event_anomaly, anomaly_at, LastUse, Usage, event_key, StandsAt, IsUsage, used_by, used_after, AreMarked}
 use Rattle.serializability.specs.declared.anomaly.Anomaly.TheVariants as anomaly
-use Rattle.serializability.specs.declared.anomaly.ReadAnomaly.{ReadAnomaly}
-use Rattle.serializability.specs.Log.{Log}
-use Rattle.serializability.specs.Anomalies.{event_anomaly, anomaly_at}
-use Rattle.anomalies.specs.declared.reads.LastUse.{LastUse}
-use Rattle.anomalies.specs.declared.reads.Usage.{Usage}
-use Rattle.serializability.specs.Events.{event_key}
-use Rattle.anomalies.specs.Usage.{StandsAt, IsUsage, used_by, used_after, AreMarked}
 use Rattle.anomalies.proofs.Sound.{IsSound}
 use Rattle.anomalies.proofs.Marks.{mark_of, marked_more}
 use Rattle.anomalies.proofs.Scan.{first_behind, first_behind-more}

@@ -1,24 +1,12 @@
 -- What a transaction's operations did to a key, one operation further.
-use Rattle.std.proofs.Common.{◌≡◌, ℕ, Bool, true, false, eqb, cond, not, ◌&&◌, ◌||◌, List, [], ◌∷◌, ◌++◌, Option, None, Some, refl, sym, ap, ◌∙◌, eq-eqb, arith}
+use Rattle.anomalies.proofs.Prelude.{◌≡◌, ℕ, Bool, true, false, eqb, cond, not, ◌&&◌, ◌||◌, List, [], ◌∷◌, ◌++◌, Option, None, Some, refl, sym, ap, ◌∙◌, eq-eqb, arith, list_any, option_or, cond-false, and_left, not-false, eqb-true, Event}
+use Rattle.anomalies.proofs.Prelude.{Read, Write, ReadAnomaly, Split, Log, last_write, is_other_read, external_anomaly, read_anomaly, event_anomaly, Usage, event_key, split_anomaly, own_write, names_other, IsUsage, used_after}
 use Rattle.std.specs.Bool.{then_some}
-use Rattle.std.specs.List.{list_any}
-use Rattle.std.specs.Option.{option_or}
-use Rattle.std.proofs.lemmas.Bool.{cond-false, and_left, not-false, eqb-true}
 use Rattle.std.proofs.lemmas.List.Folds.{list_any-append}
-use Rattle.serializability.specs.declared.event.Event.{Event}
-use Rattle.serializability.specs.declared.event.Event.TheVariants.{Read, Write}
-use Rattle.serializability.specs.declared.anomaly.ReadAnomaly.{ReadAnomaly}
-use Rattle.serializability.specs.declared.anomaly.ReadAnomaly.TheVariants.{Split}
-use Rattle.serializability.specs.Log.{Log}
-use Rattle.serializability.specs.Reads.{last_write}
-use Rattle.serializability.specs.Anomalies.{is_other_read, external_anomaly, read_anomaly, event_anomaly}
 use Rattle.serializability.proofs.Replays.{last_write-append}
-use Rattle.anomalies.specs.declared.reads.Usage.{Usage}
 use Rattle.anomalies.specs.declared.reads.Usage.TheVariants as usage
-use Rattle.serializability.specs.Events.{event_key}
 use Rattle.anomaly_laws.proofs.Clean.{not_first}
 use Rattle.session_history.proofs.KeyRows.{last_write_written, last_write_read}
-use Rattle.anomalies.specs.Usage.{split_anomaly, own_write, names_other, IsUsage, used_after}
 
 -- ---- the anomaly of a read
 or_none : {X : Type 0} (o : Option X) → option_or o None ≡ o

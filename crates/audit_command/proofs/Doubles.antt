@@ -1,10 +1,7 @@
 -- Parts of which none holds another one, the least first.
-use Rattle.std.proofs.Common.{◌≡◌, ◌<◌, length, length-append, arith, true, false, List, [], ◌∷◌, ◌++◌, remove, refl, ap, subst}
+use Rattle.audit_command.proofs.Prelude.{◌≡◌, ◌<◌, length, length-append, arith, true, false, List, [], ◌∷◌, ◌++◌, remove, refl, ap, subst, or_parts, all_more, ToldPart, AreDistinct, IsOther, IsNoLarger, AreLeastFirst, holds_txns}
+use Rattle.audit_command.proofs.Prelude.{holds_one}
 use Rattle.std.proofs.lemmas.List.Quantifiers.{all_pairs_remove}
-use Rattle.std.proofs.lemmas.Bool.{or_parts}
-use Rattle.session_log.proofs.Adding.{all_more}
-use Rattle.audit_report.specs.declared.told.ToldPart.{ToldPart}
-use Rattle.audit_command.specs.Distinct.{AreDistinct, IsOther, IsNoLarger, AreLeastFirst, holds_txns, holds_one}
 
 pub one_more : (ps : List ToldPart) (p : ToldPart) → AreDistinct ps → holds_one ps p ≡ false → AreDistinct (ps ++ p ∷ [])
 one_more [] p h e = (tt, tt)

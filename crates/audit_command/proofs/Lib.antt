@@ -1,3 +1,4 @@
+mod Prelude
 mod Parts
 mod Doubles
 mod Points

@@ -1,24 +1,11 @@
 -- What holds of levels below snapshot isolation, from verdicts.
-use Rattle.std.proofs.Common.{◌≡◌, ℕ, List, Option, None, Some, refl, sym, subst}
-use Rattle.std.specs.Prelude.{IfSome}
-use Rattle.session_log.specs.Text.{ClientSession}
-use Rattle.log_definitions.specs.Unknown.{resolved}
+use Rattle.audit_command.proofs.Prelude.{◌≡◌, ℕ, List, Option, None, Some, refl, sym, subst, IfSome, ClientSession, resolved, IsVerdict, IsMade, IsToldPart, JudgeMeans, RefutedPart, Verdict, IsPartOf, IsPartOfVerdict, IsPartTold}
+use Rattle.audit_command.proofs.Prelude.{verdict_word, refuted_of, IsRefutedWhere, IsWeakest, asked_at, unless_shown, IsLowest, AuditOptions, Answer, ToldPart, Word}
 use Rattle.isolation.specs.declared.level.Isolation.{Isolation}
-use Rattle.judging.specs.Judges.{IsVerdict}
-use Rattle.judging.specs.Made.{IsMade, IsToldPart}
-use Rattle.judging.specs.declared.means.JudgeMeans.{JudgeMeans}
-use Rattle.judging.specs.declared.judged.RefutedPart.{RefutedPart}
-use Rattle.judging.specs.declared.judged.Verdict.{Verdict}
 use Rattle.judging.specs.declared.judged.Verdict.TheVariants as verdict
 use Rattle.audit_command.specs.Levels.{judged_of}
 use Rattle.audit_report.specs.Lower.{or_above}
-use Rattle.audit_command.specs.Resolved.{IsPartOf, IsPartOfVerdict}
-use Rattle.audit_command.specs.Audited.{IsPartTold, verdict_word, refuted_of, IsRefutedWhere, IsWeakest, asked_at, unless_shown, IsLowest}
 use Rattle.audit_report.specs.Objects.{parts_of}
-use Rattle.audit_command.specs.declared.options.AuditOptions.{AuditOptions}
-use Rattle.audit_report.specs.declared.told.Answer.{Answer}
-use Rattle.audit_report.specs.declared.told.ToldPart.{ToldPart}
-use Rattle.audit_report.specs.declared.told.Word.{Word}
 use Rattle.audit_report.specs.declared.told.Word.TheVariants as word
 
 -- ---- a verdict

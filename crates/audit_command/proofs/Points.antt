@@ -1,22 +1,13 @@
 -- The text of an order of a level.
-use Rattle.std.proofs.Common.{◌≡◌, ℕ, List, sym, ap, ◌∙◌, subst, true, false}
-use Rattle.session_log.specs.Text.{ClientSession}
-use Rattle.log_definitions.specs.Unknown.{resolved}
+use Rattle.audit_command.proofs.Prelude.{◌≡◌, ℕ, List, sym, ap, ◌∙◌, subst, true, false, ClientSession, resolved, IsLog, IsSnapshotOrder, locks_of, Level, is_split, IsOrderAt, room_resolved, judged_resolved, IsOrderText}
 use Rattle.log_definitions.specs.Serial.{IsSerialOrder}
-use Rattle.log_laws.specs.Logs.{IsLog}
-use Rattle.level_laws.specs.Snapshot.{IsSnapshotOrder}
 use Rattle.level_laws.specs.Points.{points_along}
 use Rattle.level_laws.proofs.Points.{points_of_writers}
-use Rattle.splitting.specs.Locks.{locks_of}
 use Rattle.splitting.proofs.Fresh.{locks_are_fresh}
 use Rattle.order_text.specs.Text.{order_text}
 use Rattle.point_orders.specs.Text.{points_text}
 use Rattle.point_orders.proofs.Resolved.{text_stays, points_stay, prefix_order}
-use Rattle.judging.specs.declared.level.Level.{Level}
 use Rattle.judging.specs.declared.level.Level.TheVariants as level
-use Rattle.judging.specs.Levels.{is_split, IsOrderAt}
-use Rattle.judging.proofs.Levels.{room_resolved, judged_resolved}
-use Rattle.audit_command.specs.Audited.{IsOrderText}
 
 -- ---- of transactions
 pub own_text : (l : Level) (ss : List ClientSession) (order text : List ℕ) → is_split l ≡ false → IsOrderAt l ss order → text ≡ order_text ss order → IsOrderText l ss text

@@ -1,26 +1,10 @@
 -- What telling a part needs of it, from what is known of it.
-use Rattle.std.proofs.Common.{◌≡◌, Bool, true, false, List, [], ◌∷◌, map, None, Some, sym, ap, ◌∙◌, subst}
-use Rattle.std.specs.List.{AllByRecursion}
-use Rattle.session_log.specs.Text.{ClientSession, IsLegal, view}
-use Rattle.log_definitions.specs.Unknown.{resolved}
-use Rattle.log_laws.specs.Logs.{IsSoundLog, IsLog}
+use Rattle.audit_command.proofs.Prelude.{◌≡◌, Bool, true, false, List, [], ◌∷◌, map, None, Some, sym, ap, ◌∙◌, subst, AllByRecursion, ClientSession, IsLegal, view, resolved, IsSoundLog, IsLog, no_room, Level, HasRoomAt, IsVerdict}
+use Rattle.audit_command.proofs.Prelude.{IsToldPart, IsMadeOf, IsMade, JudgeMeans, RefutedPart, Verdict, Serializable, NotSerializable, Undecided, resolved_is_log, room_resolved, legal_without, sound_without, seen, IsResolved, IsPartOf}
+use Rattle.audit_command.proofs.Prelude.{IsPartOfVerdict}
 use Rattle.part_laws.proofs.Logs.{part_is_log}
 use Rattle.splitting.specs.declared.room.NoRoom.{NoRoom}
-use Rattle.splitting.specs.Locks.{no_room}
-use Rattle.judging.specs.declared.level.Level.{Level}
 use Rattle.judging.specs.declared.level.Level.TheVariants as level
-use Rattle.judging.specs.Levels.{HasRoomAt}
-use Rattle.judging.specs.Judges.{IsVerdict}
-use Rattle.judging.specs.Made.{IsToldPart, IsMadeOf, IsMade}
-use Rattle.judging.specs.declared.means.JudgeMeans.{JudgeMeans}
-use Rattle.judging.specs.declared.judged.RefutedPart.{RefutedPart}
-use Rattle.judging.specs.declared.judged.Verdict.{Verdict}
-use Rattle.judging.specs.declared.judged.Verdict.TheVariants.{Serializable, NotSerializable, Undecided}
-use Rattle.log_laws.proofs.Resolved.{resolved_is_log}
-use Rattle.judging.proofs.Levels.{room_resolved}
-use Rattle.level_laws.proofs.Without.{legal_without, sound_without}
-use Rattle.audit_command.specs.Audited.{seen}
-use Rattle.audit_command.specs.Resolved.{IsResolved, IsPartOf, IsPartOfVerdict}
 
 pub log_of_known : (known : List ClientSession) → IsResolved known → IsLog known
 log_of_known known k = subst IsLog (sym k.is) (resolved_is_log k.ss k.legal k.sound)

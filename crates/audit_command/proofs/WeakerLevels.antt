@@ -1,26 +1,12 @@
 -- What is kept at a level is kept at a weaker one.
-use Rattle.std.proofs.Common.{◌≡◌, Bool, true, false, List, Option, None, Some, refl, subst}
-use Rattle.std.specs.Prelude.{◌&&◌, ◌||◌}
-use Rattle.std.specs.List.{AllByRecursion}
-use Rattle.session_log.specs.Text.{ClientSession, IsLegal}
-use Rattle.log_definitions.specs.Unknown.{resolved}
-use Rattle.log_laws.specs.Logs.{IsSoundLog, HasOrder}
-use Rattle.log_laws.proofs.Resolved.{nodes_stay, resolved_is_log}
-use Rattle.level_laws.specs.Snapshot.{HasSnapshotOrder}
-use Rattle.level_laws.specs.Without.{without_moments}
+use Rattle.audit_command.proofs.Prelude.{◌≡◌, Bool, true, false, List, Option, None, Some, refl, subst, ◌&&◌, ◌||◌, AllByRecursion, ClientSession, IsLegal, resolved, IsSoundLog, HasOrder, nodes_stay, resolved_is_log, HasSnapshotOrder}
+use Rattle.audit_command.proofs.Prelude.{without_moments, legal_without, sound_without, Level, HasOrderAt, serial_resolved, AuditOptions, Word, Answer, is_serial, asks_levels, asks_strict, asks_plain, at_snapshot, states_moments}
+use Rattle.audit_command.proofs.Prelude.{IsWordWhere}
 use Rattle.level_laws.proofs.Doubled.{snapshot_where_serial}
 use Rattle.level_laws.proofs.Resolved.{of_same_nodes}
 use Rattle.level_laws.proofs.Timeless.{snapshot_without_moments}
-use Rattle.level_laws.proofs.Without.{legal_without, sound_without}
-use Rattle.judging.specs.declared.level.Level.{Level}
 use Rattle.judging.specs.declared.level.Level.TheVariants as level
-use Rattle.judging.specs.Levels.{HasOrderAt}
-use Rattle.judging.proofs.Resolved.{serial_resolved}
-use Rattle.audit_command.specs.declared.options.AuditOptions.{AuditOptions}
-use Rattle.audit_report.specs.declared.told.Word.{Word}
 use Rattle.audit_report.specs.declared.told.Word.TheVariants as word
-use Rattle.audit_report.specs.declared.told.Answer.{Answer}
-use Rattle.audit_command.specs.Audited.{is_serial, asks_levels, asks_strict, asks_plain, at_snapshot, states_moments, IsWordWhere}
 use Rattle.audit_report.specs.Words.{is_kept}
 
 -- ---- what is asked

@@ -1,17 +1,13 @@
 -- The text of an order, by names.
-use Rattle.std.proofs.Common.{◌≡◌, ℕ, zero, suc, List, [], ◌∷◌, refl, ap, ◌∙◌}
-use Rattle.std.specs.Prelude.{unwrap_or, slice_get}
-use Rattle.std.specs.List.{flat_map}
+use Rattle.audit_report.proofs.Prelude.{◌≡◌, ℕ, zero, suc, List, [], ◌∷◌, refl, ap, ◌∙◌, unwrap_or, slice_get, flat_map, ClientSession, name_at, names_text}
 use Rattle.std.specs.Option.{option_map_or}
 use Rattle.std.proofs.Math.Path.{fun_ext}
-use Rattle.session_log.specs.Text.{ClientSession}
 use Rattle.log_definitions.specs.Unknown.{resolved}
 use Rattle.log_definitions.specs.Serial.{Committed, committed_in, node_in, node_of}
 use Rattle.log_laws.proofs.Resolved.{nodes_stay}
 use Rattle.session_history.specs.Tables.{name_in}
 use Rattle.node_names.specs.Names.{names_of}
 use Rattle.order_text.specs.Text.{name_line, order_text}
-use Rattle.audit_report.specs.Orders.{name_at, names_text}
 
 at_index : (nodes : List Committed) (i : ℕ) → unwrap_or (slice_get (names_of nodes) i) (0, 0) ≡ option_map_or (λ (node : Committed). (node.session, node.place)) (slice_get nodes i) (0, 0)
 at_index [] i = refl

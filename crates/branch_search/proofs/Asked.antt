@@ -1,17 +1,8 @@
 -- What a worker asks for after a split.
-use Rattle.std.proofs.Common.{◌≡◌, ℕ, zero, suc, ◌<◌, true, false, List, [], ◌∷◌, ◌++◌, length, Option, Some, IfSome, Result, Ok, Err, IfOk, refl, arith}
-use Rattle.std.specs.Prelude.{slice_get, is_none}
-use Rattle.std.specs.Option.{option_map_or}
-use Rattle.pruning_laws.specs.declared.side.Side.{Side}
-use Rattle.cube_laws.specs.declared.messages.CubeEvent.{CubeEvent}
-use Rattle.cube_laws.specs.declared.messages.CubeEvent.TheVariants.{Split, Release}
-use Rattle.cube_laws.specs.declared.messages.CubeReply.{CubeReply}
-use Rattle.cube_laws.specs.declared.messages.CubeReply.TheVariants.{Children}
-use Rattle.branching.specs.View.{View, is_open_in}
+use Rattle.branch_search.proofs.Prelude.{◌≡◌, ℕ, zero, suc, ◌<◌, true, false, List, [], ◌∷◌, ◌++◌, length, Option, Some, IfSome, Result, Ok, Err, IfOk, refl, arith, slice_get, is_none, option_map_or, Side, CubeEvent, Split, Release}
+use Rattle.branch_search.proofs.Prelude.{CubeReply, Children, View, is_open_in, Any, split_in, request_after, IsAskedAfter}
 use Rattle.branching.specs.Turns.{IsDecision}
 use Rattle.branch_search.specs.declared.worker.Request.{Request}
-use Rattle.branch_search.specs.declared.worker.Request.TheVariants.{Any}
-use Rattle.branch_search.specs.Requests.{split_in, request_after, IsAskedAfter}
 
 open_within : (sides : List (Option Side)) (c : ℕ) → option_map_or is_none (slice_get sides c) false ≡ true → c < length sides
 open_within [] c e = absurd (cc)

@@ -1,21 +1,8 @@
 -- What holds of a tree while it grows, by the marks of the search: of its nodes' parents, decisions and growths, each a list.
-use Rattle.std.proofs.Common.{◌≡◌, ◌⊎◌, ℕ, zero, suc, ◌+◌, ◌<◌, true, false, List, [], ◌∷◌, ◌++◌, length, Option, Some, None, refl, sym, ap, ◌∙◌, subst, inl, inr, arith, length-set, length-append}
-use Rattle.std.specs.Prelude.{slice_get, slice_set, slice_index_or}
-use Rattle.std.proofs.lemmas.List.{get_or_append_left}
-use Rattle.std.proofs.lemmas.Option.{same_Some}
-use Rattle.serializability.specs.Polygraph.{Polygraph}
-use Rattle.pruning_laws.specs.declared.side.Side.{Side}
-use Rattle.pruning_laws.specs.declared.side.Side.TheVariants.{One, Two}
-use Rattle.desk.proofs.Tied.{get_set}
-use Rattle.cube_laws.specs.Cubes.{Cube, is_decided, edges_under}
-use Rattle.cube_laws.specs.Steps.{is_cycle}
-use Rattle.cube_laws.specs.declared.messages.CubeState.{CubeState}
-use Rattle.cube_laws.specs.declared.messages.CubeState.TheVariants.{Open, Held, Split as Divided, Refuted, Solved as Ended}
-use Rattle.cube_laws.specs.declared.tree.CubeDecision.{CubeDecision}
-use Rattle.cube_laws.specs.declared.tree.Growth.{Growth}
-use Rattle.cube_laws.specs.declared.tree.Growth.TheVariants.{Leaf, Inner}
-use Rattle.branch_search.specs.Growing.{bud}
-use Rattle.cube_laws.proofs.Lists.{within, set_here, set_apart, append_left, append_cases, append_at}
+use Rattle.branch_search.proofs.Prelude.{◌≡◌, ◌⊎◌, ℕ, zero, suc, ◌+◌, ◌<◌, true, false, List, [], ◌∷◌, ◌++◌, length, Option, Some, None, refl, sym, ap, ◌∙◌, subst, inl, inr, arith, length-set, length-append, slice_get, slice_set}
+use Rattle.branch_search.proofs.Prelude.{slice_index_or, get_or_append_left, same_Some, Polygraph, Side, One, Two, get_set, Cube, is_decided, edges_under, is_cycle, CubeState, Open, Held, Refuted, Solved as Ended, CubeDecision, Growth}
+use Rattle.branch_search.proofs.Prelude.{Leaf, Inner, bud, within, set_here, set_apart, append_left, append_cases, append_at}
+use Rattle.cube_laws.specs.declared.messages.CubeState.TheVariants.{Split as Divided}
 
 -- a mark of a node that is neither split nor refuted
 pub record IsLive (m : CubeState) : Type 0 where

@@ -1,16 +1,6 @@
 -- The cubes of a growing tree.
-use Rattle.std.proofs.Common.{◌≡◌, ℕ, ◌<◌, List, [], ◌∷◌, ◌++◌, length, map, Option, Some, refl, ap, ◌∙◌, append_assoc}
-use Rattle.std.specs.Prelude.{slice_get, slice_set, slice_index_or}
-use Rattle.std.specs.Option.{option_map_or}
-use Rattle.std.proofs.lemmas.List.{map-set, get_or_append_left}
-use Rattle.pruning_laws.specs.declared.side.Side.TheVariants.{One, Two}
-use Rattle.cube_laws.specs.Cubes.{Cube}
-use Rattle.cube_laws.specs.declared.tree.CubeDecision.{CubeDecision}
-use Rattle.cube_laws.specs.declared.tree.Growth.{Growth}
-use Rattle.cube_laws.specs.declared.tree.TreeNode.{TreeNode}
-use Rattle.branch_search.specs.Growing.{sprout, with_growth}
-use Rattle.cube_laws.specs.Trees.{cube_below, cubes_after}
-use Rattle.cube_laws.proofs.Lists.{map_some, set_self}
+use Rattle.branch_search.proofs.Prelude.{◌≡◌, ℕ, ◌<◌, List, [], ◌∷◌, ◌++◌, length, map, Option, Some, refl, ap, ◌∙◌, append_assoc, slice_get, slice_set, slice_index_or, option_map_or, map-set, get_or_append_left, One, Two, Cube}
+use Rattle.branch_search.proofs.Prelude.{CubeDecision, Growth, TreeNode, sprout, with_growth, cube_below, cubes_after, map_some, set_self}
 
 abbrev pub parents_of : List TreeNode → List ℕ
 parents_of nodes = map (λ n. n.parent) nodes

@@ -1,18 +1,8 @@
 -- What a search's answer says of the run that it ends.
-use Rattle.std.proofs.Common.{◌≡◌, ℕ, Bool, true, false, ◌&&◌, not, List, Some, refl, sym, ap, ◌∙◌, subst}
-use Rattle.std.specs.List.{list_any}
-use Rattle.std.proofs.lemmas.Option.{same_Some}
-use Rattle.serializability.specs.Polygraph.{Polygraph}
-use Rattle.desk.specs.declared.history.Entry.{Entry}
-use Rattle.desk.specs.History.{IsLegal, IsReached, replay}
-use Rattle.cube_laws.specs.State.{State, opening_state}
-use Rattle.cube_laws.specs.Steps.{has_solved, has_live, is_exhausted, next_of, reply_of}
-use Rattle.cube_laws.specs.Runs.{solves}
-use Rattle.cube_laws.specs.declared.messages.CubeEvent.{CubeEvent}
-use Rattle.cube_laws.specs.declared.messages.CubeReply.{CubeReply}
+use Rattle.branch_search.proofs.Prelude.{◌≡◌, ℕ, Bool, true, false, ◌&&◌, not, List, Some, refl, sym, ap, ◌∙◌, subst, list_any, same_Some, Polygraph, Entry, IsLegal, IsReached, replay, State, opening_state, has_solved, has_live}
+use Rattle.branch_search.proofs.Prelude.{is_exhausted, next_of, reply_of, solves, CubeEvent, CubeReply, IsSpent, IsReadFrom, EndsRun}
 use Rattle.cube_laws.proofs.Grown.{grown_opening, grown_after}
 use Rattle.cube_laws.proofs.Counted.{solved_before}
-use Rattle.branch_search.specs.Answers.{IsSpent, IsReadFrom, EndsRun}
 use Rattle.branch_search.specs.declared.answer.Answer.{Answer}
 
 still_live : (a b : Bool) → a ≡ false → (not a && not b) ≡ false → b ≡ true

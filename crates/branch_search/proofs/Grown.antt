@@ -1,11 +1,5 @@
 -- Steps of a growing tree.
-use Rattle.std.proofs.Common.{◌≡◌, ℕ, List, Bool, true, false, Option, Some, None, refl, ap, ◌∙◌}
-use Rattle.cube_laws.specs.declared.messages.CubeEvent.{CubeEvent}
-use Rattle.cube_laws.specs.declared.messages.CubeReply.{CubeReply}
-use Rattle.cube_laws.specs.Runs.{is_closing}
-use Rattle.cube_laws.specs.declared.tree.TreeNode.{TreeNode}
-use Rattle.branch_search.specs.Growing.{closed_with, closed_where, grown}
-use Rattle.std.specs.Prelude.{if◌then◌else◌}
+use Rattle.branch_search.proofs.Prelude.{◌≡◌, ℕ, List, Bool, true, false, Option, Some, None, refl, ap, ◌∙◌, CubeEvent, CubeReply, is_closing, TreeNode, closed_with, closed_where, grown, if◌then◌else◌}
 
 pub grown_open : (nodes : List TreeNode) (held : Option ℕ) (e : CubeEvent) (r : CubeReply) → is_closing r ≡ false → grown nodes held e r ≡ nodes
 unfolding grown

@@ -1,31 +1,13 @@
 -- The tree that a history grows, step by step.
-use Rattle.std.proofs.Common.{◌≡◌, ◌⊎◌, ℕ, ◌+◌, ◌<◌, Bool, true, false, not, ◌||◌, List, [], ◌∷◌, ◌++◌, length, Option, Some, None, refl, sym, ap, ◌∙◌, subst, inl, inr, arith}
-use Rattle.std.specs.Prelude.{slice_get, slice_set, slice_index_or, if◌then◌else◌}
-use Rattle.std.proofs.lemmas.Bool.{and_parts, not-true, ltb-true}
-use Rattle.std.proofs.lemmas.List.{get_or-set_same, get_or-set_other}
-use Rattle.std.proofs.lemmas.Option.{same_Some}
-use Rattle.serializability.specs.Polygraph.{Polygraph}
-use Rattle.pruning_laws.specs.declared.side.Side.{Side}
-use Rattle.pruning_laws.specs.declared.side.Side.TheVariants.{One, Two}
-use Rattle.desk.specs.declared.history.Entry.{Entry}
-use Rattle.desk.specs.History.{IsLegal, replay}
-use Rattle.cube_laws.specs.Cubes.{Cube, is_decided, edges_under}
-use Rattle.cube_laws.specs.State.{Node, State}
-use Rattle.cube_laws.specs.Steps.{is_open, is_held, is_solved, is_cycle, is_solution, is_finished, is_exhausted, is_open_at, is_choice, can_split, node_held, last_open, has_solved, has_live, cube_at, with_mark, claim_reply, any_reply, split_reply, refute_reply, solve_reply, reply_of, next_of, claimed, taken, held_where, split_where, refuted_where, solved_where, opened_at, held_at, closed_by, split_at}
-use Rattle.cube_laws.specs.Runs.{is_closing}
-use Rattle.cube_laws.specs.declared.messages.CubeState.{CubeState}
-use Rattle.cube_laws.specs.declared.messages.CubeState.TheVariants.{Open, Held, Split as Divided, Refuted, Solved as Ended}
-use Rattle.cube_laws.specs.declared.messages.CubeEvent.{CubeEvent}
-use Rattle.cube_laws.specs.declared.messages.CubeEvent.TheVariants.{Claim, TakeAny, Split, Refute, Solve, Release}
-use Rattle.cube_laws.specs.declared.messages.CubeReply.{CubeReply}
-use Rattle.cube_laws.specs.declared.messages.CubeReply.TheVariants.{Finished, HasCube, NotOpen, NoneNow, Cube as Given, NoCube, BadChoice, Children, BadCycle, Closed, BadOrder, Solved, Released}
-use Rattle.cube_laws.specs.declared.tree.CubeDecision.{CubeDecision}
-use Rattle.cube_laws.specs.declared.tree.Growth.{Growth}
-use Rattle.cube_laws.specs.declared.tree.Growth.TheVariants.{Leaf, Inner}
-use Rattle.cube_laws.specs.declared.tree.TreeNode.{TreeNode}
-use Rattle.branch_search.specs.Growing.{held_after, bud, sprout, with_growth, grown}
-use Rattle.cube_laws.specs.Trees.{cubes_after, cube_of, IsChild, IsSplit, IsBelow, IsRoot, IsRefutationTree}
-use Rattle.cube_laws.proofs.Lists.{within, there, map_some, some_map, map_length, map_append, or_map, any_false}
+use Rattle.branch_search.proofs.Prelude.{◌≡◌, ◌⊎◌, ℕ, ◌+◌, ◌<◌, Bool, true, false, not, ◌||◌, List, [], ◌∷◌, ◌++◌, length, Option, Some, None, refl, sym, ap, ◌∙◌, subst, inl, inr, arith, slice_get, slice_set, slice_index_or, if◌then◌else◌}
+use Rattle.branch_search.proofs.Prelude.{and_parts, not-true, ltb-true, get_or-set_same, get_or-set_other, same_Some, Polygraph, Side, One, Two, Entry, IsLegal, replay, Cube, is_decided, edges_under, Node, State, is_open, is_held}
+use Rattle.branch_search.proofs.Prelude.{is_solved, is_cycle, is_solution, is_finished, is_exhausted, is_open_at, is_choice, can_split, node_held, last_open, has_solved, has_live, cube_at, with_mark, claim_reply, any_reply, split_reply}
+use Rattle.branch_search.proofs.Prelude.{refute_reply, solve_reply, reply_of, next_of, claimed, taken, held_where, split_where, refuted_where, solved_where, opened_at, held_at, closed_by, split_at, is_closing, CubeState, Open, Held}
+use Rattle.branch_search.proofs.Prelude.{Refuted, Solved as Ended, CubeEvent, Claim, TakeAny, Split, Refute, Solve, Release, CubeReply, Finished, HasCube, NotOpen, NoneNow, NoCube, BadChoice, Children, BadCycle, Closed, BadOrder, Released}
+use Rattle.branch_search.proofs.Prelude.{CubeDecision, Growth, Leaf, Inner, TreeNode, held_after, bud, sprout, with_growth, grown, cubes_after, cube_of, IsChild, IsSplit, IsBelow, IsRoot, IsRefutationTree, within, there, map_some, some_map}
+use Rattle.branch_search.proofs.Prelude.{map_length, map_append, or_map, any_false}
+use Rattle.cube_laws.specs.declared.messages.CubeState.TheVariants.{Split as Divided}
+use Rattle.cube_laws.specs.declared.messages.CubeReply.TheVariants.{Cube as Given, Solved}
 use Rattle.cube_laws.proofs.Growths.{leaf_is, choice_is, first_is, second_is, leaf_or_inner}
 use Rattle.branch_search.proofs.Boughs.{IsLive, live_open, live_held, live_ended, IsChildAt, HasChildren, IsGrown, grown_marked, grown_refuted, grown_split}
 use Rattle.branch_search.proofs.Seated.{marks_of, cubes_in, marks_with, cubes_with, held_is, last_is_open, claimed_is_open, Tied, Others, tied_same, tied_given, tied_left, tied_more}

@@ -1,16 +1,10 @@
 -- Cubes that are kept, and views by steps.
-use Rattle.std.proofs.Common.{◌≡◌, ℕ, zero, suc, ◌<◌, ◌≤◌, ◌==◌, Bool, List, [], ◌∷◌, ◌++◌, length, Option, Some, None, refl, sym, ap, ◌∙◌, subst, arith}
-use Rattle.std.specs.Prelude.{slice_get, slice_index_or, if◌then◌else◌}
-use Rattle.std.specs.List.{find, position_or_len}
-use Rattle.std.specs.Option.{option_map}
-use Rattle.std.proofs.lemmas.Bool.{ne_eqb}
+use Rattle.branch_search.proofs.Prelude.{◌≡◌, ℕ, zero, suc, ◌<◌, ◌≤◌, ◌==◌, Bool, List, [], ◌∷◌, ◌++◌, length, Option, Some, None, refl, sym, ap, ◌∙◌, subst, arith, slice_get, slice_index_or, if◌then◌else◌, find, position_or_len}
+use Rattle.branch_search.proofs.Prelude.{option_map, ne_eqb, Polygraph, View, opened, decided, place_in, kept_view, view_after, AreViews, AreLed}
 use Rattle.std.proofs.lemmas.Grind.{common_steps}
 use Rattle.std.proofs.lemmas.List.Folds.{find_at}
-use Rattle.serializability.specs.Polygraph.{Polygraph}
-use Rattle.branching.specs.View.{View, opened, decided}
 use Rattle.branch_search.specs.declared.retrace.KeptCube.{KeptCube}
 use Rattle.branch_search.specs.declared.retrace.Step.{Step}
-use Rattle.branch_search.specs.Views.{place_in, kept_view, view_after, AreViews, AreLed}
 
 abbrev is_of : ℕ → KeptCube → Bool
 is_of node k = k.node == node

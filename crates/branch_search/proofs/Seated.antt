@@ -1,17 +1,7 @@
 -- Which seat holds which node, by the marks.
-use Rattle.std.proofs.Common.{◌≡◌, ◌⊎◌, ℕ, zero, suc, ◌+◌, ◌<◌, Bool, true, false, List, [], ◌∷◌, ◌++◌, map, Option, Some, None, refl, sym, ap, ◌∙◌, inl, inr, arith}
-use Rattle.std.specs.Prelude.{slice_get, slice_set, if◌then◌else◌}
-use Rattle.std.specs.Option.{option_map_or}
-use Rattle.std.proofs.lemmas.Bool.{cases_eq, eq-eqb, false≢true}
-use Rattle.std.proofs.lemmas.List.{map-set}
-use Rattle.std.proofs.lemmas.Option.{same_Some}
-use Rattle.desk.proofs.Tied.{get_set}
-use Rattle.cube_laws.specs.Cubes.{Cube}
-use Rattle.cube_laws.specs.State.{Node, State}
-use Rattle.cube_laws.specs.Steps.{is_open, is_held_by, held_from, last_open_from, with_mark, is_open_at}
-use Rattle.cube_laws.specs.declared.messages.CubeState.{CubeState}
-use Rattle.cube_laws.specs.declared.messages.CubeState.TheVariants.{Open, Held}
-use Rattle.cube_laws.proofs.Lists.{within, set_here, set_apart, set_self, append_left, append_cases, map_some}
+use Rattle.branch_search.proofs.Prelude.{◌≡◌, ◌⊎◌, ℕ, zero, suc, ◌+◌, ◌<◌, Bool, true, false, List, [], ◌∷◌, ◌++◌, map, Option, Some, None, refl, sym, ap, ◌∙◌, inl, inr, arith, slice_get, slice_set, if◌then◌else◌, option_map_or, cases_eq}
+use Rattle.branch_search.proofs.Prelude.{eq-eqb, false≢true, map-set, same_Some, get_set, Cube, Node, State, is_open, is_held_by, held_from, last_open_from, with_mark, is_open_at, CubeState, Open, Held, within, set_here, set_apart}
+use Rattle.branch_search.proofs.Prelude.{set_self, append_left, append_cases, map_some}
 use Rattle.cube_laws.proofs.Nodes.{else_cases}
 use Rattle.cube_machine.proofs.Seats.{held_mark}
 use Rattle.cube_machine.proofs.Trees.{same_seat}

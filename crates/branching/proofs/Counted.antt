@@ -1,13 +1,6 @@
 -- Bounds of the numbers of edges, and searches that end at them.
-use Rattle.std.proofs.Common.{◌≡◌, ℕ, zero, suc, ◌<◌, ◌≤◌, List, [], ◌∷◌, length, map, drop, Option, Some, None, refl, arith}
-use Rattle.std.specs.Prelude.{slice_index}
-use Rattle.std.proofs.lemmas.Bool.{le-ltb, cond-false}
-use Rattle.std.proofs.lemmas.List.{length-drop}
-use Rattle.serializability.specs.Polygraph.{Choice}
-use Rattle.pruning_laws.specs.declared.side.Side.{Side}
-use Rattle.branching.specs.Picks.{size_of, edge_count, has_fewer, or_better, first_best}
-use Rattle.branching.specs.Opens.{open_past}
-use Rattle.branching.specs.Picked.{Listed, best_listed, found_listed}
+use Rattle.branching.proofs.Prelude.{◌≡◌, ℕ, zero, suc, ◌<◌, ◌≤◌, List, [], ◌∷◌, length, map, drop, Option, Some, None, refl, arith, slice_index, le-ltb, cond-false, length-drop, Choice, Side, size_of, edge_count, has_fewer, or_better}
+use Rattle.branching.proofs.Prelude.{first_best, open_past, Listed, best_listed, found_listed}
 use Rattle.branching.proofs.Opens.{open_within}
 
 -- the number of edges in the list of these numbers

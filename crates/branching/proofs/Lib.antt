@@ -1,3 +1,4 @@
+mod Prelude
 pub mod Counted
 pub mod NextBits
 pub mod Opens

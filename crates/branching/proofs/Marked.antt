@@ -1,33 +1,13 @@
 -- Marks of the choices of which a side is refuted.
-use Rattle.std.proofs.Common.{◌≡◌, ◌≢◌, ◌⊎◌, ◌↔◌, ℕ, zero, suc, ◌+◌, ◌/◌, ◌<◌, ◌≤◌, true, not, eqb, ◌&&◌, List, [], ◌∷◌, ◌++◌, length, get_or, set, take, Option, Some, sym, ap, ◌∙◌, subst, inl, inr, arith, Vec, Global}
-use Rattle.std.specs.Prelude.{slice_get}
-use Rattle.std.specs.Option.{option_map_or}
-use Rattle.std.specs.List.{Contains, list_any}
-use Rattle.std.proofs.lemmas.Bool.{cases_eq, cases_Bool, false≢true, and_parts, and_from, or_cases, eqb-true, eq-eqb}
-use Rattle.std.proofs.lemmas.List.{take_more}
+use Rattle.branching.proofs.Prelude.{◌≡◌, ◌≢◌, ◌⊎◌, ◌↔◌, ℕ, zero, suc, ◌+◌, ◌/◌, ◌<◌, ◌≤◌, true, not, eqb, ◌&&◌, List, [], ◌∷◌, ◌++◌, length, get_or, set, take, Option, Some, sym, ap, ◌∙◌, subst, inl, inr, arith, Vec, Global, slice_get}
+use Rattle.branching.proofs.Prelude.{option_map_or, Contains, list_any, cases_eq, cases_Bool, false≢true, and_parts, and_from, or_cases, eqb-true, eq-eqb, take_more, Edge, Choice, Polygraph, Graph, Reaches, Contains-here, Contains-further}
+use Rattle.branching.proofs.Prelude.{each_contained, reach_joined, Side, edges_of, Sides, kept_from, IsRefuted, same_side, same_is, same_itself, bit_of, row_len, has_edge, edge_in, has_in, has_contained, In, In-from_Contains}
+use Rattle.branching.proofs.Prelude.{Contains-from_In, In-append_cases, AreRowsOf, side_of, IsReduced, contained_at, side_is, choice_of_edge, at_kept, SideEdge, is_open_at, AreIncoming, Keeps, IsOrReaches, MarksBehind, MarksTarget}
+use Rattle.branching.proofs.Prelude.{MarksAll, AreMarked}
 use Rattle.std.proofs.Math.Seq.{take-append_seam}
-use Rattle.serializability.specs.Polygraph.{Edge, Choice, Polygraph}
-use Rattle.reach_laws.specs.Reach.{Graph, Reaches}
-use Rattle.reach_laws.proofs.Walks.{Contains-here, Contains-further, each_contained, reach_joined}
-use Rattle.pruning_laws.specs.declared.side.Side.{Side}
-use Rattle.pruning_laws.specs.Forced.{edges_of, Sides, kept_from, IsRefuted}
-use Rattle.pruning_laws.specs.Ledger.{same_side}
-use Rattle.pruning_laws.proofs.Ledgers.{same_is, same_itself}
-use Rattle.known_graph.specs.Bits.{bit_of, row_len}
-use Rattle.known_graph.specs.Tests.{has_edge}
-use Rattle.known_graph.proofs.Tested.{edge_in, has_in, has_contained}
-use Rattle.known_graph.proofs.Listed.{In, In-from_Contains, Contains-from_In, In-append_cases}
-use Rattle.reach_rows.specs.ReachRows.{AreRowsOf}
 use Rattle.known_graph.proofs.Edges.{node_word}
 use Rattle.reach_rows.proofs.Walking.{grown_reach}
-use Rattle.prune_ledger.specs.Ledger.{side_of}
-use Rattle.prune_ledger.specs.Pruned.{IsReduced}
-use Rattle.prune_ledger.proofs.Marks.{contained_at}
-use Rattle.prune_ledger.proofs.Sides.{side_is, choice_of_edge, at_kept}
 use Rattle.side_edges.specs.Listed.{list_of, HasSides}
-use Rattle.side_edges.specs.declared.SideEdge.{SideEdge}
-use Rattle.branching.specs.Opens.{is_open_at}
-use Rattle.branching.specs.Marked.{AreIncoming, Keeps, IsOrReaches, MarksBehind, MarksTarget, MarksAll, AreMarked}
 use Rattle.branching.proofs.Opens.{open_within, open_set}
 
 -- what was written over the whole of a list

@@ -1,15 +1,7 @@
 -- Marks that a view keeps, or does not.
-use Rattle.std.proofs.Common.{◌≡◌, ℕ, not, eqb, ◌&&◌, List, length, set, drop, Option, Some, None, refl, sym, ap, ◌∙◌, subst, arith, Vec, Global}
+use Rattle.branching.proofs.Prelude.{◌≡◌, ℕ, not, eqb, ◌&&◌, List, length, set, drop, Option, Some, None, refl, sym, ap, ◌∙◌, subst, arith, Vec, Global, lt-ltb, Edge, Choice, Polygraph, Graph, Side, bit_of, row_len, AreRowsOf, IsReduced}
+use Rattle.branching.proofs.Prelude.{Keeps, MarksAll, AreMarked, AreKept, AreMarks, AreBlank, AreSaved, HaveRoom, HasBits, TakesSaved, AddsMarks, RemovesMark}
 use Rattle.std.specs.Vec.{with_items}
-use Rattle.std.proofs.lemmas.Bool.{lt-ltb}
-use Rattle.serializability.specs.Polygraph.{Edge, Choice, Polygraph}
-use Rattle.reach_laws.specs.Reach.{Graph}
-use Rattle.pruning_laws.specs.declared.side.Side.{Side}
-use Rattle.known_graph.specs.Bits.{bit_of, row_len}
-use Rattle.reach_rows.specs.ReachRows.{AreRowsOf}
-use Rattle.prune_ledger.specs.Pruned.{IsReduced}
-use Rattle.branching.specs.Marked.{Keeps, MarksAll, AreMarked}
-use Rattle.branching.specs.Markings.{AreKept, AreMarks, AreBlank, AreSaved, HaveRoom, HasBits, TakesSaved, AddsMarks, RemovesMark}
 use Rattle.branching.specs.declared.kept_marks.KeptMarks.{KeptMarks}
 use Rattle.branching.specs.declared.kept_marks.Marks.{Marks}
 use Rattle.branching.specs.declared.kept_marks.Marks.TheVariants.{Unkept, Kept}

@@ -1,15 +1,7 @@
 -- The picks by number of edges are the best of the open choices.
-use Rattle.std.proofs.Common.{◌≡◌, ℕ, zero, suc, ◌+◌, ◌<◌, ◌≤◌, Bool, true, false, cond, List, [], ◌∷◌, Option, Some, None, refl, sym, ap, ◌∙◌, subst, inl, inr, arith}
-use Rattle.std.specs.Prelude.{nat_lt}
-use Rattle.std.proofs.lemmas.Bool.{cases_Bool, false≢true, ltb-true, ltb-false, le-ltb}
-use Rattle.std.proofs.lemmas.Option.{same_Some}
-use Rattle.serializability.specs.Polygraph.{Choice}
-use Rattle.serializability.proofs.Places.{Has}
-use Rattle.pruning_laws.specs.declared.side.Side.{Side}
-use Rattle.branching.specs.View.{View, is_open_in}
-use Rattle.branching.specs.Picks.{open_from, open_choices, edge_count, has_more, has_fewer, or_better, first_best, most_edges, least_edges}
-use Rattle.branching.specs.Picked.{better_is_some, most_is_open, least_is_open}
-use Rattle.branching.specs.Opens.{is_open_at}
+use Rattle.branching.proofs.Prelude.{◌≡◌, ℕ, zero, suc, ◌+◌, ◌<◌, ◌≤◌, Bool, true, false, cond, List, [], ◌∷◌, Option, Some, None, refl, sym, ap, ◌∙◌, subst, inl, inr, arith, nat_lt, cases_Bool, false≢true, ltb-true, ltb-false, le-ltb}
+use Rattle.branching.proofs.Prelude.{same_Some, Choice, Has, Side, View, is_open_in, open_from, open_choices, edge_count, has_more, has_fewer, or_better, first_best, most_edges, least_edges, better_is_some, most_is_open, least_is_open}
+use Rattle.branching.proofs.Prelude.{is_open_at}
 use Rattle.branching.specs.Meant.{HasMost, HasFewest}
 
 -- ---- the open ones are listed, ascending

@@ -1,15 +1,10 @@
 -- Bits in words: the next one that is set, one that is cleared, and all below a number.
-use Rattle.std.proofs.Common.{◌≡◌, ◌≢◌, ℕ, ◌+◌, ◌-◌, ◌*◌, ◌/◌, ◌%◌, ◌^◌, ◌<◌, ◌≤◌, min, true, false, not, eqb, ◌&&◌, List, length, get_or, set, sym, ap, ◌∙◌, inl, inr, arith, eq-eqb, ne_eqb, get_or-set_same, get_or-set_other}
-use Rattle.std.specs.Prelude.{bit_and, nat_lt}
+use Rattle.branching.proofs.Prelude.{◌≡◌, ◌≢◌, ℕ, ◌+◌, ◌-◌, ◌*◌, ◌/◌, ◌%◌, ◌^◌, ◌<◌, ◌≤◌, min, true, false, not, eqb, ◌&&◌, List, length, get_or, set, sym, ap, ◌∙◌, inl, inr, arith, eq-eqb, ne_eqb, get_or-set_same, get_or-set_other}
+use Rattle.branching.proofs.Prelude.{bit_and, nat_lt, cases_eq, cases_lt, lt-ltb, le-ltb, get_or_past, bit_of, bit_of-past, same_word, bit_there, IsNext, NoneFrom}
 use Rattle.std.specs.Int.{bit_at, w64, trailing_zeros}
-use Rattle.std.proofs.lemmas.Bool.{cases_eq, cases_lt, lt-ltb, le-ltb}
-use Rattle.std.proofs.lemmas.List.{get_or_past}
 use Rattle.std.proofs.lemmas.Nat.{and_le_l, div-add-mod', mod_below, pow_below}
 use Rattle.std.proofs.lemmas.Nat.Bits.{bit_at_and, bit_at-lt, bit_at-zero, bit_at-trailing_zeros, bit_at_mask_inside, bit_at_mask_below, ones_shl, bit_at_ones, bit_at_ones_above, bit_at_clear_same, bit_at_clear_other}
 use Rattle.std.proofs.Math.Nat.{mod-eq_of_lt}
-use Rattle.known_graph.specs.Bits.{bit_of}
-use Rattle.known_graph.proofs.Words.{bit_of-past, same_word, bit_there}
-use Rattle.branching.specs.Bits.{IsNext, NoneFrom}
 
 bit_set : (words : List ℕ) (i b : ℕ) → b < 64 → bit_at (get_or words i 0) b ≡ 1 → bit_of words (i * 64 + b) ≡ true
 bit_set words i b h e = bit_there words i b h ∙ ap (λ n. eqb n 1) e

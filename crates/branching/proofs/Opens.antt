@@ -1,16 +1,7 @@
 -- The open choices, as a list and as bits.
-use Rattle.std.proofs.Common.{◌≡◌, ◌≢◌, ℕ, zero, suc, ◌+◌, ◌-◌, ◌/◌, ◌<◌, ◌≤◌, true, false, not, eqb, ◌&&◌, List, [], ◌∷◌, length, drop, set, replicate, Option, Some, None, refl, sym, ap, ◌∙◌, subst, inl, inr, arith, eq-eqb, ne_eqb}
-use Rattle.std.specs.Prelude.{◌↔◌, nat_lt, slice_get, is_some, is_none, IsSome, IfSome, MatchOption}
-use Rattle.std.specs.Option.{option_map_or}
-use Rattle.std.specs.List.{filter}
-use Rattle.std.proofs.lemmas.Bool.{cases_eq, cases_lt, false≢true, lt-ltb, le-ltb}
-use Rattle.std.proofs.lemmas.List.{drop-drop, length-set, length-replicate}
-use Rattle.pruning_laws.specs.declared.side.Side.{Side}
-use Rattle.known_graph.specs.Bits.{bit_of, row_len}
-use Rattle.side_edges.proofs.Lists.{slice_get-set_same, slice_get-set_other}
-use Rattle.branching.specs.Bits.{IsNext, NoneFrom}
-use Rattle.branching.specs.Picks.{open_from}
-use Rattle.branching.specs.Opens.{is_open_at, open_past, AreBits}
+use Rattle.branching.proofs.Prelude.{◌≡◌, ◌≢◌, ℕ, zero, suc, ◌+◌, ◌-◌, ◌/◌, ◌<◌, ◌≤◌, true, false, not, eqb, ◌&&◌, List, [], ◌∷◌, length, drop, set, replicate, Option, Some, None, refl, sym, ap, ◌∙◌, subst, inl, inr, arith, eq-eqb, ne_eqb}
+use Rattle.branching.proofs.Prelude.{◌↔◌, nat_lt, slice_get, is_some, is_none, IsSome, IfSome, MatchOption, option_map_or, filter, cases_eq, cases_lt, false≢true, lt-ltb, le-ltb, drop-drop, length-set, length-replicate, Side, bit_of}
+use Rattle.branching.proofs.Prelude.{row_len, slice_get-set_same, slice_get-set_other, IsNext, NoneFrom, open_from, is_open_at, open_past, AreBits}
 
 -- ---- places of a list
 pub slice_get-drop : {A : Type 0} (xs : List A) (n i : ℕ) → slice_get (drop n xs) i ≡ slice_get xs (n + i)

@@ -1,17 +1,9 @@
 -- Nodes in the order of what they reach.
-use Rattle.std.proofs.Common.{◌≡◌, ℕ, zero, suc, ◌+◌, ◌-◌, ◌<◌, ◌≤◌, eqb, List, [], ◌∷◌, ◌++◌, length, get_or, map, sym, ap, ◌∙◌, subst, inl, inr, arith, eq-eqb}
-use Rattle.std.specs.List.{Contains, All, range_with_len}
+use Rattle.branching.proofs.Prelude.{◌≡◌, ℕ, zero, suc, ◌+◌, ◌-◌, ◌<◌, ◌≤◌, eqb, List, [], ◌∷◌, ◌++◌, length, get_or, map, sym, ap, ◌∙◌, subst, inl, inr, arith, eq-eqb, Contains, All, range_with_len, cases_eq, cases_lt, cond-true}
+use Rattle.branching.proofs.Prelude.{get_or-map, length-map, map_push, IsPermutation-map, length_permutation, Contains-permutation, place_of, Has, Has-from_Contains, Contains-from_Has, place_of-further, place_within, Has-from_range, Graph}
+use Rattle.branching.proofs.Prelude.{Ranked, unreached, IsOrderByReach}
 use Rattle.std.specs.List.Sorted.{IsPermutation, IsNonDecreasingBy}
-use Rattle.std.proofs.lemmas.Bool.{cases_eq, cases_lt, cond-true}
-use Rattle.std.proofs.lemmas.List.{get_or-map, length-map, map_push}
 use Rattle.std.proofs.lemmas.List.FromFn.{length-range_with_len}
-use Rattle.std.proofs.lemmas.List.Sorted.{IsPermutation-map, length_permutation, Contains-permutation}
-use Rattle.serializability.specs.Replay.{place_of}
-use Rattle.serializability.proofs.Places.{Has, Has-from_Contains, Contains-from_Has, place_of-further, place_within}
-use Rattle.serializability.proofs.Sources.{Has-from_range}
-use Rattle.reach_laws.specs.Reach.{Graph}
-use Rattle.branching.specs.declared.order.Ranked.{Ranked}
-use Rattle.branching.specs.Orders.{unreached, IsOrderByReach}
 
 -- ---- one more node is listed
 range_more : (a n : ℕ) → range_with_len a (suc n) ≡ range_with_len a n ++ (a + n) ∷ []

@@ -1,28 +1,8 @@
 -- Which node reaches which, as a test; refuted sides, and the first choice that has one.
-use Rattle.std.proofs.Common.{◌≡◌, ◌⊎◌, ◌↔◌, ℕ, zero, suc, ◌+◌, ◌<◌, Bool, true, false, ◌&&◌, ◌||◌, cond, List, [], ◌∷◌, length, get_or, Option, Some, None, refl, sym, ap, ◌∙◌, subst, inl, inr, arith}
-use Rattle.std.specs.Prelude.{slice_get, MatchOption, is_some}
-use Rattle.std.specs.Option.{option_or}
-use Rattle.std.specs.List.{Contains, filter, list_any}
-use Rattle.std.proofs.lemmas.Bool.{cases_Bool, cases_lt, false≢true, and_parts, and_from, or_cases, or_left, or_right, cond-true, cond-false}
-use Rattle.std.proofs.lemmas.Option.{same_Some}
-use Rattle.list_lemmas.proofs.Bools.{same_bool}
-use Rattle.serializability.specs.Polygraph.{Edge, Choice}
-use Rattle.serializability.proofs.Places.{Has}
-use Rattle.reach_laws.specs.Reach.{Walk, Reaches}
-use Rattle.reach_laws.proofs.Walks.{Contains-here, Contains-further, reach_joined}
-use Rattle.pruning_laws.specs.declared.side.Side.{Side}
-use Rattle.pruning_laws.specs.declared.side.Side.TheVariants.{One, Two}
-use Rattle.pruning_laws.specs.Forced.{edges_of, IsRefuted}
-use Rattle.known_graph.proofs.Listed.{In, In-from_Contains}
-use Rattle.known_graph.proofs.Tested.{edge_in, has_contained}
-use Rattle.prune_ledger.specs.Ledger.{side_of}
-use Rattle.prune_ledger.specs.Rounds.{Refutes}
-use Rattle.prune_ledger.proofs.Sides.{side_is}
-use Rattle.branching.specs.View.{View, is_open_in, edges_in}
-use Rattle.branching.specs.Picks.{open_from, open_choices, most_edges}
-use Rattle.branching.specs.Held.{IsView}
-use Rattle.branching.specs.Refuted.{reaches_below, reaches_in, is_refuted_in, is_forced_in, first_forced, forced_or_most, side_left}
-use Rattle.branching.specs.Picked.{forced_is_open}
+use Rattle.branching.proofs.Prelude.{◌≡◌, ◌⊎◌, ◌↔◌, ℕ, zero, suc, ◌+◌, ◌<◌, Bool, true, false, ◌&&◌, ◌||◌, cond, List, [], ◌∷◌, length, get_or, Option, Some, None, refl, sym, ap, ◌∙◌, subst, inl, inr, arith, slice_get, MatchOption, is_some}
+use Rattle.branching.proofs.Prelude.{option_or, Contains, filter, list_any, cases_Bool, cases_lt, false≢true, and_parts, and_from, or_cases, or_left, or_right, cond-true, cond-false, same_Some, same_bool, Edge, Choice, Has, Walk, Reaches}
+use Rattle.branching.proofs.Prelude.{Contains-here, Contains-further, reach_joined, Side, One, Two, edges_of, IsRefuted, In, In-from_Contains, edge_in, has_contained, side_of, Refutes, side_is, View, is_open_in, edges_in, open_from}
+use Rattle.branching.proofs.Prelude.{open_choices, most_edges, IsView, reaches_below, reaches_in, is_refuted_in, is_forced_in, first_forced, forced_or_most, side_left, forced_is_open}
 use Rattle.branching.specs.Forced.{IsRefutedSide, IsForcedChoice, HasForced, HasForcedOrMost}
 use Rattle.branching.proofs.Meant.{listed_in, open_above, most_has_most}
 use Rattle.branching.proofs.Views.{view_joined, choice_read}

@@ -1,25 +1,11 @@
 -- What a worker's decision is answered.
-use Rattle.std.proofs.Common.{◌≡◌, ℕ, zero, suc, ◌+◌, ◌<◌, ◌≤◌, Bool, true, false, not, eqb, cond, ◌&&◌, List, [], ◌∷◌, length, drop, Option, Some, None, refl, sym, ap, ◌∙◌, subst, inl, inr, arith, eq-eqb}
-use Rattle.std.specs.Prelude.{nat_lt, slice_get, slice_index, ◌==◌}
-use Rattle.std.specs.List.{Contains, list_any, list_all, range_with_len}
-use Rattle.std.proofs.lemmas.Bool.{cases_lt, cases_Bool, false≢true, and_parts, and_from, or_cases, or_left, or_right, lt-ltb, cond-true, false_from_ne_true}
-use Rattle.std.proofs.lemmas.List.{nil_from_length}
-use Rattle.list_lemmas.proofs.Bools.{same_bool}
+use Rattle.branching.proofs.Prelude.{◌≡◌, ℕ, zero, suc, ◌+◌, ◌<◌, ◌≤◌, Bool, true, false, not, eqb, cond, ◌&&◌, List, [], ◌∷◌, length, drop, Option, Some, None, refl, sym, ap, ◌∙◌, subst, inl, inr, arith, eq-eqb, nat_lt, slice_get}
+use Rattle.branching.proofs.Prelude.{slice_index, ◌==◌, Contains, list_any, list_all, range_with_len, cases_lt, cases_Bool, false≢true, and_parts, and_from, or_cases, or_left, or_right, lt-ltb, cond-true, false_from_ne_true}
+use Rattle.branching.proofs.Prelude.{nil_from_length, same_bool, Edge, Polygraph, place_of, Has, Has-from_Contains, place_of-further, Has-from_range, Graph, Reaches, IsCycle, IsCyclic, reach_joined, Contains-here, Contains-further, Side}
+use Rattle.branching.proofs.Prelude.{edges_with, same_side, sides_in, has_edge, leads, is_line, edge_in, has_contained, line_of, AreRowsOf, same_itself, View, is_open_in, depth_of, chosen, edges_in, graph_in, open_choices, none_listed}
+use Rattle.branching.proofs.Prelude.{is_open_at, unreached, IsOrderByReach, IsView, AreEdgesOf}
 use Rattle.list_lemmas.proofs.Each.{all_range}
-use Rattle.serializability.specs.Polygraph.{Edge, Polygraph}
-use Rattle.serializability.specs.Replay.{place_of}
-use Rattle.serializability.proofs.Places.{Has, Has-from_Contains, place_of-further}
-use Rattle.serializability.proofs.Sources.{Has-from_range}
 use Rattle.serializability.proofs.Ranks.{count-lt}
-use Rattle.reach_laws.specs.Reach.{Graph, Reaches, IsCycle, IsCyclic}
-use Rattle.reach_laws.proofs.Walks.{reach_joined, Contains-here, Contains-further}
-use Rattle.pruning_laws.specs.declared.side.Side.{Side}
-use Rattle.pruning_laws.specs.Forced.{edges_with}
-use Rattle.pruning_laws.specs.Ledger.{same_side, sides_in}
-use Rattle.known_graph.specs.Tests.{has_edge, leads, is_line}
-use Rattle.known_graph.proofs.Tested.{edge_in, has_contained, line_of}
-use Rattle.reach_rows.specs.ReachRows.{AreRowsOf}
-use Rattle.pruning_laws.proofs.Ledgers.{same_itself}
 use Rattle.cube_laws.specs.Cubes.{Cube, is_decided, edges_under}
 use Rattle.cube_laws.specs.State.{State}
 use Rattle.cube_laws.specs.Steps.{node_held, cube_at, reply_of, is_cycle, is_choice, can_split, decides_all, lists_once, keeps_edges, is_solution, split_reply, refute_reply, solve_reply}
@@ -27,12 +13,6 @@ use Rattle.cube_laws.specs.Runs.{is_closing}
 use Rattle.cube_laws.specs.declared.messages.CubeEvent.TheVariants.{Split, Refute, Solve}
 use Rattle.cube_laws.specs.declared.messages.CubeReply.TheVariants.{Finished, BadChoice, Children, BadCycle, Closed, BadOrder, Solved}
 use Rattle.cube_laws.proofs.Fits.{decided_side}
-use Rattle.branching.specs.View.{View, is_open_in, depth_of, chosen, edges_in, graph_in}
-use Rattle.branching.specs.Picks.{open_choices}
-use Rattle.branching.specs.Picked.{none_listed}
-use Rattle.branching.specs.Opens.{is_open_at}
-use Rattle.branching.specs.Orders.{unreached, IsOrderByReach}
-use Rattle.branching.specs.Held.{IsView, AreEdgesOf}
 use Rattle.branching.specs.Turns.{IsTurnOf, IsAnswered}
 use Rattle.branching.proofs.Opens.{open_within, open_from_none, length-open_from}
 use Rattle.branching.proofs.Views.{open_unchosen, view_joined, view_initial}

@@ -1,20 +1,8 @@
 -- Open choices that are not marked, and the first one of which a side is refuted.
-use Rattle.std.proofs.Common.{◌≡◌, ℕ, zero, suc, ◌+◌, ◌-◌, ◌<◌, ◌≤◌, Bool, true, false, List, [], ◌∷◌, length, drop, Option, Some, None, refl, sym, ap, ◌∙◌, subst, inl, inr, arith}
-use Rattle.std.specs.Prelude.{slice_get, MatchOption, IfSome, IfNone}
-use Rattle.std.specs.List.{filter}
-use Rattle.std.proofs.lemmas.Bool.{cases_Bool, cases_lt, false≢true}
-use Rattle.reach_laws.specs.Reach.{Graph}
-use Rattle.pruning_laws.specs.declared.side.Side.{Side}
-use Rattle.known_graph.specs.Bits.{bit_of, row_len}
-use Rattle.prune_ledger.specs.Ledger.{side_of}
+use Rattle.branching.proofs.Prelude.{◌≡◌, ℕ, zero, suc, ◌+◌, ◌-◌, ◌<◌, ◌≤◌, Bool, true, false, List, [], ◌∷◌, length, drop, Option, Some, None, refl, sym, ap, ◌∙◌, subst, inl, inr, arith, slice_get, MatchOption, IfSome, IfNone, filter}
+use Rattle.branching.proofs.Prelude.{cases_Bool, cases_lt, false≢true, Graph, Side, bit_of, row_len, side_of, View, is_open_in, edges_in, open_from, is_open_at, open_past, IsView, AreEdgesOf, AreMarked, IsUnmarked, is_forced_in}
+use Rattle.branching.proofs.Prelude.{first_forced, AreUnforced}
 use Rattle.prune_ledger.proofs.Grown.{refuted_in}
-use Rattle.branching.specs.View.{View, is_open_in, edges_in}
-use Rattle.branching.specs.Picks.{open_from}
-use Rattle.branching.specs.Opens.{is_open_at, open_past}
-use Rattle.branching.specs.Held.{IsView, AreEdgesOf}
-use Rattle.branching.specs.Marked.{AreMarked}
-use Rattle.branching.specs.Markings.{IsUnmarked}
-use Rattle.branching.specs.Refuted.{is_forced_in, first_forced, AreUnforced}
 use Rattle.branching.proofs.Opens.{open_within, open_drop}
 use Rattle.branching.proofs.Refuting.{forced_of, first_passes, first_fails}
 

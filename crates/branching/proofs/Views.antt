@@ -1,30 +1,10 @@
 -- The edges of a view, and what keeps them up.
-use Rattle.std.proofs.Common.{◌≡◌, ◌≢◌, ◌⊎◌, ℕ, ◌<◌, ◌≤◌, Bool, true, false, List, length, get_or, set, replicate, Option, Some, None, refl, sym, ap, ◌∙◌, subst, inl, inr, arith}
-use Rattle.std.specs.Prelude.{slice_get}
-use Rattle.std.specs.Option.{option_map_or}
-use Rattle.std.specs.List.{Contains, AllByRecursion}
-use Rattle.std.proofs.lemmas.Bool.{cases_eq, cases_lt, false≢true}
-use Rattle.std.proofs.lemmas.List.{get_or-replicate, length-replicate, length-set}
-use Rattle.std.proofs.lemmas.Option.{slice_get-get_or, slice_get_past}
-use Rattle.serializability.specs.Polygraph.{Edge, Choice, Polygraph}
-use Rattle.reach_laws.specs.Reach.{Graph, IsCyclic}
-use Rattle.reach_laws.proofs.Walks.{each_contained, each_from_contained, reach_in}
-use Rattle.pruning_laws.specs.declared.side.Side.{Side}
-use Rattle.pruning_laws.specs.Forced.{edges_of}
-use Rattle.pruning_laws.specs.Ledger.{same_side}
-use Rattle.known_graph.proofs.Listed.{In, In-from_Contains, Contains-from_In}
-use Rattle.polygraph.specs.Polygraphs.{Joins}
+use Rattle.branching.proofs.Prelude.{◌≡◌, ◌≢◌, ◌⊎◌, ℕ, ◌<◌, ◌≤◌, Bool, true, false, List, length, get_or, set, replicate, Option, Some, None, refl, sym, ap, ◌∙◌, subst, inl, inr, arith, slice_get, option_map_or, Contains, AllByRecursion}
+use Rattle.branching.proofs.Prelude.{cases_eq, cases_lt, false≢true, get_or-replicate, length-replicate, length-set, slice_get-get_or, slice_get_past, Edge, Choice, Polygraph, Graph, IsCyclic, each_contained, each_from_contained, reach_in}
+use Rattle.branching.proofs.Prelude.{Side, edges_of, same_side, In, In-from_Contains, Contains-from_In, Joins, AreRowsOf, side_of, AddsEdges, side_joins, side_is, known_with, side_with, choice_of_edge, with_cases, same_is, same_itself}
+use Rattle.branching.proofs.Prelude.{slice_get-set_same, slice_get-set_other, View, is_open_in, chosen, edges_in, graph_in, opened, decided, IsView, AreEdgesOf}
 use Rattle.polygraph.proofs.Kept.{graph_in as graph_of}
-use Rattle.reach_rows.specs.ReachRows.{AreRowsOf}
-use Rattle.prune_ledger.specs.Ledger.{side_of}
-use Rattle.prune_ledger.specs.Rounds.{AddsEdges}
-use Rattle.prune_ledger.proofs.Marks.{side_joins}
-use Rattle.prune_ledger.proofs.Sides.{side_is, known_with, side_with, choice_of_edge, with_cases}
-use Rattle.pruning_laws.proofs.Ledgers.{same_is, same_itself}
-use Rattle.side_edges.proofs.Lists.{slice_get-set_same, slice_get-set_other}
-use Rattle.branching.specs.View.{View, is_open_in, chosen, edges_in, graph_in, opened, decided}
 use Rattle.prune_ledger.specs.Runs.{IsWhole}
-use Rattle.branching.specs.Held.{IsView, AreEdgesOf}
 use Rattle.branching.proofs.Opens.{open_within, open_is_none}
 
 -- ---- the rows of a graph are those of each with the same edges

@@ -1,10 +1,5 @@
 -- The open choice of a rank that a word gives.
-use Rattle.std.proofs.Common.{◌≡◌, ℕ, ◌-◌, ◌<◌, ◌%◌, List, [], ◌∷◌, length, Option, None, sym, ap, ◌∙◌, arith}
-use Rattle.std.specs.Prelude.{slice_get}
-use Rattle.std.proofs.lemmas.List.{nil_from_length}
-use Rattle.branching.specs.View.{View, depth_of}
-use Rattle.branching.specs.Held.{IsView}
-use Rattle.branching.specs.Picks.{open_choices, word_at, by_words}
+use Rattle.branching.proofs.Prelude.{◌≡◌, ℕ, ◌-◌, ◌<◌, ◌%◌, List, [], ◌∷◌, length, Option, None, sym, ap, ◌∙◌, arith, slice_get, nil_from_length, View, depth_of, IsView, open_choices, word_at, by_words}
 use Rattle.branching.proofs.Opens.{length-open_from}
 
 pub open_count : (v : View) (count depth : ℕ) → count ≡ length v.polygraph.choices → IsView v → depth ≡ depth_of v → count - depth ≡ length (open_choices v)

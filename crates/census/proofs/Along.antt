@@ -1,18 +1,7 @@
 -- What operations did with a key, up to some place.
-use Rattle.std.proofs.Common.{◌≡◌, ℕ, ◌+◌, ◌<◌, Bool, true, false, cond, ◌&&◌, ◌||◌, eqb, List, [], ◌∷◌, ◌++◌, length, take, get_or, Option, None, Some, refl, sym, ap, ◌∙◌, inl, inr, arith}
-use Rattle.std.specs.Prelude.{not}
-use Rattle.std.specs.List.{list_any}
-use Rattle.std.specs.Str.{bytes_eq}
-use Rattle.std.proofs.lemmas.Bool.{cases_Bool, eqb-true}
-use Rattle.list_lemmas.proofs.Lists.{front_more}
-use Rattle.session_log.specs.Text.{key_of}
-use Rattle.session_log.specs.declared.session.Op.{Op}
-use Rattle.session_log.specs.declared.session.Op.TheVariants.{Read, Write}
+use Rattle.census.proofs.Prelude.{◌≡◌, ℕ, ◌+◌, ◌<◌, Bool, true, false, cond, ◌&&◌, ◌||◌, eqb, List, [], ◌∷◌, ◌++◌, length, take, get_or, Option, None, Some, refl, sym, ap, ◌∙◌, inl, inr, arith, not, list_any, bytes_eq, cases_Bool, eqb-true}
+use Rattle.census.proofs.Prelude.{front_more, key_of, Op, Read, Write, KeyState, last_write, is_other_read, writes_as, first_read, after, after_read, differs, differs_from, state_behind, state_in, untouched}
 use Rattle.serializability.specs.Reads.{later}
-use Rattle.census.specs.declared.states.KeyState.{KeyState}
-use Rattle.census.specs.Reads.{last_write, is_other_read, writes_as}
-use Rattle.census.specs.Updates.{first_read}
-use Rattle.census.specs.States.{after, after_read, differs, differs_from, state_behind, state_in, untouched}
 use Rattle.census.proofs.Truth.{or_none, or_assoc}
 
 pub pushed : (k : List ℕ) (s : KeyState) (ops : List Op) (op : Op) → state_behind k s (ops ++ op ∷ []) ≡ cond (bytes_eq k (key_of op)) (after (state_behind k s ops) op) (state_behind k s ops)

@@ -1,21 +1,7 @@
 -- What the states behind all operations of a transaction say of it.
-use Rattle.std.proofs.Common.{◌≡◌, ℕ, Bool, true, false, cond, ◌&&◌, ◌||◌, eqb, List, [], ◌∷◌, Option, None, Some, refl, sym, ap, ◌∙◌, inl, inr}
-use Rattle.std.specs.Prelude.{not, is_some}
-use Rattle.std.specs.List.{list_any}
-use Rattle.std.specs.Option.{option_map_or}
-use Rattle.std.specs.Str.{bytes_eq}
-use Rattle.std.proofs.lemmas.Bool.{cases_Bool, false≢true, eqb-true, and_parts, or_left}
-use Rattle.std.proofs.lemmas.Slice.Eq.{bytes_eq-Decides}
-use Rattle.list_lemmas.proofs.Comparisons.{eqb_flip}
-use Rattle.list_lemmas.proofs.Bools.{and_first}
-use Rattle.session_log.specs.Text.{Transaction}
-use Rattle.session_log.specs.declared.session.Op.{Op}
-use Rattle.session_log.specs.declared.session.Op.TheVariants.{Read, Write}
-use Rattle.census.specs.declared.states.States.{States}
-use Rattle.census.specs.Reads.{last_write, writes_as, passes_over}
-use Rattle.census.specs.Updates.{first_read, updates}
-use Rattle.census.specs.States.{state_of}
-use Rattle.census.specs.Tables.{at_read, at_write, reads_as, is_passed, updates_by, AreBehind}
+use Rattle.census.proofs.Prelude.{◌≡◌, ℕ, Bool, true, false, cond, ◌&&◌, ◌||◌, eqb, List, [], ◌∷◌, Option, None, Some, refl, sym, ap, ◌∙◌, inl, inr, not, is_some, list_any, option_map_or, bytes_eq, cases_Bool, false≢true, eqb-true}
+use Rattle.census.proofs.Prelude.{and_parts, or_left, bytes_eq-Decides, eqb_flip, and_first, Transaction, Op, Read, Write, States, last_write, writes_as, passes_over, first_read, updates, state_of, at_read, at_write, reads_as, is_passed}
+use Rattle.census.proofs.Prelude.{updates_by, AreBehind}
 use Rattle.census.proofs.Truth.{together}
 use Rattle.census.proofs.Along.{written_in, read_in}
 

@@ -1,36 +1,9 @@
 -- What a table says of how many faults each key has.
-use Rattle.std.proofs.Common.{◌≡◌, ℕ, ◌+◌, ◌<◌, Bool, true, false, cond, ◌&&◌, ◌||◌, eqb, List, [], ◌∷◌, map, Option, None, Some, refl, sym, ap, subst, ◌∙◌, inl, inr, unwrap_or, nat_cmp, eq-eqb, arith}
-use Rattle.std.specs.Prelude.{Result, Ok, Err, OnOk, OnErr, nat_lt, count_by, is_some}
-use Rattle.std.specs.List.{AllByRecursion, filter, list_any}
-use Rattle.std.specs.List.Sorted.{IsStrictlySortedBy}
-use Rattle.std.specs.Map.{keys_of, lookup}
-use Rattle.std.specs.Option.{option_map_or, ForSome}
-use Rattle.std.specs.Ordering.{is_eq}
-use Rattle.std.specs.Str.{bytes_eq}
-use Rattle.std.specs.Cmp.Lexicographic.{slice_cmp}
-use Rattle.std.specs.declared.cmp.Ordering.TheVariants.{Less}
-use Rattle.std.specs.BTreeMap.{BTreeMap, IsUnchanged, UpdatesBy, get_by, is_at}
-use Rattle.std.proofs.lemmas.Bool.{cases_Bool, false≢true, and_parts, eqb-true, or_left, or_right}
-use Rattle.std.proofs.lemmas.List.Sums.{sum_by-cons}
-use Rattle.std.proofs.lemmas.Map.Keys.{sorted_head}
-use Rattle.std.proofs.lemmas.Map.Text.{is_eq-slice_cmp}
-use Rattle.std.proofs.lemmas.Slice.Eq.{bytes_eq-Decides}
-use Rattle.list_lemmas.proofs.Comparisons.{bytes_flip}
-use Rattle.list_lemmas.proofs.Bools.{and_first}
-use Rattle.session_log.specs.Text.{ClientSession, Transaction}
-use Rattle.session_log.specs.declared.session.Txn.{Txn}
-use Rattle.session_log.specs.declared.session.Op.{Op}
-use Rattle.session_log.specs.declared.session.Op.TheVariants.{Read, Write}
-use Rattle.serializability.specs.declared.anomaly.ReadAnomaly.{ReadAnomaly}
-use Rattle.census.specs.declared.states.KeyState.{KeyState}
-use Rattle.census.specs.declared.states.States.{States}
-use Rattle.census.specs.declared.updates.Updates.{Updates}
-use Rattle.census.specs.Reads.{committed_in, faults_in, last_write}
-use Rattle.census.specs.Updates.{first_read, updates, loses_by, is_lost}
-use Rattle.census.specs.States.{entry_cmp, state_of, untouched}
-use Rattle.census.specs.Tables.{reads_as, view_fault, view_ref, AreBehind, KnowsUpdates}
-use Rattle.census.specs.Counts.{count_in, is_lost_with, loses_as}
-use Rattle.census.specs.Worst.{faults_of, loses_at}
+use Rattle.census.proofs.Prelude.{◌≡◌, ℕ, ◌+◌, ◌<◌, Bool, true, false, cond, ◌&&◌, ◌||◌, eqb, List, [], ◌∷◌, map, Option, None, Some, refl, sym, ap, subst, ◌∙◌, inl, inr, unwrap_or, nat_cmp, eq-eqb, arith, Result, Ok, Err, OnOk, OnErr}
+use Rattle.census.proofs.Prelude.{nat_lt, count_by, is_some, AllByRecursion, filter, list_any, IsStrictlySortedBy, keys_of, lookup, option_map_or, ForSome, is_eq, bytes_eq, slice_cmp, Less, BTreeMap, IsUnchanged, UpdatesBy, get_by, is_at}
+use Rattle.census.proofs.Prelude.{cases_Bool, false≢true, and_parts, eqb-true, or_left, or_right, sum_by-cons, sorted_head, is_eq-slice_cmp, bytes_eq-Decides, bytes_flip, and_first, ClientSession, Transaction, Txn, Op, Read, Write}
+use Rattle.census.proofs.Prelude.{ReadAnomaly, KeyState, States, Updates, committed_in, faults_in, last_write, first_read, updates, loses_by, is_lost, entry_cmp, state_of, untouched, reads_as, view_fault, view_ref, AreBehind, KnowsUpdates}
+use Rattle.census.proofs.Prelude.{count_in, is_lost_with, loses_as, faults_of, loses_at}
 use Rattle.census.proofs.Held.{ref_cmp}
 use Rattle.census.proofs.Along.{written_in, read_in}
 use Rattle.census.proofs.Behind.{read_there}

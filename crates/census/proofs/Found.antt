@@ -1,13 +1,7 @@
 -- A version is found by its identity and its key exactly where it is one of those that were added.
-use Rattle.std.proofs.Common.{◌≡◌, ℕ, Bool, true, false, cond, ◌&&◌, ◌||◌, eqb, List, refl, ap, ◌∙◌, nat_cmp, arith}
-use Rattle.std.specs.Str.{bytes_eq}
-use Rattle.std.specs.Ordering.{is_eq, ordering_then}
-use Rattle.std.specs.Cmp.Lexicographic.{slice_cmp}
-use Rattle.std.specs.declared.cmp.Ordering.{Ordering}
-use Rattle.std.specs.BTreeSet.{BTreeSet, contains_by, UpdatesBy}
-use Rattle.std.proofs.lemmas.Map.Text.{is_eq-slice_cmp}
-use Rattle.list_lemmas.proofs.Comparisons.{eq_then, bytes_flip, eqb_flip}
-use Rattle.census.specs.Versions.{version_cmp}
+use Rattle.census.proofs.Prelude.{◌≡◌, ℕ, Bool, true, false, cond, ◌&&◌, ◌||◌, eqb, List, refl, ap, ◌∙◌, nat_cmp, arith, bytes_eq, is_eq, ordering_then, slice_cmp, Ordering, BTreeSet, contains_by, is_eq-slice_cmp, eq_then, bytes_flip}
+use Rattle.census.proofs.Prelude.{eqb_flip, version_cmp}
+use Rattle.std.specs.BTreeSet.{UpdatesBy}
 use denote.Ref.{Bor}
 
 abbrev ref : List ℕ → Bor (List ℕ)

@@ -1,16 +1,6 @@
 -- What a table holds of a key.
-use Rattle.std.proofs.Common.{◌≡◌, ℕ, Bool, true, false, cond, List, Option, Some, refl, sym, ap, ◌∙◌, unwrap_or, nat_cmp}
-use Rattle.std.specs.Str.{bytes_eq}
-use Rattle.std.specs.Cmp.Lexicographic.{slice_cmp}
-use Rattle.std.specs.declared.cmp.Ordering.{Ordering}
-use Rattle.std.specs.BTreeMap.{BTreeMap, UpdatesBy, get_by}
-use Rattle.std.proofs.lemmas.Map.Text.{is_eq-slice_cmp}
-use Rattle.std.proofs.lemmas.Slice.Eq.{bytes_eq-Decides}
-use Rattle.list_lemmas.proofs.Comparisons.{bytes_flip}
-use Rattle.session_log.specs.Text.{key_of}
-use Rattle.session_log.specs.declared.session.Op.{Op}
-use Rattle.census.specs.declared.states.KeyState.{KeyState}
-use Rattle.census.specs.States.{entry_cmp, after, untouched}
+use Rattle.census.proofs.Prelude.{◌≡◌, ℕ, Bool, true, false, cond, List, Option, Some, refl, sym, ap, ◌∙◌, unwrap_or, nat_cmp, bytes_eq, slice_cmp, Ordering, BTreeMap, UpdatesBy, get_by, is_eq-slice_cmp, bytes_eq-Decides, bytes_flip}
+use Rattle.census.proofs.Prelude.{key_of, Op, KeyState, entry_cmp, after, untouched}
 use denote.Ref.{Bor}
 
 abbrev ref : List ℕ → Bor (List ℕ)

@@ -1,21 +1,6 @@
 -- What tables know of transactions, one more at a time.
-use Rattle.std.proofs.Common.{◌≡◌, ℕ, Bool, true, false, cond, ◌&&◌, ◌||◌, List, [], ◌∷◌, ◌++◌, append-nil, refl, sym, ap, ◌∙◌}
-use Rattle.std.specs.Prelude.{not, nat_lt, count_by}
-use Rattle.std.specs.List.{flat_map, filter, list_any}
-use Rattle.std.proofs.lemmas.List.Folds.{list_any-append}
-use Rattle.std.proofs.lemmas.List.Concat.{flat_map-append}
-use Rattle.std.proofs.lemmas.List.Elements.{filter-append}
-use Rattle.session_log.specs.Text.{Transaction}
-use Rattle.session_log.specs.declared.session.Op.{Op}
-use Rattle.session_log.specs.declared.session.Op.TheVariants.{Read, Write}
-use Rattle.log_definitions.specs.Unknown.{is_committed, reads_write}
-use Rattle.census.specs.declared.writes.Writes.{Writes}
-use Rattle.census.specs.declared.updates.Updates.{Updates}
-use Rattle.census.specs.declared.states.States.{States}
-use Rattle.census.specs.Reads.{writes_as, passes_over}
-use Rattle.census.specs.Updates.{updates, loses_by, is_lost}
-use Rattle.census.specs.Versions.{has_version}
-use Rattle.census.specs.Tables.{loses_among, AreBehind, KnowsWrites, KnowsUpdates}
+use Rattle.census.proofs.Prelude.{◌≡◌, ℕ, Bool, true, false, cond, ◌&&◌, ◌||◌, List, [], ◌∷◌, ◌++◌, append-nil, refl, sym, ap, ◌∙◌, not, nat_lt, count_by, flat_map, filter, list_any, list_any-append, flat_map-append, filter-append}
+use Rattle.census.proofs.Prelude.{Transaction, Op, Read, Write, is_committed, reads_write, Writes, Updates, States, writes_as, passes_over, updates, loses_by, is_lost, has_version, loses_among, AreBehind, KnowsWrites, KnowsUpdates}
 use Rattle.census.proofs.Truth.{or_none, counted, some_more, many_more, any_same}
 use Rattle.census.proofs.Behind.{updates_are}
 

@@ -1,3 +1,4 @@
+mod Prelude
 pub mod Truth
 pub mod Found
 pub mod Held

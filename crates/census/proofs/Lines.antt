@@ -1,20 +1,6 @@
 -- The worst keys of a table are those of its entries.
-use Rattle.std.proofs.Common.{◌≡◌, ◌⊎◌, ℕ, ◌<◌, Bool, true, false, cond, List, [], ◌∷◌, ◌++◌, map, length, Option, None, Some, refl, sym, ap, subst, ◌∙◌, inl, inr, unwrap_or, arith}
-use Rattle.std.specs.Option.{ForSome}
-use Rattle.std.specs.List.{All, AllByRecursion, Contains}
-use Rattle.std.specs.List.Sorted.{IsStrictlySortedBy}
-use Rattle.std.specs.Map.{keys_of, lookup}
-use Rattle.std.specs.Str.{bytes_eq}
-use Rattle.std.specs.declared.cmp.Ordering.TheVariants.{Less}
-use Rattle.std.specs.BTreeMap.{get_by, is_at}
-use Rattle.std.proofs.lemmas.List.Elements.{All-from_recursion}
-use Rattle.std.proofs.lemmas.Map.Keys.{sorted_head, sorted_tail}
-use Rattle.std.proofs.lemmas.Map.Text.{is_eq-slice_cmp}
-use Rattle.std.proofs.lemmas.Slice.Eq.{bytes_eq-Decides}
-use Rattle.census.specs.declared.numbers.KeyFaults.{KeyFaults}
-use Rattle.census.specs.States.{entry_cmp}
-use Rattle.census.specs.Counts.{count_in}
-use Rattle.census.specs.Worst.{AreWorst, IsWorse}
+use Rattle.census.proofs.Prelude.{◌≡◌, ◌⊎◌, ℕ, ◌<◌, Bool, true, false, cond, List, [], ◌∷◌, ◌++◌, map, length, Option, None, Some, refl, sym, ap, subst, ◌∙◌, inl, inr, unwrap_or, arith, ForSome, All, AllByRecursion, Contains}
+use Rattle.census.proofs.Prelude.{IsStrictlySortedBy, keys_of, lookup, bytes_eq, Less, get_by, is_at, All-from_recursion, sorted_head, sorted_tail, is_eq-slice_cmp, bytes_eq-Decides, KeyFaults, entry_cmp, count_in, AreWorst, IsWorse}
 use Rattle.census.proofs.Held.{ref_cmp}
 use Rattle.census.proofs.Counted.{CountTable}
 use Rattle.census.proofs.Ranks.{all_pairs, contained, of_one, weaker, Among, AreNamedBefore, AreTop}

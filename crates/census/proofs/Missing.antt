@@ -1,13 +1,6 @@
 -- The anomalies of a transaction, one operation at a time.
-use Rattle.std.proofs.Common.{◌≡◌, ℕ, ◌+◌, ◌<◌, List, ◌∷◌, ◌++◌, append_assoc, length, take, get_or, sym, ap, ◌∙◌}
-use Rattle.std.specs.Prelude.{drop}
-use Rattle.std.proofs.lemmas.List.{take-append-drop}
-use Rattle.list_lemmas.proofs.Lists.{front_more}
-use Rattle.list_lemmas.proofs.Elements.{get_drop, item}
-use Rattle.session_log.specs.Text.{ClientSession, key_of}
-use Rattle.session_log.specs.declared.session.Op.{Op}
-use Rattle.serializability.specs.declared.anomaly.ReadAnomaly.{ReadAnomaly}
-use Rattle.census.specs.Reads.{fault_at, faults_behind, with_key}
+use Rattle.census.proofs.Prelude.{◌≡◌, ℕ, ◌+◌, ◌<◌, List, ◌∷◌, ◌++◌, append_assoc, length, take, get_or, sym, ap, ◌∙◌, drop, take-append-drop, front_more, get_drop, item, ClientSession, key_of, Op, ReadAnomaly, fault_at, faults_behind}
+use Rattle.census.proofs.Prelude.{with_key}
 
 abbrev pub Faults : Type 0
 Faults = List (ReadAnomaly × List ℕ)

@@ -1,17 +1,8 @@
 -- The worst of some lines, ten at most, where their keys come in order.
-use Rattle.std.proofs.Common.{◌≡◌, ◌⊎◌, ℕ, ◌+◌, ◌<◌, ◌≤◌, zero, suc, Bool, true, false, cond, List, [], ◌∷◌, ◌++◌, length, take, refl, sym, ap, ◌∙◌, subst, inl, inr, nat_cmp, arith}
-use Rattle.std.specs.Prelude.{nat_lt, not, drop, insert, unwrap_or, Some, None}
-use Rattle.std.specs.List.{AllByRecursion, AllPairs, Contains, position_or_len}
-use Rattle.std.specs.Cmp.Lexicographic.{slice_cmp, nat_list_cmp_total}
-use Rattle.std.specs.declared.cmp.Ordering.TheVariants.{Less}
+use Rattle.census.proofs.Prelude.{◌≡◌, ◌⊎◌, ℕ, ◌+◌, ◌<◌, ◌≤◌, zero, suc, Bool, true, false, cond, List, [], ◌∷◌, ◌++◌, length, take, refl, sym, ap, ◌∙◌, subst, inl, inr, nat_cmp, arith, nat_lt, not, drop, insert, unwrap_or, Some, None}
+use Rattle.census.proofs.Prelude.{AllByRecursion, AllPairs, Contains, position_or_len, slice_cmp, nat_list_cmp_total, Less, All-from_recursion, behind, lt_true, KeyFaults, place_in, with_line, IsWorse}
 use Rattle.std.proofs.Math.Numerals.{one-add}
 use Rattle.std.proofs.lemmas.List.Kept.{AllPairs-cons}
-use Rattle.std.proofs.lemmas.List.Elements.{All-from_recursion}
-use Rattle.list_lemmas.proofs.Elements.{behind}
-use Rattle.list_lemmas.proofs.Comparisons.{lt_true}
-use Rattle.census.specs.declared.numbers.KeyFaults.{KeyFaults}
-use Rattle.census.specs.Counts.{place_in, with_line}
-use Rattle.census.specs.Worst.{IsWorse}
 
 -- ---- what holds of all, and what is among some
 pub weaker : {X : Type 0} (P Q : X → Type 0) → ((x : X) → P x → Q x) → (xs : List X) → AllByRecursion P xs → AllByRecursion Q xs

@@ -1,22 +1,9 @@
 -- The anomaly of an operation, by the tables and by the log.
-use Rattle.std.proofs.Common.{◌≡◌, ℕ, Bool, cond, ◌&&◌, ◌||◌, eqb, List, ◌∷◌, ◌++◌, Option, None, Some, refl, ap, ◌∙◌}
-use Rattle.std.specs.Prelude.{not}
-use Rattle.std.specs.List.{list_any}
-use Rattle.std.proofs.lemmas.List.Folds.{list_any-append}
-use Rattle.session_log.specs.Text.{ClientSession}
-use Rattle.session_log.specs.declared.session.Op.{Op}
-use Rattle.session_log.specs.declared.session.Op.TheVariants.{Read, Write}
-use Rattle.serializability.specs.declared.anomaly.ReadAnomaly.{ReadAnomaly}
+use Rattle.census.proofs.Prelude.{◌≡◌, ℕ, Bool, cond, ◌&&◌, ◌||◌, eqb, List, ◌∷◌, ◌++◌, Option, None, Some, refl, ap, ◌∙◌, not, list_any, list_any-append, ClientSession, Op, Read, Write, ReadAnomaly, txns_in, ops_in, reads_write, Writes}
+use Rattle.census.proofs.Prelude.{States, KeyState, last_write, writes_as, is_other_read, is_aborted, is_intermediate, fault_at, read_fault, external_fault, differs, state_of, state_in, has_version, op_fault, fault_among, external_among}
+use Rattle.census.proofs.Prelude.{KnowsWrites}
 use Rattle.serializability.specs.declared.anomaly.ReadAnomaly.TheVariants as anomaly
-use Rattle.log_definitions.specs.Unknown.{txns_in, ops_in, reads_write}
-use Rattle.census.specs.declared.writes.Writes.{Writes}
 use Rattle.census.specs.declared.versions.Versions.{Versions}
-use Rattle.census.specs.declared.states.States.{States}
-use Rattle.census.specs.declared.states.KeyState.{KeyState}
-use Rattle.census.specs.Reads.{last_write, writes_as, is_other_read, is_aborted, is_intermediate, fault_at, read_fault, external_fault}
-use Rattle.census.specs.States.{differs, state_of, state_in}
-use Rattle.census.specs.Versions.{has_version}
-use Rattle.census.specs.Tables.{op_fault, fault_among, external_among, KnowsWrites}
 use Rattle.census.proofs.Along.{written_in, no_write, split_in}
 
 -- the first of these that holds

@@ -1,15 +1,7 @@
 -- Versions in many sets, each for some identities.
-use Rattle.std.proofs.Common.{◌≡◌, ◌⊎◌, ℕ, zero, suc, Bool, true, false, ◌&&◌, ◌||◌, eqb, List, [], ◌∷◌, length, Option, Some, refl, sym, ap, ◌∙◌, inl, inr, ◌<◌, arith}
-use Rattle.std.specs.Prelude.{slice_get, slice_set}
-use Rattle.std.specs.List.{AllByRecursion, list_any}
-use Rattle.std.specs.Option.{option_map_or}
-use Rattle.std.specs.Str.{bytes_eq}
-use Rattle.std.specs.BTreeSet.{BTreeSet}
-use Rattle.std.specs.BTreeMap.{is_at}
-use Rattle.std.proofs.lemmas.Bool.{cases_Bool, cases_order, and_parts, eqb-true}
-use Rattle.std.proofs.lemmas.List.{length-set}
-use Rattle.list_lemmas.proofs.Elements.{get_put}
-use Rattle.census.specs.Versions.{is_in, place_in, version_cmp}
+use Rattle.census.proofs.Prelude.{◌≡◌, ◌⊎◌, ℕ, zero, suc, Bool, true, false, ◌&&◌, ◌||◌, eqb, List, [], ◌∷◌, length, Option, Some, refl, sym, ap, ◌∙◌, inl, inr, ◌<◌, arith, slice_get, slice_set, AllByRecursion, list_any, option_map_or}
+use Rattle.census.proofs.Prelude.{bytes_eq, BTreeSet, is_at, cases_Bool, cases_order, and_parts, eqb-true, length-set, get_put, is_in, version_cmp}
+use Rattle.census.specs.Versions.{place_in}
 use Rattle.census.proofs.Truth.{or_none}
 use denote.Ref.{Bor}
 

@@ -1,16 +1,8 @@
 -- Numbers of anomalies that were told.
-use Rattle.std.proofs.Common.{◌≡◌, ℕ, ◌+◌, Bool, true, false, cond, List, [], ◌∷◌, length, map, refl, sym, ap, ◌∙◌}
-use Rattle.std.specs.Prelude.{count_by, ◌==◌}
-use Rattle.std.specs.List.{filter}
-use Rattle.std.proofs.lemmas.List.Sums.{sum_by-cons, length-filter}
-use Rattle.session_log.specs.Text.{ClientSession, Transaction}
-use Rattle.session_log.specs.declared.session.Txn.{Txn}
-use Rattle.serializability.specs.declared.anomaly.ReadAnomaly.{ReadAnomaly}
+use Rattle.census.proofs.Prelude.{◌≡◌, ℕ, ◌+◌, Bool, true, false, cond, List, [], ◌∷◌, length, map, refl, sym, ap, ◌∙◌, count_by, ◌==◌, filter, sum_by-cons, length-filter, ClientSession, Transaction, Txn, ReadAnomaly, reads_with, faults_in}
+use Rattle.census.proofs.Prelude.{committed_in, is_lost, lost_in, view_ref, view_fault}
 use Rattle.serializability.specs.Anomalies.{read_number}
 use Rattle.serializability.proofs.Places.{length_mapped}
-use Rattle.census.specs.Reads.{reads_with, faults_in, committed_in}
-use Rattle.census.specs.Updates.{is_lost, lost_in}
-use Rattle.census.specs.Tables.{view_ref, view_fault}
 use denote.Ref.{Bor}
 
 pub count_mapped : {X Y : Type 0} (p : Y → Bool) (g : X → Y) (xs : List X) → count_by p (map g xs) ≡ count_by (λ x. p (g x)) xs

@@ -1,29 +1,11 @@
 -- In a serial order no read is a fault.
-use Rattle.std.proofs.Common.{◌≡◌, ◌⊎◌, ℕ, zero, suc, Bool, true, false, cond, ◌&&◌, ◌||◌, eqb, List, [], ◌∷◌, ◌++◌, append_assoc, Option, None, Some, refl, sym, ap, subst, ◌∙◌, inl, inr, unwrap_or, eq-eqb}
-use Rattle.std.specs.Prelude.{not, slice_get}
-use Rattle.std.specs.List.{flat_map, list_any}
-use Rattle.std.specs.Option.{option_map_or}
-use Rattle.std.specs.Str.{bytes_eq}
-use Rattle.std.proofs.lemmas.Bool.{false≢true, and_parts}
+use Rattle.census_laws.proofs.Prelude.{◌≡◌, ◌⊎◌, ℕ, zero, suc, Bool, true, false, cond, ◌&&◌, ◌||◌, eqb, List, [], ◌∷◌, ◌++◌, append_assoc, Option, None, Some, refl, sym, ap, subst, ◌∙◌, inl, inr, unwrap_or, eq-eqb, not, slice_get}
+use Rattle.census_laws.proofs.Prelude.{flat_map, list_any, option_map_or, bytes_eq, false≢true, and_parts, bytes_eq-Decides, bytes_flip, ClientSession, Transaction, Op, Read, Write, ReadAnomaly, later, Has, Has-append_back}
+use Rattle.census_laws.proofs.Prelude.{Apart-from_IsDistinct, is_committed, ops_in, resolved, txns_in, written, ops_of, set, IsSerialOrder, Map, Replays, once_resolved, one_writer, WriteOnce, WriteOnce-filter, kept_in, written-append}
+use Rattle.census_laws.proofs.Prelude.{IsSoundLog, faults_behind, faults_of_txns, is_aborted, is_intermediate, is_other_read, is_unknown, last_write, passes_over, read_fault, with_key, writes_as}
 use Rattle.std.proofs.lemmas.List.Folds.{list_any-append}
-use Rattle.std.proofs.lemmas.Slice.Eq.{bytes_eq-Decides}
-use Rattle.list_lemmas.proofs.Comparisons.{bytes_flip}
-use Rattle.session_log.specs.Text.{ClientSession, Transaction}
-use Rattle.session_log.specs.declared.session.Op.{Op}
-use Rattle.session_log.specs.declared.session.Op.TheVariants.{Read, Write}
-use Rattle.serializability.specs.declared.anomaly.ReadAnomaly.{ReadAnomaly}
 use Rattle.serializability.specs.declared.anomaly.ReadAnomaly.TheVariants as anomaly
-use Rattle.serializability.specs.Reads.{later}
-use Rattle.serializability.proofs.Places.{Has, Has-append_back, Apart-from_IsDistinct}
-use Rattle.log_definitions.specs.Unknown.{is_committed, ops_in, resolved, txns_in}
-use Rattle.log_definitions.specs.WellFormed.{written}
-use Rattle.log_definitions.specs.Serial.{ops_of, set, IsSerialOrder, Map, Replays}
-use Rattle.log_definitions.proofs.Identities.{once_resolved, one_writer, WriteOnce, WriteOnce-filter}
-use Rattle.log_definitions.proofs.Nodes.{kept_in}
-use Rattle.log_definitions.proofs.Scanning.{written-append}
 use Rattle.log_definitions.proofs.Settled.{ops_resolved}
-use Rattle.log_laws.specs.Logs.{IsSoundLog}
-use Rattle.census.specs.Reads.{faults_behind, faults_of_txns, is_aborted, is_intermediate, is_other_read, is_unknown, last_write, passes_over, read_fault, with_key, writes_as}
 use Rattle.census_laws.proofs.Places.{fails_or, filtered_at, has_in_all, has_written, last_writes, none_found, same_at, txn_ops, Found}
 use Rattle.census_laws.proofs.Finds.{at_cut, cut_at, found, initial_or, last_in, listed, node_at, not_before, ops_at, read_finds, replayed, before_in}
 

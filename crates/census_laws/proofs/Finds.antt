@@ -1,23 +1,11 @@
 -- What a read finds in a serial order: the last write before it, or the initial value.
-use Rattle.std.proofs.Common.{◌≡◌, ◌⊎◌, ℕ, ◌<◌, ◌≤◌, zero, suc, Bool, true, false, cond, List, [], ◌∷◌, ◌++◌, length, get_or, Option, None, Some, refl, sym, ap, subst, ◌∙◌, inl, inr, unwrap_or, arith}
-use Rattle.std.specs.Prelude.{slice_get}
-use Rattle.std.specs.List.{flat_map}
-use Rattle.std.specs.Option.{option_map_or}
-use Rattle.std.specs.Str.{bytes_eq}
-use Rattle.std.proofs.lemmas.List.Concat.{flat_map-append}
+use Rattle.census_laws.proofs.Prelude.{◌≡◌, ◌⊎◌, ℕ, ◌<◌, ◌≤◌, zero, suc, Bool, true, false, cond, List, [], ◌∷◌, ◌++◌, length, get_or, Option, None, Some, refl, sym, ap, subst, ◌∙◌, inl, inr, unwrap_or, arith, slice_get, flat_map}
+use Rattle.census_laws.proofs.Prelude.{option_map_or, bytes_eq, flat_map-append, bytes_flip, ClientSession, Transaction, Op, Read, Write, later, Has, Contains-from_Has, Has-from_Contains, Has-append_front, Apart, Apart-from_IsDistinct}
+use Rattle.census_laws.proofs.Prelude.{Apart-not_both, committed_in, initial, ops_of, set, IsSerialOrder, Map, Replays, committed_count, kept_in, node_ops, last_write}
 use Rattle.std.proofs.lemmas.List.Elements.{All-contains}
 use Rattle.std.proofs.lemmas.Option.{slice_get-get_or}
-use Rattle.list_lemmas.proofs.Comparisons.{bytes_flip}
-use Rattle.session_log.specs.Text.{ClientSession, Transaction}
-use Rattle.session_log.specs.declared.session.Op.{Op}
-use Rattle.session_log.specs.declared.session.Op.TheVariants.{Read, Write}
 use Rattle.session_log.specs.declared.session.Outcome.TheVariants.{Commit}
-use Rattle.serializability.specs.Reads.{later}
-use Rattle.serializability.proofs.Places.{Has, Contains-from_Has, Has-from_Contains, Has-append_front, Apart, Apart-from_IsDistinct, Apart-not_both}
-use Rattle.log_definitions.specs.Serial.{committed_in, initial, ops_of, set, IsSerialOrder, Map, Replays}
-use Rattle.log_definitions.proofs.Nodes.{committed_count, kept_in, node_ops}
 use Rattle.log_laws.proofs.Replay.{after, Replays-append}
-use Rattle.census.specs.Reads.{last_write}
 use Rattle.census_laws.proofs.Places.{txn_ops}
 
 -- ---- the map behind operations

@@ -1,3 +1,4 @@
+mod Prelude
 pub mod Places
 pub mod Finds
 pub mod Faultless

@@ -1,18 +1,7 @@
 -- Tests of lists and their places, and what operations write.
-use Rattle.std.proofs.Common.{◌≡◌, ◌⊎◌, ℕ, ◌+◌, zero, suc, Bool, true, false, cond, ◌&&◌, ◌||◌, eqb, List, [], ◌∷◌, Option, None, Some, refl, sym, ap, subst, ◌∙◌, inl, inr, arith}
-use Rattle.std.specs.Prelude.{slice_get, nat_lt, count_by}
-use Rattle.std.specs.List.{filter, flat_map, list_any}
-use Rattle.std.specs.Str.{bytes_eq}
-use Rattle.std.proofs.lemmas.Bool.{cases_Bool, false≢true, and_parts, eqb-true}
+use Rattle.census_laws.proofs.Prelude.{◌≡◌, ◌⊎◌, ℕ, ◌+◌, zero, suc, Bool, true, false, cond, ◌&&◌, ◌||◌, eqb, List, [], ◌∷◌, Option, None, Some, refl, sym, ap, subst, ◌∙◌, inl, inr, arith, slice_get, nat_lt, count_by, filter, flat_map}
+use Rattle.census_laws.proofs.Prelude.{list_any, bytes_eq, cases_Bool, false≢true, and_parts, eqb-true, Transaction, Op, Read, Write, later, Has, Has-append_front, Has-append_back, written, written-append, last_write, writes_as}
 use Rattle.std.proofs.lemmas.List.Sums.{sum_by-cons}
-use Rattle.session_log.specs.Text.{Transaction}
-use Rattle.session_log.specs.declared.session.Op.{Op}
-use Rattle.session_log.specs.declared.session.Op.TheVariants.{Read, Write}
-use Rattle.serializability.specs.Reads.{later}
-use Rattle.serializability.proofs.Places.{Has, Has-append_front, Has-append_back}
-use Rattle.log_definitions.specs.WellFormed.{written}
-use Rattle.log_definitions.proofs.Scanning.{written-append}
-use Rattle.census.specs.Reads.{last_write, writes_as}
 
 -- ---- elements at places
 pub record Found {X : Type 0} (p : X → Bool) (xs : List X) : Type 0 where

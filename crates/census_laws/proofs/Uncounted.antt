@@ -1,18 +1,9 @@
 -- In a serial order nothing is counted.
-use Rattle.std.proofs.Common.{◌≡◌, ℕ, ◌<◌, List, ap, ◌∙◌, arith}
-use Rattle.std.specs.Prelude.{◌==◌, count_by}
-use Rattle.session_log.specs.Text.{ClientSession}
-use Rattle.serializability.specs.declared.anomaly.ReadAnomaly.{ReadAnomaly}
+use Rattle.census_laws.proofs.Prelude.{◌≡◌, ℕ, ◌<◌, List, ap, ◌∙◌, arith, ◌==◌, count_by, ClientSession, ReadAnomaly, resolved, IsSerialOrder, kept_in, HasOrder, IsSoundLog, faults_in, reads_with, is_lost, lost_in}
 use Rattle.serializability.specs.declared.anomaly.ReadAnomaly.TheVariants as anomaly
 use Rattle.serializability.specs.Anomalies.{read_number}
-use Rattle.log_definitions.specs.Unknown.{resolved}
-use Rattle.log_definitions.specs.Serial.{IsSerialOrder}
-use Rattle.log_definitions.proofs.Nodes.{kept_in}
-use Rattle.log_laws.specs.Logs.{HasOrder, IsSoundLog}
 use Rattle.census.specs.Census.{IsCensus}
 use Rattle.census.specs.Text.{total_of}
-use Rattle.census.specs.Reads.{faults_in, reads_with}
-use Rattle.census.specs.Updates.{is_lost, lost_in}
 use Rattle.census.specs.declared.numbers.Census.{Census}
 use Rattle.census_laws.proofs.Places.{none_counted}
 use Rattle.census_laws.proofs.Faultless.{no_faults}

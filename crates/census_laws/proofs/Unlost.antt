@@ -1,25 +1,7 @@
 -- In a serial order no two transactions update one version.
-use Rattle.std.proofs.Common.{◌≡◌, ℕ, suc, true, false, cond, eqb, List, [], ◌∷◌, ◌++◌, append_assoc, Option, None, Some, refl, sym, ap, subst, ◌∙◌, inl, inr, unwrap_or, arith}
-use Rattle.std.specs.Prelude.{slice_get, nat_lt, count_by, is_some}
-use Rattle.std.specs.List.{flat_map}
-use Rattle.std.specs.Option.{option_map_or}
-use Rattle.std.specs.Str.{bytes_eq}
-use Rattle.std.proofs.lemmas.Bool.{cases_Bool, false≢true, and_parts, eqb-true}
-use Rattle.std.proofs.lemmas.List.Concat.{flat_map-append}
-use Rattle.std.proofs.lemmas.Slice.Eq.{bytes_eq-Decides}
-use Rattle.session_log.specs.Text.{ClientSession, Transaction}
-use Rattle.session_log.specs.declared.session.Op.{Op}
-use Rattle.session_log.specs.declared.session.Op.TheVariants.{Read, Write}
-use Rattle.serializability.specs.Reads.{later}
-use Rattle.serializability.proofs.Places.{Has, Has-append_back, Has-append_cases, Has-append_front, Apart, Apart-not_both}
-use Rattle.log_definitions.specs.Unknown.{resolved, txns_in}
-use Rattle.log_definitions.specs.WellFormed.{written}
-use Rattle.log_definitions.specs.Serial.{ops_of, IsSerialOrder}
-use Rattle.log_definitions.proofs.Identities.{one_writer}
-use Rattle.log_definitions.proofs.Nodes.{kept_in}
-use Rattle.log_laws.specs.Logs.{IsSoundLog}
-use Rattle.census.specs.Reads.{last_write}
-use Rattle.census.specs.Updates.{first_read, is_lost, loses_by, updates}
+use Rattle.census_laws.proofs.Prelude.{◌≡◌, ℕ, suc, true, false, cond, eqb, List, [], ◌∷◌, ◌++◌, append_assoc, Option, None, Some, refl, sym, ap, subst, ◌∙◌, inl, inr, unwrap_or, arith, slice_get, nat_lt, count_by, is_some, flat_map}
+use Rattle.census_laws.proofs.Prelude.{option_map_or, bytes_eq, cases_Bool, false≢true, and_parts, eqb-true, flat_map-append, bytes_eq-Decides, ClientSession, Transaction, Op, Read, Write, later, Has, Has-append_back, Has-append_cases}
+use Rattle.census_laws.proofs.Prelude.{Has-append_front, Apart, Apart-not_both, resolved, txns_in, written, ops_of, IsSerialOrder, one_writer, kept_in, IsSoundLog, last_write, first_read, is_lost, loses_by, updates}
 use Rattle.census_laws.proofs.Places.{has_in_all, has_written, last_writes, none_found, two_counted, Found}
 use Rattle.census_laws.proofs.Finds.{apart_in, cut_at, found, initial_or, last_append, last_in, listed, node_at, ops_at, Cut}
 use Rattle.census_laws.proofs.Faultless.{kept_once, standing, zero_unwritten}

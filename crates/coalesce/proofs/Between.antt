@@ -1,16 +1,6 @@
 -- The choices between chains, by key.
-use Rattle.std.proofs.Common.{◌≡◌, ℕ, zero, suc, ◌+◌, ◌-◌, ◌≤◌, List, [], ◌∷◌, ◌++◌, length, refl, sym, ap, ◌∙◌, subst, arith, length-append, true}
-use Rattle.std.specs.Prelude.{map}
-use Rattle.std.specs.List.{flat_map, AllByRecursion}
-use Rattle.std.proofs.lemmas.List.{map-append, length-map}
-use Rattle.serializability.specs.Log.{Log}
-use Rattle.serializability.specs.Pairs.{pairs_of}
-use Rattle.serializability.specs.Polygraph.{Edge, Choice, committed}
-use Rattle.serializability.proofs.Places.{each_from_range, each_from_filter, each_from_map}
-use Rattle.chain_laws.specs.Chains.{heads, is_head, chain_first, edges_to, chain_choice}
-use Rattle.write_chains.specs.Views.{ChainView, chain_from, chains_in}
-use Rattle.polygraph.specs.Polygraphs.{Joins}
-use Rattle.coalesce.specs.Between.{before, between, among}
+use Rattle.coalesce.proofs.Prelude.{◌≡◌, ℕ, zero, suc, ◌+◌, ◌-◌, ◌≤◌, List, [], ◌∷◌, ◌++◌, length, refl, sym, ap, ◌∙◌, subst, arith, length-append, true, map, flat_map, AllByRecursion, map-append, length-map, Log, pairs_of, Edge, Choice}
+use Rattle.coalesce.proofs.Prelude.{committed, each_from_range, each_from_filter, each_from_map, heads, is_head, chain_first, edges_to, chain_choice, ChainView, chain_from, chains_in, Joins, before, between, among}
 use Rattle.coalesce.proofs.Joined.{initial_joined}
 
 -- ---- the choices of a key

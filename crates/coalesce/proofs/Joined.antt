@@ -1,18 +1,11 @@
 -- The edges of chains join different nodes of the log.
-use Rattle.std.proofs.Common.{◌≡◌, ◌≢◌, ◌⊎◌, ℕ, zero, suc, ◌+◌, ◌<◌, ◌≤◌, true, eqb, List, [], ◌∷◌, Option, None, Some, refl, sym, ap, ◌∙◌, subst, inl, inr, arith, eq-eqb}
-use Rattle.std.specs.Prelude.{map, not}
-use Rattle.std.specs.List.{filter, flat_map, AllByRecursion}
+use Rattle.coalesce.proofs.Prelude.{◌≡◌, ◌≢◌, ◌⊎◌, ℕ, zero, suc, ◌+◌, ◌<◌, ◌≤◌, true, eqb, List, [], ◌∷◌, Option, None, Some, refl, sym, ap, ◌∙◌, subst, inl, inr, arith, eq-eqb, map, not, filter, flat_map, AllByRecursion, Log, pairs_of}
+use Rattle.coalesce.proofs.Prelude.{source, all_keys, all_nodes, each_from_range, each_from_filter, each_from_map, each_from_flat_map, next, tail_from, tail, readers, heads, is_head, edges_to, chain_first, chain_choice, chain_choices}
+use Rattle.coalesce.proofs.Prelude.{inner_at, inner_edges, head_parts, none_some, each_from_readers, Joins, JoinsBoth}
 use Rattle.std.proofs.lemmas.Bool.{false≢true}
-use Rattle.serializability.specs.Log.{Log}
-use Rattle.serializability.specs.Pairs.{pairs_of}
-use Rattle.serializability.specs.Polygraph.{source, all_keys, all_nodes}
-use Rattle.serializability.proofs.Places.{each_from_range, each_from_filter, each_from_map, each_from_flat_map}
 use Rattle.serializability.proofs.Serial.{some_cases}
 use Rattle.serializability.proofs.EachPair.{each_pair_from}
-use Rattle.chain_laws.specs.Chains.{next, tail_from, tail, readers, heads, is_head, edges_to, chain_first, chain_choice, chain_choices, inner_at, inner_edges}
 use Rattle.chain_laws.proofs.Walks.{next_is, step_some, step_none}
-use Rattle.chain_laws.proofs.Coalesced.{head_parts, none_some, each_from_readers}
-use Rattle.polygraph.specs.Polygraphs.{Joins, JoinsBoth}
 
 -- ---- tails
 -- a tail is the head of its chain, or reads the key

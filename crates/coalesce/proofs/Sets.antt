@@ -1,14 +1,9 @@
 -- Edges added to a graph, as sets.
-use Rattle.std.proofs.Common.{◌≡◌, ◌⊎◌, ◌↔◌, ℕ, List, [], ◌∷◌, ◌++◌, get_or, length, refl, sym, subst, inl, inr, arith, append_assoc}
-use Rattle.std.specs.List.{Contains}
+use Rattle.coalesce.proofs.Prelude.{◌≡◌, ◌⊎◌, ◌↔◌, ℕ, List, [], ◌∷◌, ◌++◌, get_or, length, refl, sym, subst, inl, inr, arith, append_assoc, Contains, Log, Edge, Polygraph, Fits, arcs, bipath_polygraph, inner_edges, initial_first}
+use Rattle.coalesce.proofs.Prelude.{chain_choices, chain_polygraph, edges_to, chains_fit, bipaths_fit, IsWith}
 use Rattle.std.proofs.lemmas.List.Elements.{Contains-append_left, Contains-append_right, Contains-append_cases}
-use Rattle.serializability.specs.Log.{Log}
 use Rattle.serializability.specs.Reads.{IsClean}
-use Rattle.serializability.specs.Polygraph.{Edge, Polygraph, Fits, arcs, bipath_polygraph}
-use Rattle.chain_laws.specs.Chains.{inner_edges, initial_first, chain_choices, chain_polygraph, edges_to}
-use Rattle.chain_laws.proofs.Coalesced.{chains_fit, bipaths_fit}
 use Rattle.pruning_laws.proofs.Same.{same_both}
-use Rattle.coalesce.specs.Added.{IsWith}
 use Rattle.coalesce.proofs.Between.{no_readers}
 
 pub one_in : {X : Type 0} (x y : X) → Contains (x ∷ []) y → y ≡ x

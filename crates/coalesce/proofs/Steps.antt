@@ -1,10 +1,6 @@
 -- What is made of the elements of a list, one by one.
-use Rattle.std.proofs.Common.{◌≡◌, ℕ, zero, suc, ◌+◌, ◌<◌, ◌≤◌, List, [], ◌∷◌, ◌++◌, length, get_or, take, sym, ap, ◌∙◌, subst, ◌-◌, arith, length-append}
-use Rattle.std.specs.Prelude.{map}
-use Rattle.std.specs.List.{flat_map}
-use Rattle.std.proofs.lemmas.List.{append-nil, map-append, take_more}
+use Rattle.coalesce.proofs.Prelude.{◌≡◌, ℕ, zero, suc, ◌+◌, ◌<◌, ◌≤◌, List, [], ◌∷◌, ◌++◌, length, get_or, take, sym, ap, ◌∙◌, subst, ◌-◌, arith, length-append, map, flat_map, append-nil, map-append, take_more, so_far, so_far_more}
 use Rattle.std.proofs.lemmas.Grind.{flat_map-append}
-use Rattle.serializability.proofs.SoFar.{so_far, so_far_more}
 
 -- ---- of the numbers below k
 so_far_up : {X : Type 0} (f : ℕ → List X) (k d : ℕ) → length (so_far f k) ≤ length (so_far f (k + d))

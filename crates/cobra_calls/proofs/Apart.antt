@@ -1,9 +1,7 @@
 -- Names of files that are the same, and that are not.
-use Rattle.std.proofs.Common.{◌≡◌, ◌≢◌, ℕ, ◌+◌, List, [], ◌∷◌, ◌++◌, Option, None, Some, length, refl, sym, ap, ◌∙◌, arith, length-append, append_assoc}
-use Rattle.std.specs.Prelude.{codes}
+use Rattle.cobra_calls.proofs.Prelude.{◌≡◌, ◌≢◌, ℕ, ◌+◌, List, [], ◌∷◌, ◌++◌, Option, None, Some, length, refl, sym, ap, ◌∙◌, arith, length-append, append_assoc, codes, part_names, StandsIn, StandsTwice, AreApart}
 use Rattle.std.specs.Borrow.{Bor}
 use Rattle.std.specs.List.{AllByRecursion}
-use Rattle.cobra_calls.specs.Audits.{part_names, StandsIn, StandsTwice, AreApart}
 
 abbrev Name : Type 0
 Name = List ℕ

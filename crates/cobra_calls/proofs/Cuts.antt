@@ -1,9 +1,5 @@
 -- Files that are written one after the other, of which one fails.
-use Rattle.std.proofs.Common.{◌≡◌, ℕ, List, [], ◌∷◌, ◌++◌, Option, Some, None, refl, sym, ap, ◌∙◌, append_assoc, append-nil}
-use Rattle.cobra_calls.specs.declared.ending.Ending.{Ending}
-use Rattle.cobra_calls.specs.Endings.{IsUnusable}
-use Rattle.cobra_calls.specs.Files.{File, Disk, Grows, Adds, FailsAt}
-use Rattle.cobra_calls.specs.Audits.{IsUnwritten}
+use Rattle.cobra_calls.proofs.Prelude.{◌≡◌, ℕ, List, [], ◌∷◌, ◌++◌, Option, Some, None, refl, sym, ap, ◌∙◌, append_assoc, append-nil, Ending, IsUnusable, File, Disk, Grows, Adds, FailsAt, IsUnwritten}
 
 pub file_is : (a b x y : List ℕ) → a ≡ b → x ≡ y → (let f : File = (a, x) in f) ≡ (b, y)
 file_is a b x y e h = ap (λ n. let f : File = (n, x) in f) e ∙ ap (λ m. let f : File = (b, m) in f) h

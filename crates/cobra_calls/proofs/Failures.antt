@@ -1,11 +1,8 @@
 -- How many calls of the output failed, by how a call ends.
-use Rattle.std.proofs.Common.{◌≡◌, ℕ, List, Err, refl, ap}
+use Rattle.cobra_calls.proofs.Prelude.{◌≡◌, ℕ, List, Err, refl, ap, Ending, Stop, Proof, Told, ending_of, failures_by, IsToldSo}
 use Rattle.refute_command.specs.Refuted.{failures_of}
 use Rattle.refute_command.specs.declared.refusal.Refusal.{Refusal}
 use Rattle.refute_command.specs.declared.refusal.Refusal.TheVariants as refusal
-use Rattle.cobra_calls.specs.declared.ending.Ending.{Ending}
-use Rattle.cobra_calls.specs.declared.ending.Ending.TheVariants.{Stop, Proof, Told}
-use Rattle.cobra_calls.specs.Endings.{ending_of, failures_by, IsToldSo}
 
 pub by_refusal : (before : ℕ) (r : Refusal) → failures_of before (Err r) ≡ failures_by before (ending_of r)
 by_refusal before (refusal.Command f) = refl

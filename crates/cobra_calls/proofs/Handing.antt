@@ -1,8 +1,5 @@
 -- Texts that are told and handed on.
-use Rattle.std.proofs.Common.{ℕ, List, Option, None, Some, length, sym, subst, ◌∙◌}
-use Rattle.std.proofs.Math.Seq.{take-length}
-use Rattle.std.specs.Io.KnownBytes.{Keeps, Appends}
-use Rattle.cobra_calls.specs.Handed.{TellsFront}
+use Rattle.cobra_calls.proofs.Prelude.{ℕ, List, Option, None, Some, length, sym, subst, ◌∙◌, take-length, Keeps, Appends, TellsFront}
 
 appends_kept : (a b c : Option (List ℕ)) (text : List ℕ) → Appends a b text → Keeps b c → Appends a c text
 appends_kept None b c text h k = tt

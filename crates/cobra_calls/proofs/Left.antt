@@ -1,13 +1,9 @@
 -- What a call leaves, from what its parts do.
-use Rattle.std.proofs.Common.{◌≡◌, ℕ, List, Option, subst, ap, ◌∙◌, inl, inr}
-use Rattle.std.specs.Io.KnownBytes.{Keeps}
+use Rattle.cobra_calls.proofs.Prelude.{◌≡◌, ℕ, List, Option, subst, ap, ◌∙◌, inl, inr, Keeps, Request, Ending, IsDone, IsEnded, Held, IsReading, IsLogRead, IsNamedRead, IsEnding, IsAnswer, AreReads, with_named}
 use Rattle.cobra_answers.specs.declared.status.Status.{Status}
 use Rattle.output.specs.Sinks.{one_more}
-use Rattle.cobra_words.specs.declared.request.Request.{Request}
 use Rattle.cobra_words.specs.declared.request.Command.{Command}
-use Rattle.cobra_calls.specs.declared.ending.Ending.{Ending}
-use Rattle.cobra_calls.specs.Calls.{IsDone, IsEnded}
-use Rattle.cobra_calls.specs.Worlds.{Held, IsReading, IsLogRead, IsNamedRead, IsEnding, IsAnswer, AreReads, with_named, by_command}
+use Rattle.cobra_calls.specs.Worlds.{by_command}
 
 pub reading_of : (r : Request) (given : Option (List ℕ)) (held later : Held) (log named : List ℕ) → IsLogRead r given held log → later ≡ held → IsNamedRead r.command later named → IsReading r given held (record { log = log; named = named })
 reading_of r given held later log named l e n = record { log = l; named = subst (λ (h : Held). IsNamedRead r.command h named) e n }

@@ -1,3 +1,4 @@
+mod Prelude
 pub mod Left
 pub mod Taken
 pub mod Handing

@@ -1,22 +1,14 @@
 -- Why a log is refused, said behind what a command left in the output.
-use Rattle.std.proofs.Common.{◌≡◌, ℕ, Bool, true, false, if◌then◌else◌, List, Option, None, Some, inl, inr, refl, ap, subst, ◌∙◌}
-use Rattle.std.specs.Io.KnownBytes.{Keeps, Appends}
-use Rattle.session_log.specs.Version.{version_of}
+use Rattle.cobra_calls.proofs.Prelude.{◌≡◌, ℕ, Bool, true, false, if◌then◌else◌, List, Option, None, Some, inl, inr, refl, ap, subst, ◌∙◌, Keeps, Appends, version_of, Fault, IsRefused, by_log, by_command, IsUndecided, IsExplanation, Ending}
+use Rattle.cobra_calls.proofs.Prelude.{Stop, IsSaid, IsUnsaid, said_fault, IsExplainEnding}
 use Rattle.session_log.specs.declared.fault.LogFault.{LogFault}
 use Rattle.log_definitions.specs.WellFormed.{IsLogFault}
 use Rattle.call_options.specs.declared.format.Format.{Format}
 use Rattle.call_options.specs.declared.format.Format.TheVariants as form
-use Rattle.cobra_answers.specs.declared.fault.Fault.{Fault}
 use Rattle.cobra_answers.specs.Refusals.{is_memory}
-use Rattle.cobra_answers.specs.Answers.{IsRefused, by_log, by_command}
 use Rattle.cobra_answers.specs.declared.fault.Fault.TheVariants as fault
 use Rattle.cobra_answers.specs.declared.stop.Stop.TheVariants as stop
-use Rattle.cobra_cli.specs.Checked.{IsUndecided}
-use Rattle.cobra_cli.specs.Explained.{IsExplanation}
-use Rattle.cobra_calls.specs.declared.ending.Ending.{Ending}
-use Rattle.cobra_calls.specs.declared.ending.Ending.TheVariants.{Stop}
 use Rattle.cobra_calls.specs.Explains as explains
-use Rattle.cobra_calls.specs.Explains.{IsSaid, IsUnsaid, said_fault, IsExplainEnding}
 
 kept_appends : (a b c : Option (List ℕ)) (text : List ℕ) → Keeps a b → Appends b c text → Appends a c text
 kept_appends None b c text k h = tt

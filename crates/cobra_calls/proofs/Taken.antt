@@ -1,9 +1,6 @@
 -- What a source gave, as the first bytes of what it had.
-use Rattle.std.proofs.Common.{◌≡◌, ℕ, zero, suc, ◌+◌, ◌-◌, ◌≤◌, List, [], ◌++◌, length, take, Option, None, Some, arith, refl, sym, ap, ◌∙◌}
-use Rattle.std.proofs.Math.Seq.{take-append-add}
-use Rattle.std.proofs.lemmas.List.{append-nil}
+use Rattle.cobra_calls.proofs.Prelude.{◌≡◌, ℕ, zero, suc, ◌+◌, ◌-◌, ◌≤◌, List, [], ◌++◌, length, take, Option, None, Some, arith, refl, sym, ap, ◌∙◌, take-append-add, append-nil, IsReadUpTo}
 use Rattle.cobra_answers.specs.Sources.{IsReadWhole}
-use Rattle.cobra_calls.specs.Worlds.{IsReadUpTo}
 
 none_left : (k limit : ℕ) (text rest : List ℕ) → k ≡ limit + 1 - length text → (length text ≤ limit → rest ≡ []) → take k rest ≡ []
 none_left zero limit text rest is whole = refl

@@ -1,9 +1,6 @@
 -- The line of words that ask for what there is not.
-use Rattle.std.proofs.Common.{◌≡◌, ℕ, List, refl, Result, Ok, Err, IfOk, subst, sym, string_bytes}
-use Rattle.std.specs.Prelude.{String}
+use Rattle.cobra_calls.proofs.Prelude.{◌≡◌, ℕ, List, refl, Result, Ok, Err, IfOk, subst, sym, string_bytes, String, Ending, told_as, IsUsage}
 use Rattle.std.specs.declared.alloc.Global.{Global}
-use Rattle.cobra_calls.specs.declared.ending.Ending.{Ending}
-use Rattle.cobra_calls.specs.Endings.{told_as, IsUsage}
 
 pub usage_of : {E : Type 0} (r : Result (String Global) E) (text : List ℕ) (e : Ending) → IfOk r (λ line. string_bytes line ≡ text) → e ≡ told_as r 2 → IsUsage text e
 usage_of (Ok line) text e h is = subst (IsUsage text) (sym is) (h, refl)

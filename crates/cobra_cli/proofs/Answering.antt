@@ -1,31 +1,15 @@
 -- The order of an assignment, and what a command says of sessions.
-use Rattle.std.proofs.Common.{◌≡◌, ℕ, Bool, List, length, None, Some, refl, sym, subst}
+use Rattle.cobra_cli.proofs.Prelude.{◌≡◌, ℕ, Bool, List, length, None, Some, refl, sym, subst, ClientSession, Version, Cnf, Satisfies, before, IsDecoded, Decides, IsDecided, Decision, text_of, order_text, poly_refusal, Status, Done, Basis}
+use Rattle.cobra_cli.proofs.Prelude.{IsFormulaFrom, IsFormulaOf, IsFaithful, serial_of, IsEncoding, IsAnswerTo, named_by, IsOrderText, IsDecoding, status_of, verdict_text, IsVerdict, IsUndecided, IsDecisionText, IsExplanation}
 use Rattle.std.proofs.lemmas.List.FromFn.{length-map-range_with_len}
-use Rattle.session_log.specs.Text.{ClientSession}
-use Rattle.session_log.specs.declared.version.Version.{Version}
-use Rattle.serializability.specs.Formula.{Cnf, Satisfies}
-use Rattle.serializability.specs.Decoded.{before, IsDecoded}
 use Rattle.polygraph.specs.declared.fault.PolyFault.{PolyFault}
 use Rattle.polygraph.specs.declared.fault.PolyFault.TheVariants.{TooManyChoices, Memory}
 use Rattle.reduction.specs.Outcome.{IsReduceFault}
-use Rattle.deciding.specs.Decides.{Decides, IsDecided}
-use Rattle.deciding.specs.declared.decision.Decision.{Decision}
 use Rattle.dimacs.specs.Answer as answer
 use Rattle.dimacs.specs.Words.{Item}
-use Rattle.dimacs.specs.Text.{text_of}
 use Rattle.dimacs.specs.declared.status.Status as dimacs
-use Rattle.order_text.specs.Text.{order_text}
 use Rattle.call_options.specs.declared.format.Format.{Format}
-use Rattle.cobra_answers.specs.Refusals.{poly_refusal}
 use Rattle.cobra_answers.specs.declared.reply.Reply.{Reply}
-use Rattle.cobra_answers.specs.declared.status.Status.{Status}
-use Rattle.cobra_answers.specs.declared.status.Status.TheVariants.{Done}
-use Rattle.cobra_formulas.specs.declared.basis.Basis.{Basis}
-use Rattle.cobra_formulas.specs.Formulas.{IsFormulaFrom, IsFormulaOf, IsFaithful}
-use Rattle.cobra_formulas.proofs.Made.{serial_of}
-use Rattle.cobra_cli.specs.Commands.{IsEncoding, IsAnswerTo, named_by, IsOrderText, IsDecoding}
-use Rattle.cobra_cli.specs.Checked.{status_of, verdict_text, IsVerdict, IsUndecided}
-use Rattle.cobra_cli.specs.Explained.{IsDecisionText, IsExplanation}
 
 pub assignment_long : (vars : ℕ) (items : List Item) → length (answer.assignment vars items) ≡ vars
 assignment_long vars items = length-map-range_with_len _ 1 vars

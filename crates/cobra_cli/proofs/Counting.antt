@@ -1,18 +1,7 @@
 -- Lines of counts, one behind the other, and the counts of what a formula is made from.
-use Rattle.std.proofs.Common.{◌≡◌, ℕ, suc, ◌+◌, ◌≤◌, Bool, true, false, cond, ◌||◌, List, [], ◌∷◌, ◌++◌, length, Option, None, Some, sym, ap, ◌∙◌, subst, arith, append_assoc}
-use Rattle.session_log.specs.Text.{ClientSession}
-use Rattle.serializability.specs.declared.anomaly.Anomaly.{Anomaly}
-use Rattle.serializability.specs.Log.{Log}
-use Rattle.serializability.specs.Anomalies.{anomaly_of}
-use Rattle.serializability.specs.Formula.{Cnf}
-use Rattle.serializability.specs.Polygraph.{Choice}
-use Rattle.chain_laws.specs.Chains.{chain_choices}
+use Rattle.cobra_cli.proofs.Prelude.{◌≡◌, ℕ, suc, ◌+◌, ◌≤◌, Bool, true, false, cond, ◌||◌, List, [], ◌∷◌, ◌++◌, length, Option, None, Some, sym, ap, ◌∙◌, subst, arith, append_assoc, ClientSession, Anomaly, Log, anomaly_of, Cnf, Choice}
+use Rattle.cobra_cli.proofs.Prelude.{chain_choices, Sides, open_from, log_of, Basis, plain_basis, IsReducedFormula, by_anomaly, by_cycle, by_pruning, by_choices, IsFormulaFrom, OpensNoMore}
 use Rattle.pruning_laws.specs.declared.side.Side.TheVariants.{One, Two}
-use Rattle.pruning_laws.specs.Forced.{Sides, open_from}
-use Rattle.log_definitions.specs.Numbers.{log_of}
-use Rattle.cobra_formulas.specs.declared.basis.Basis.{Basis}
-use Rattle.cobra_formulas.specs.Formulas.{plain_basis, IsReducedFormula, by_anomaly, by_cycle, by_pruning, by_choices, IsFormulaFrom}
-use Rattle.cobra_cli.specs.Statistics.{OpensNoMore}
 
 -- one piece more, behind those so far
 pub joined : (o x y a b : List ℕ) → x ≡ o ++ a → y ≡ x ++ b → y ≡ o ++ (a ++ b)

@@ -1,3 +1,4 @@
+mod Prelude
 pub mod Named
 pub mod Answering
 pub mod Counting

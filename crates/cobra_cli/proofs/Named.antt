@@ -1,14 +1,11 @@
 -- The node that a refused replay names is one of the log's.
-use Rattle.std.proofs.Common.{◌≡◌, ◌⊎◌, ℕ, suc, ◌<◌, ◌≤◌, Bool, true, false, cond, List, [], ◌∷◌, Option, None, Some, refl, subst, inl, inr, arith}
+use Rattle.cobra_cli.proofs.Prelude.{◌≡◌, ◌⊎◌, ℕ, suc, ◌<◌, ◌≤◌, Bool, true, false, cond, List, [], ◌∷◌, Option, None, Some, refl, subst, inl, inr, arith, Log, Store, empty, after, ReplayFault, lists_once, first_early, first_before_ended}
+use Rattle.cobra_cli.proofs.Prelude.{PlacedOp, placed_from, in_replay, meets, first_mismatch, replay_fault}
 use Rattle.std.specs.List.{All, AllByRecursion, enumerate_from}
 use Rattle.std.specs.Option.{option_map, option_or}
 use Rattle.serializability.specs.declared.event.Event.{Event}
-use Rattle.serializability.specs.Log.{Log}
-use Rattle.serializability.specs.Replay.{Store, empty, after}
 use Rattle.serializability.proofs.Places.{each_from_flat_map, each_from_map}
-use Rattle.decode_order.specs.declared.fault.ReplayFault.{ReplayFault}
 use Rattle.decode_order.specs.declared.fault.ReplayFault.TheVariants.{NotAPermutation, SessionOrder, MomentOrder, ReadMismatch}
-use Rattle.decode_order.specs.Replaying.{lists_once, first_early, first_before_ended, PlacedOp, placed_from, in_replay, meets, first_mismatch, replay_fault}
 
 chosen : {X : Type 0} (b : Bool) (x y : X) (rest : Option X) → cond b (Some x) rest ≡ Some y → (x ≡ y) ⊎ (rest ≡ Some y)
 chosen true x y rest e = inl cc

@@ -1,34 +1,16 @@
 -- Sessions have one formula, with `--plain` and without it.
-use Rattle.std.proofs.Common.{◌≡◌, ℕ, ◌+◌, Bool, true, false, List, length, get_or, Option, None, Some, refl, sym, ap, ◌∙◌, subst, inl, inr, arith}
+use Rattle.cobra_cli.proofs.Prelude.{◌≡◌, ℕ, ◌+◌, Bool, true, false, List, length, get_or, Option, None, Some, refl, sym, ap, ◌∙◌, subst, inl, inr, arith, ClientSession, Version, Anomaly, Log, Polygraph, arcs, ListsOnce, Cnf, before}
+use Rattle.cobra_cli.proofs.Prelude.{IsDecoded, anomaly_of, anomaly_number, chain_polygraph, chain_choices, Sides, edges_with, committed_in, log_of, text_of, order_text, Basis, Status, IsReducedFormula, by_anomaly, by_cycle, by_pruning}
+use Rattle.cobra_cli.proofs.Prelude.{by_choices, IsFormulaFrom, IsFormulaOf, IsEncoding, IsAnswerTo, named_by, IsOrderText, IsDecoding, model, unsatisfiable, unknown, IsCounting, stats_text}
 use Rattle.std.proofs.lemmas.List.{get_or_default, ext_get_or}
-use Rattle.session_log.specs.Text.{ClientSession}
-use Rattle.session_log.specs.declared.version.Version.{Version}
-use Rattle.serializability.specs.declared.anomaly.Anomaly.{Anomaly}
-use Rattle.serializability.specs.Log.{Log}
-use Rattle.serializability.specs.Polygraph.{Polygraph, arcs}
-use Rattle.serializability.specs.Replay.{ListsOnce}
-use Rattle.serializability.specs.Formula.{Cnf}
-use Rattle.serializability.specs.Decoded.{before, IsDecoded}
 use Rattle.serializability.proofs.Ranks.{rank}
-use Rattle.serializability.specs.Anomalies.{anomaly_of, anomaly_number}
 use Rattle.reach_laws.specs.Reach.{IsCyclic}
 use Rattle.reach_laws.proofs.Walks.{cycle_from}
-use Rattle.chain_laws.specs.Chains.{chain_polygraph, chain_choices}
-use Rattle.pruning_laws.specs.Forced.{Sides, edges_with}
-use Rattle.log_definitions.specs.Serial.{committed_in}
-use Rattle.log_definitions.specs.Numbers.{log_of}
 use Rattle.reduction.specs.Chained.{IsCoalesced, IsKnownCycle}
 use Rattle.order_laws.proofs.Same.{same_pruned, same_formula}
-use Rattle.dimacs.specs.Text.{text_of}
 use Rattle.dimacs.specs.declared.status.Status as dimacs
 use Rattle.dimacs.specs.declared.status.Status.TheVariants as claim
-use Rattle.order_text.specs.Text.{order_text}
-use Rattle.cobra_formulas.specs.declared.basis.Basis.{Basis}
 use Rattle.cobra_formulas.specs.declared.basis.Basis.TheVariants.{Anomalous, Chains}
-use Rattle.cobra_answers.specs.declared.status.Status.{Status}
-use Rattle.cobra_formulas.specs.Formulas.{IsReducedFormula, by_anomaly, by_cycle, by_pruning, by_choices, IsFormulaFrom, IsFormulaOf}
-use Rattle.cobra_cli.specs.Commands.{IsEncoding, IsAnswerTo, named_by, IsOrderText, IsDecoding, model, unsatisfiable, unknown, IsCounting}
-use Rattle.cobra_cli.specs.Statistics.{stats_text}
 use Rattle.cobra_formulas.proofs.SameEdges.{cycle_among, known_among}
 
 -- ---- what excludes what

@@ -1,26 +1,17 @@
 -- An order file has one answer.
-use Rattle.std.proofs.Common.{◌≡◌, ◌⊎◌, ℕ, true, false, List, Option, None, Some, refl, sym, ap, ◌∙◌, inl, inr}
+use Rattle.cobra_cli.proofs.Prelude.{◌≡◌, ◌⊎◌, ℕ, true, false, List, Option, None, Some, refl, sym, ap, ◌∙◌, inl, inr, ClientSession, version_of, first_line, IsWellFormed, log_of, IsWellFormedList, room, serial_numbered, replay_fault}
+use Rattle.cobra_cli.proofs.Prelude.{ReplayFault, Status, IsListed, IsVerified, IsRefusal, IsReplayRefused, IsNotVerified, is_memory}
 use Rattle.std.proofs.lemmas.Bool.{cases_Bool, false≢true}
-use Rattle.session_log.specs.Text.{ClientSession}
-use Rattle.session_log.specs.Version.{version_of, first_line}
-use Rattle.log_definitions.specs.WellFormed.{IsWellFormed}
-use Rattle.log_definitions.specs.Numbers.{log_of, IsWellFormedList}
-use Rattle.log_definitions.proofs.Room.{room}
 use Rattle.log_definitions.proofs.Scanning.{rules_where_no_fault, no_fault_where_rules}
-use Rattle.log_definitions.proofs.Renaming.{serial_numbered}
 use Rattle.session_history.specs.Tables.{name_in}
 use Rattle.order_text.specs.Faults as listing
 use Rattle.order_text.specs.declared.fault.OrderFault.{OrderFault}
 use Rattle.order_text.specs.declared.fault.OrderFault.TheVariants as listing_fault
 use Rattle.order_text.proofs.Printing.{order_text-injective}
-use Rattle.decode_order.specs.Replaying.{replay_fault}
-use Rattle.decode_order.specs.declared.fault.ReplayFault.{ReplayFault}
 use Rattle.decode_order.specs.declared.fault.ReplayFault.TheVariants as replay
 use Rattle.decode_order.proofs.Whole.{fault_serial}
-use Rattle.cobra_answers.specs.declared.status.Status.{Status}
 use Rattle.cobra_answers.specs.declared.fault.Fault.{Fault}
 use Rattle.cobra_answers.specs.declared.fault.Fault.TheVariants as fault
-use Rattle.cobra_cli.specs.Commands.{IsListed, IsVerified, IsRefusal, IsReplayRefused, IsNotVerified, is_memory}
 
 pub one_accepted : (given : List ℕ) (ss : List ClientSession) (s t : Status) (text other : List ℕ) → IsVerified given ss s text → IsVerified given ss t other → (s ≡ t) × (text ≡ other)
 one_accepted given ss s t text other h k = (h.ends ∙ sym k.ends, h.told ∙ sym k.told)

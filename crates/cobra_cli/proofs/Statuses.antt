@@ -1,14 +1,8 @@
 -- What a status says of the sessions.
-use Rattle.std.proofs.Common.{◌≡◌, ℕ, List, refl, ap, subst}
-use Rattle.session_log.specs.Text.{ClientSession}
-use Rattle.log_definitions.specs.Serial.{IsSerialOrder}
+use Rattle.cobra_cli.proofs.Prelude.{◌≡◌, ℕ, List, refl, ap, subst, ClientSession, IsSerialOrder, HasNoOrder, IsSearched, Decides, Decision, Done, NotSerializable, Unknown, status_of, verdict_text}
 use Rattle.branch_search.specs.declared.answer.Answer.TheVariants as search
-use Rattle.deciding.specs.Decides.{HasNoOrder, IsSearched, Decides}
-use Rattle.deciding.specs.declared.decision.Decision.{Decision}
 use Rattle.deciding.specs.declared.decision.Decision.TheVariants.{Serial, Anomalous, Cyclic, Dead, Refuted, Spent}
 use Rattle.cobra_answers.specs.Verdicts.{serial_text, spent_text}
-use Rattle.cobra_answers.specs.declared.status.Status.TheVariants.{Done, NotSerializable, Unknown}
-use Rattle.cobra_cli.specs.Checked.{status_of, verdict_text}
 
 pub record IsOrderTold (ss : List ClientSession) (d : Decision) : Type 0 where
   pub order : List ℕ

@@ -1,3 +1,4 @@
+mod Prelude
 pub mod SameEdges
 pub mod Reduced
 pub mod Plain

@@ -1,10 +1,6 @@
 -- What the parts of reading say of a log.
-use Rattle.std.proofs.Common.{◌≡◌, ℕ, List, Option, Some, None, Result, Ok, Err, refl, sym, subst}
-use Rattle.std.specs.Prelude.{IfErr}
-use Rattle.std.specs.List.{AllByRecursion}
+use Rattle.cobra_formulas.proofs.Prelude.{◌≡◌, ℕ, List, Option, Some, None, Result, Ok, Err, refl, sym, subst, IfErr, AllByRecursion, ClientSession, IsLegal, IsHeldBy, log_text, version_of, first_line}
 use Rattle.std.specs.Option.{option_or}
-use Rattle.session_log.specs.Text.{ClientSession, IsLegal, IsHeldBy, log_text}
-use Rattle.session_log.specs.Version.{version_of, first_line}
 use Rattle.session_log.specs.declared.version.Version.{Version}
 use Rattle.session_log.specs.Blocks.{size_fault}
 use Rattle.session_log.specs.Faults.{grammar_fault}

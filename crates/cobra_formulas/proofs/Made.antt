@@ -1,11 +1,6 @@
 -- What follows from how a formula was made.
-use Rattle.std.proofs.Common.{Bool, List, ℕ}
-use Rattle.session_log.specs.Text.{ClientSession}
-use Rattle.serializability.specs.Formula.{Cnf, Satisfies}
-use Rattle.serializability.specs.Decoded.{before, IsDecoded}
+use Rattle.cobra_formulas.proofs.Prelude.{Bool, List, ℕ, ClientSession, Cnf, Satisfies, before, IsDecoded, IsFormulaFrom, IsFormulaOf, IsFaithful, Basis}
 use Rattle.log_definitions.specs.Serial.{IsSerialOrder}
-use Rattle.cobra_formulas.specs.Formulas.{IsFormulaFrom, IsFormulaOf, IsFaithful}
-use Rattle.cobra_formulas.specs.declared.basis.Basis.{Basis}
 
 pub belongs_so : (plain : Bool) (ss : List ClientSession) (b : Basis) (f : Cnf) → IsFormulaFrom plain ss b f → IsFormulaOf plain ss f
 belongs_so plain ss b f h = record { basis = b; made = h }

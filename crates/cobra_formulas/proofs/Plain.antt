@@ -1,10 +1,5 @@
 -- The plain formula of a clean log stands for its serial orders.
-use Rattle.std.proofs.Common.{◌≡◌, sym, subst, List}
-use Rattle.session_log.specs.Text.{ClientSession}
-use Rattle.serializability.specs.Formula.{Cnf}
-use Rattle.log_definitions.specs.Numbers.{IsWellFormedList, plain_answer}
-use Rattle.headline.proofs.Answered.{answer_where_some, answer_serial, answer_decodes}
-use Rattle.cobra_formulas.specs.Formulas.{IsFaithful}
+use Rattle.cobra_formulas.proofs.Prelude.{◌≡◌, sym, subst, List, ClientSession, Cnf, IsWellFormedList, plain_answer, answer_where_some, answer_serial, answer_decodes, IsFaithful}
 
 pub faithful_plain : (ss : List ClientSession) → IsWellFormedList ss → (f : Cnf) → f ≡ plain_answer ss → IsFaithful ss f
 faithful_plain ss h f e = subst (λ (g : Cnf). IsFaithful ss g) (sym e) (record {

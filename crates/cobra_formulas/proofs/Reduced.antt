@@ -1,25 +1,17 @@
 -- The reduced formula of what the steps before the search leave.
-use Rattle.std.proofs.Common.{◌≡◌, ℕ, List, length, Option, None, Some, Result, Ok, Err, IfOk, refl, sym, ap, ◌∙◌, subst, inl, inr}
-use Rattle.std.specs.Prelude.{nat_lt}
+use Rattle.cobra_formulas.proofs.Prelude.{◌≡◌, ℕ, List, length, Option, None, Some, Result, Ok, Err, IfOk, refl, sym, ap, ◌∙◌, subst, inl, inr, nat_lt, ClientSession, Choice, Polygraph, Cnf, before, IsDecoded, Graph, Sides, edges_with}
+use Rattle.cobra_formulas.proofs.Prelude.{open_from, pruned, log_of, formula_where, plain_answer, IsWellFormedList, IsKnownGraph, IsPolygraph, is_listed, cnf_of, formula_of_rest, Basis, IsReducedWithin, IsReducedFault, IsReducedFormula}
+use Rattle.cobra_formulas.proofs.Prelude.{by_anomaly, by_cycle, by_pruning, by_choices, IsFaithful}
 use Rattle.std.proofs.lemmas.Option.{cond_some}
-use Rattle.session_log.specs.Text.{ClientSession}
 use Rattle.serializability.specs.declared.anomaly.Anomaly.{Anomaly}
-use Rattle.serializability.specs.Polygraph.{Choice, Polygraph}
-use Rattle.serializability.specs.Formula.{Cnf}
-use Rattle.serializability.specs.Decoded.{before, IsDecoded}
 use Rattle.serializability.specs.Pairs.{Known}
 use Rattle.serializability.specs.Plain.{plain, contradiction}
 use Rattle.serializability.specs.Anomalies.{anomaly_of, anomaly_number}
 use Rattle.serializability.proofs.PlainLaws.{contradicted}
-use Rattle.reach_laws.specs.Reach.{Graph}
 use Rattle.chain_laws.specs.Chains.{chain_polygraph, chain_choices}
-use Rattle.pruning_laws.specs.Forced.{Sides, edges_with, open_from, pruned}
 use Rattle.pruning_laws.specs.Ledger.{sides_in}
-use Rattle.log_definitions.specs.Numbers.{log_of, formula_where, plain_answer, IsWellFormedList}
 use Rattle.log_definitions.proofs.OnlyTaken.{serial_where_some}
-use Rattle.known_graph.specs.Graphs.{IsKnownGraph}
 use Rattle.known_graph.proofs.Tested.{edge_in, has_contained}
-use Rattle.polygraph.specs.Polygraphs.{IsPolygraph}
 use Rattle.reach_rows.specs.ReachRows.{AreRowsOf}
 use Rattle.prune_ledger.specs.declared.ledger.Ledger.{Ledger}
 use Rattle.prune_ledger.specs.Pruned.{Remainder, IsReduced, kept_by}
@@ -33,12 +25,8 @@ use Rattle.order_laws.proofs.Left.{same_reach, same_reduced}
 use Rattle.order_cnf.specs.declared.fault.CnfFault.{CnfFault}
 use Rattle.order_cnf.specs.declared.fault.CnfFault.TheVariants as cnf
 use Rattle.order_cnf.specs.Limits.{size_fault, IsFault}
-use Rattle.order_cnf.specs.Data.{is_listed, cnf_of}
-use Rattle.order_cnf.specs.Left.{formula_of_rest}
-use Rattle.cobra_formulas.specs.declared.basis.Basis.{Basis}
 use Rattle.cobra_formulas.specs.declared.basis.Basis.TheVariants.{Anomalous, Chains}
 use Rattle.cobra_formulas.specs.declared.formula.Belonging.{Belonging}
-use Rattle.cobra_formulas.specs.Formulas.{IsReducedWithin, IsReducedFault, IsReducedFormula, by_anomaly, by_cycle, by_pruning, by_choices, IsFaithful}
 use Rattle.cobra_formulas.proofs.SameEdges.{Among, cycle_among, with_among, forced_among, dead_among}
 
 -- the pairs of rows are what reaches what

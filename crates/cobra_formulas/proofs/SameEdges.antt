@@ -1,12 +1,9 @@
 -- Of the known edges of a polygraph its forced set, and whether it is dead, see the set alone.
-use Rattle.std.proofs.Common.{◌≡◌, ℕ, ◌+◌, true, List, [], ◌∷◌, ◌++◌, sym, subst, inl, inr}
-use Rattle.std.specs.List.{Contains}
+use Rattle.cobra_formulas.proofs.Prelude.{◌≡◌, ℕ, ◌+◌, true, List, [], ◌∷◌, ◌++◌, sym, subst, inl, inr, Contains, Edge, Choice, Polygraph, Reaches, IsCyclic, edges_of, other, Sides, EachNumbered, kept_from, edges_with, IsRefuted, IsClosed}
+use Rattle.cobra_formulas.proofs.Prelude.{IsForced, IsDead}
 use Rattle.std.proofs.lemmas.List.Elements.{Contains-append_left, Contains-append_right, Contains-append_cases}
-use Rattle.serializability.specs.Polygraph.{Edge, Choice, Polygraph}
-use Rattle.reach_laws.specs.Reach.{Reaches, IsCyclic}
 use Rattle.reach_laws.proofs.Walks.{each_from_contained, reach_in}
 use Rattle.pruning_laws.specs.declared.side.Side.{Side}
-use Rattle.pruning_laws.specs.Forced.{edges_of, other, Sides, EachNumbered, kept_from, edges_with, IsRefuted, IsClosed, IsForced, IsDead}
 
 -- each of these edges is one of those
 abbrev pub Among : List Edge → List Edge → Type 0

@@ -1,13 +1,8 @@
 -- A command with one more argument or subcommand.
-use Rattle.std.proofs.Common.{ap, ◌∙◌}
-use Rattle.std.specs.Prelude.{◌||◌}
-use Rattle.clap.specs.Built.{AddsArg, AddsSubcommand}
-use Rattle.clap.specs.Walk.{Rule, rule_of}
-use Rattle.clap.specs.Simple.{App, with_rule, with_subcommand, shape_of}
+use Rattle.cobra_words.proofs.Prelude.{ap, ◌∙◌, ◌||◌, AddsArg, AddsSubcommand, Rule, rule_of, App, with_rule, with_subcommand, shape_of, HasRule, HasApp}
 use Rattle.clap.specs.declared.builder.arg.Arg.{Arg}
 use Rattle.clap.specs.declared.builder.command.Command.{Command}
 use Rattle.clap.specs.declared.builder.command.Command.TheViews.{out-Command}
-use Rattle.cobra_words.specs.Commands.{HasRule, HasApp}
 
 pub arg_step : {a : App} {rule : Rule} {old new : Command} {arg : Arg} → HasApp a old → HasRule rule arg → AddsArg old arg new → HasApp (with_rule a rule) new
 arg_step {a} {rule} {old} {new} {arg} h r adds = record {

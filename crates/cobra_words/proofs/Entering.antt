@@ -1,18 +1,14 @@
 -- The command that a parse entered, by its name and by its matches.
-use Rattle.std.proofs.Common.{◌≡◌, List, [], Option, None, Some, ap, sym, subst, ◌∙◌, refl, inl, inr}
-use Rattle.std.specs.Prelude.{option_map, true}
-use Rattle.clap.specs.Walk.{Row, Text}
+use Rattle.cobra_words.proofs.Prelude.{◌≡◌, List, [], Option, None, Some, ap, sym, subst, ◌∙◌, refl, inl, inr, option_map, true, Row, Text, App, is_simple, subcommand_of, subcommand_rows_of, HasMatchesOf, Lists, program_app, IsAskedBy}
+use Rattle.cobra_words.proofs.Prelude.{IsInRange, IsAskedFor, IsAskedForNone, IsShownFor}
 use Rattle.clap.specs.Faults.{fault_of, is_simple_and_free}
 use Rattle.clap.specs.Kinds.{Kinds, HasKind, IsAmong}
-use Rattle.clap.specs.Simple.{App, is_simple, subcommand_of, subcommand_rows_of, HasMatchesOf}
 use Rattle.clap.specs.Takes.{takes}
 use Rattle.clap.specs.Values.{kind_of}
 use Rattle.clap.specs.declared.error.Error.{Error}
 use Rattle.clap.specs.declared.error.kind.ErrorKind.TheVariants.{OutOfMemory}
 use Rattle.clap.specs.declared.parser.matches.ArgMatches.{ArgMatches}
 use Rattle.cobra_words.specs.declared.request.Request.{Request}
-use Rattle.cobra_words.specs.Commands.{Lists, program_app}
-use Rattle.cobra_words.specs.Asked.{IsAskedBy, IsInRange, IsAskedFor, IsAskedForNone, IsShownFor}
 
 pub none_entered : {B C : Type 0} (s : Option B) (f : B → Text) (g : B → C) (x : C) → (let o : Option Text = None in o) ≡ option_map f s → option_map g s ≡ Some x → ⊥
 none_entered None f g x e h = cc

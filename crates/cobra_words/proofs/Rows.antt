@@ -1,16 +1,12 @@
 -- What is read of one value, by the rows of the matches.
-use Rattle.std.proofs.Common.{◌≡◌, ℕ, Bool, true, false, List, Option, None, Some, Result, Ok, Err, refl, sym, ◌∙◌, ap}
-use Rattle.std.specs.Prelude.{codes, unwrap_or, is_some, option_and_then}
+use Rattle.cobra_words.proofs.Prelude.{◌≡◌, ℕ, Bool, true, false, List, Option, None, Some, Result, Ok, Err, refl, sym, ◌∙◌, ap, codes, unwrap_or, is_some, option_and_then, ParsesBool, ParsesUnsigned, first_value, one_text, ReadsOne, Text}
+use Rattle.cobra_words.proofs.Prelude.{rows_of, first_of, one_of, IsFlag, IsNumber}
 use Rattle.std.specs.Option.{option_map_or}
-use Rattle.std.specs.Str.Parse.{ParsesBool, ParsesUnsigned}
 use Rattle.clap.specs.Facts.{explicit_source}
 use Rattle.clap.specs.declared.parser.matches.Found.{Found}
 use Rattle.clap.specs.declared.parser.matches.MatchedArg.{MatchedArg}
 use Rattle.clap.specs.declared.parser.matches.ValueSource.{ValueSource}
-use Rattle.clap.specs.Matches.{first_value, one_text, ReadsOne}
-use Rattle.clap.specs.Walk.{Text, rows_of, first_of, one_of}
 use Rattle.clap.proofs.WalkLemmas.{first_value-rows, one_text-rows}
-use Rattle.cobra_words.specs.Asked.{IsFlag, IsNumber}
 
 pub text_rows : (f : Found) (id : Text) → first_value f id ≡ first_of id (rows_of f)
 text_rows f id = first_value-rows f id

@@ -1,20 +1,7 @@
 -- The nodes that contracts see, and those in memory.
-use Rattle.std.proofs.Common.{◌≡◌, ℕ, zero, suc, ◌+◌, ◌<◌, ◌≤◌, Bool, ◌||◌, List, [], ◌∷◌, ◌++◌, length, get_or, Option, None, Some, refl, sym, ap, ◌∙◌, arith}
-use Rattle.std.specs.Prelude.{slice_get, slice_set}
-use Rattle.std.specs.Option.{option_map_or}
-use Rattle.std.specs.List.{list_any}
-use Rattle.std.proofs.lemmas.List.{get_or_append_left, get_or_push, length_push}
-use Rattle.std.proofs.lemmas.Option.{slice_get_within, slice_get-get_or, slice_get_past, same_Some}
-use Rattle.pruning_laws.specs.declared.side.Side.{Side}
-use Rattle.cube_laws.specs.Cubes.{Cube}
-use Rattle.cube_laws.specs.State.{Node}
-use Rattle.cube_laws.specs.Steps.{with_mark, child}
-use Rattle.cube_laws.specs.declared.messages.CubeState.{CubeState}
-use Rattle.cube_laws.specs.declared.messages.CubeState.TheVariants.{Open}
-use Rattle.cube_laws.proofs.Nodes.{none-some}
-use Rattle.cube_machine.specs.Ways.{cube_of, cubes_after, parent_of, nodes_with, nodes_of, cube_in, IsWay}
-use Rattle.cube_machine.specs.declared.origin.Origin.{Origin}
-use Rattle.cube_machine.specs.declared.node.TreeNode.{TreeNode}
+use Rattle.cube_machine.proofs.Prelude.{◌≡◌, ℕ, zero, suc, ◌+◌, ◌<◌, ◌≤◌, Bool, ◌||◌, List, [], ◌∷◌, ◌++◌, length, get_or, Option, None, Some, refl, sym, ap, ◌∙◌, arith, slice_get, slice_set, option_map_or, list_any, get_or_append_left}
+use Rattle.cube_machine.proofs.Prelude.{get_or_push, length_push, slice_get_within, slice_get-get_or, slice_get_past, same_Some, Side, Cube, Node, with_mark, child, CubeState, Open, none-some, cube_of, cubes_after, parent_of, nodes_with}
+use Rattle.cube_machine.proofs.Prelude.{nodes_of, cube_in, IsWay, Origin, TreeNode}
 
 -- ---- lengths
 length_after : (before : List Cube) (xs : List TreeNode) → length (cubes_after before xs) ≡ length before + length xs

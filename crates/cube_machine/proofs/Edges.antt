@@ -1,23 +1,7 @@
 -- The edges of a cube.
-use Rattle.std.proofs.Common.{◌≡◌, ◌⊎◌, ◌↔◌, ℕ, zero, suc, ◌+◌, ◌<◌, Bool, true, false, eqb, ◌&&◌, ◌||◌, List, [], ◌∷◌, ◌++◌, length, get_or, take, refl, sym, ap, ◌∙◌, subst, inl, inr, arith}
-use Rattle.std.specs.Prelude.{slice_get}
-use Rattle.std.specs.Option.{option_map_or}
-use Rattle.std.specs.List.{Contains}
-use Rattle.std.proofs.lemmas.Bool.{false≢true, or_cases, or_left, or_right, eq-eqb, ne_eqb}
-use Rattle.std.proofs.lemmas.List.{take_more}
-use Rattle.std.proofs.Math.Bool.{or-false, or_assoc, and-or_distrib_right}
-use Rattle.list_lemmas.proofs.Bools.{same_bool, either_way}
-use Rattle.serializability.specs.Polygraph.{Edge, Choice, Polygraph}
-use Rattle.pruning_laws.specs.declared.side.Side.{Side}
-use Rattle.pruning_laws.specs.declared.side.Side.TheVariants.{One, Two}
-use Rattle.pruning_laws.specs.Forced.{edges_of, Sides, kept_from}
-use Rattle.pruning_laws.specs.Ledger.{same_side, sides_in}
-use Rattle.known_graph.specs.Tests.{has_edge}
-use Rattle.known_graph.proofs.Tested.{edge_in, has_contained}
-use Rattle.known_graph.proofs.Rows.{edge_append}
-use Rattle.cube_laws.specs.Cubes.{Cube, edges_under}
-use Rattle.side_edges.proofs.Listed.{kept_edge}
-use Rattle.cube_machine.specs.Sides.{side_in, cube_edges}
+use Rattle.cube_machine.proofs.Prelude.{◌≡◌, ◌⊎◌, ◌↔◌, ℕ, zero, suc, ◌+◌, ◌<◌, Bool, true, false, eqb, ◌&&◌, ◌||◌, List, [], ◌∷◌, ◌++◌, length, get_or, take, refl, sym, ap, ◌∙◌, subst, inl, inr, arith, slice_get, option_map_or, Contains}
+use Rattle.cube_machine.proofs.Prelude.{false≢true, or_cases, or_left, or_right, eq-eqb, ne_eqb, take_more, or-false, or_assoc, and-or_distrib_right, same_bool, either_way, Edge, Choice, Polygraph, Side, One, Two, edges_of, Sides}
+use Rattle.cube_machine.proofs.Prelude.{kept_from, same_side, sides_in, has_edge, edge_in, has_contained, edge_append, Cube, edges_under, kept_edge, side_in, cube_edges}
 
 -- ---- one edge more
 pub edge_added : (old now : List Edge) (d e : Edge) → ((x : Edge) → (Contains now x ↔ (Contains old x ⊎ (x ≡ d)))) → has_edge now e ≡ (has_edge old e || has_edge (d ∷ []) e)

@@ -1,16 +1,6 @@
 -- Flags of the sides that a cube decides.
-use Rattle.std.proofs.Common.{◌≡◌, ℕ, Bool, true, false, not, eqb, ◌&&◌, ◌||◌, List, [], ◌∷◌, Option, None, Some, refl, sym, ap, ◌∙◌}
-use Rattle.std.specs.Prelude.{slice_get}
-use Rattle.std.specs.Option.{option_map_or}
-use Rattle.std.proofs.lemmas.Bool.{eqb-true, or_parts, and_parts}
-use Rattle.list_lemmas.proofs.Bools.{either_way}
-use Rattle.pruning_laws.specs.declared.side.Side.{Side}
-use Rattle.pruning_laws.specs.declared.side.Side.TheVariants.{One, Two}
-use Rattle.pruning_laws.specs.Ledger.{same_side, sides_in}
-use Rattle.cube_laws.specs.Cubes.{Cube, is_decided}
-use Rattle.cube_machine.specs.Flags.{either, flag_of, flag_at, is_flagged, is_odd}
-use Rattle.cube_machine.specs.Noted.{IsOnce}
-use Rattle.cube_machine.specs.declared.decided.SideFlags.{SideFlags}
+use Rattle.cube_machine.proofs.Prelude.{◌≡◌, ℕ, Bool, true, false, not, eqb, ◌&&◌, ◌||◌, List, [], ◌∷◌, Option, None, Some, refl, sym, ap, ◌∙◌, slice_get, option_map_or, eqb-true, or_parts, and_parts, either_way, Side, One, Two, same_side}
+use Rattle.cube_machine.proofs.Prelude.{sides_in, Cube, is_decided, either, flag_of, flag_at, is_flagged, is_odd, IsOnce, SideFlags}
 
 -- ---- one of both
 once_more : (h f p : Bool) → either h f ≡ either f (either (either h p) p)

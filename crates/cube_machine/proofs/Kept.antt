@@ -1,20 +1,7 @@
 -- What the type of the machine keeps, where a node is closed and where two are added.
-use Rattle.std.proofs.Common.{◌≡◌, ℕ, ◌+◌, ◌*◌, ◌≤◌, false, eqb, ◌||◌, not, Some, ◌∙◌, List, [], ◌∷◌, ◌++◌, length, sym, ap, subst, arith, Vec, Global}
-use Rattle.std.specs.Prelude.{slice_get, slice_set}
-use Rattle.std.proofs.lemmas.Bool.{eqb-false, or_parts}
-use Rattle.std.proofs.lemmas.List.{length-append, length-set}
-use Rattle.serializability.specs.Polygraph.{Polygraph}
-use Rattle.reach_laws.specs.Reach.{Graph}
-use Rattle.cube_laws.specs.State.{Node, State, root}
-use Rattle.cube_laws.specs.Steps.{with_mark, has_solved, has_live, is_finished}
-use Rattle.cube_laws.specs.declared.messages.CubeState.{CubeState}
-use Rattle.side_edges.specs.Listed.{HasSides}
-use Rattle.side_edges.specs.declared.SideEdge.{SideEdge}
-use Rattle.cube_machine.specs.Growth.{Growth}
-use Rattle.cube_machine.specs.Ways.{cube_in}
-use Rattle.cube_machine.specs.Noted.{IsOnce, AreOnce, IsNoted, AreNoted}
+use Rattle.cube_machine.proofs.Prelude.{◌≡◌, ℕ, ◌+◌, ◌*◌, ◌≤◌, false, eqb, ◌||◌, not, Some, ◌∙◌, List, [], ◌∷◌, ◌++◌, length, sym, ap, subst, arith, Vec, Global, slice_get, slice_set, eqb-false, or_parts, length-append, length-set}
+use Rattle.cube_machine.proofs.Prelude.{Polygraph, Graph, Node, State, root, with_mark, has_solved, has_live, is_finished, CubeState, HasSides, SideEdge, Growth, cube_in, IsOnce, AreOnce, IsNoted, AreNoted, Decided}
 use Rattle.cube_machine.specs.Machines.{IsMachine}
-use Rattle.cube_machine.specs.declared.decided.Decided.{Decided}
 use Rattle.cube_machine.proofs.Splits.{length_marked}
 use Rattle.cube_machine.proofs.Noted.{noted_marked, noted_more, noted_went, once_marked, once_more, once_root}
 

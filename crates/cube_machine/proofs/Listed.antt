@@ -1,22 +1,6 @@
 -- Cycles in the edges of a cube, by what is listed and flagged.
-use Rattle.std.proofs.Common.{◌≡◌, ℕ, ◌+◌, ◌<◌, ◌≤◌, Bool, ◌&&◌, ◌||◌, List, [], ◌∷◌, length, drop, refl, sym, ap, ◌∙◌, arith, Vec, Global}
-use Rattle.std.specs.Prelude.{slice_index, nat_lt}
-use Rattle.std.proofs.lemmas.Bool.{eq-eqb}
-use Rattle.serializability.specs.Polygraph.{Edge, Choice, Polygraph}
-use Rattle.pruning_laws.specs.declared.side.Side.{Side}
-use Rattle.pruning_laws.specs.declared.side.Side.TheVariants.{One, Two}
-use Rattle.pruning_laws.specs.Forced.{Sides, kept_from}
-use Rattle.pruning_laws.specs.Ledger.{sides_in}
-use Rattle.known_graph.specs.Tests.{has_edge, leads}
-use Rattle.known_graph.proofs.Rows.{edge_append}
-use Rattle.cube_laws.specs.Cubes.{Cube, edges_under}
-use Rattle.cube_laws.specs.Steps.{is_cycle}
-use Rattle.side_edges.specs.Listed.{HasSides}
-use Rattle.side_edges.specs.declared.SideEdge.{SideEdge}
-use Rattle.side_edges.proofs.Listed.{kept_edge}
-use Rattle.cube_machine.specs.Flags.{flag_at}
-use Rattle.cube_machine.specs.Cycles.{is_among, leads_by, is_cycle_by}
-use Rattle.cube_machine.specs.declared.decided.SideFlags.{SideFlags}
+use Rattle.cube_machine.proofs.Prelude.{◌≡◌, ℕ, ◌+◌, ◌<◌, ◌≤◌, Bool, ◌&&◌, ◌||◌, List, [], ◌∷◌, length, drop, refl, sym, ap, ◌∙◌, arith, Vec, Global, slice_index, nat_lt, eq-eqb, Edge, Choice, Polygraph, Side, One, Two, Sides, kept_from}
+use Rattle.cube_machine.proofs.Prelude.{sides_in, has_edge, leads, edge_append, Cube, edges_under, is_cycle, HasSides, SideEdge, kept_edge, flag_at, is_among, leads_by, is_cycle_by, SideFlags}
 
 kept_same : (f g : Sides) (k : ℕ) (hs : List Choice) (e : Edge) → ((c : ℕ) (s : Side) → k ≤ c → c < k + length hs → f c s ≡ g c s) → has_edge (kept_from f k hs) e ≡ has_edge (kept_from g k hs) e
 kept_same f g k [] e h = refl

@@ -1,12 +1,6 @@
 -- Elements by their numbers, and tests of lists.
-use Rattle.std.proofs.Common.{◌≡◌, ◌⊎◌, ℕ, zero, suc, Bool, true, false, ◌||◌, List, [], ◌∷◌, ◌++◌, length, Some, refl, sym, ap, ◌∙◌, inl, inr}
-use Rattle.std.specs.Prelude.{slice_get, slice_set}
-use Rattle.std.specs.List.{list_any}
-use Rattle.std.proofs.lemmas.Bool.{false≢true, or_cases}
-use Rattle.std.proofs.Math.Bool.{or_comm, or-false, or_assoc}
-use Rattle.std.proofs.lemmas.Option.{same_Some}
-use Rattle.list_lemmas.proofs.Bools.{either_way}
-use Rattle.cube_laws.proofs.Nodes.{none-some}
+use Rattle.cube_machine.proofs.Prelude.{◌≡◌, ◌⊎◌, ℕ, zero, suc, Bool, true, false, ◌||◌, List, [], ◌∷◌, ◌++◌, length, Some, refl, sym, ap, ◌∙◌, inl, inr, slice_get, slice_set, list_any, false≢true, or_cases, or_comm, or-false, or_assoc}
+use Rattle.cube_machine.proofs.Prelude.{same_Some, either_way, none-some}
 
 -- ---- elements
 pub get_pushed : {A : Type 0} (xs : List A) (j : ℕ) (y x : A) → slice_get (xs ++ y ∷ []) j ≡ Some x → ((j ≡ length xs) × (x ≡ y)) ⊎ (slice_get xs j ≡ Some x)

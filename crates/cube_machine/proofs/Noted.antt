@@ -1,20 +1,6 @@
 -- What is noted of the seats' cubes stays right while the tree grows.
-use Rattle.std.proofs.Common.{◌≡◌, ℕ, zero, suc, false, List, [], ◌∷◌, ◌++◌, length, Option, None, Some, refl, sym, ap, ◌∙◌, subst, inl, inr, arith}
-use Rattle.std.specs.Prelude.{slice_get, slice_set}
-use Rattle.std.specs.Option.{option_map_or}
-use Rattle.std.proofs.lemmas.List.{length-append}
-use Rattle.std.proofs.lemmas.Option.{same_Some}
-use Rattle.cube_laws.specs.State.{Node, root}
-use Rattle.pruning_laws.specs.declared.side.Side.{Side}
-use Rattle.pruning_laws.specs.declared.side.Side.TheVariants.{One, Two}
-use Rattle.cube_laws.specs.Steps.{with_mark, child}
-use Rattle.cube_laws.specs.Cubes.{Cube, is_decided}
-use Rattle.cube_laws.specs.declared.messages.CubeState.{CubeState}
-use Rattle.desk.proofs.Tied.{get_set}
-use Rattle.cube_machine.specs.Ways.{cube_in}
-use Rattle.cube_machine.specs.Flags.{flag_at, is_odd}
-use Rattle.cube_machine.specs.Noted.{IsOnce, AreOnce, IsNoted, AreNoted}
-use Rattle.cube_machine.specs.declared.decided.Decided.{Decided}
+use Rattle.cube_machine.proofs.Prelude.{◌≡◌, ℕ, zero, suc, false, List, [], ◌∷◌, ◌++◌, length, Option, None, Some, refl, sym, ap, ◌∙◌, subst, inl, inr, arith, slice_get, slice_set, option_map_or, length-append, same_Some, Node, root, Side}
+use Rattle.cube_machine.proofs.Prelude.{One, Two, with_mark, child, Cube, is_decided, CubeState, get_set, cube_in, flag_at, is_odd, IsOnce, AreOnce, IsNoted, AreNoted, Decided}
 use Rattle.cube_machine.proofs.Lists.{get_pushed}
 use Rattle.cube_machine.proofs.Flags.{odd_none}
 use Rattle.cube_machine.proofs.Splits.{length_marked, cube_front}

@@ -1,25 +1,13 @@
 -- Orders that keep edges.
-use Rattle.std.proofs.Common.{◌≡◌, ◌↔◌, ℕ, suc, ◌+◌, ◌<◌, Bool, true, false, eqb, ◌&&◌, List, [], ◌∷◌, length, Some, refl, sym, ap, ◌∙◌, inl, inr, arith}
-use Rattle.std.specs.Prelude.{nat_lt, slice_get}
-use Rattle.std.specs.Option.{option_map_or}
-use Rattle.std.specs.List.{Contains, list_any, list_all, range_with_len}
-use Rattle.std.proofs.lemmas.Bool.{cases_Bool, and_parts, and_from, eq-eqb, lt-ltb, ltb-true}
-use Rattle.std.proofs.lemmas.Option.{slice_get-get_or}
-use Rattle.list_lemmas.proofs.Bools.{same_bool}
+use Rattle.cube_machine.proofs.Prelude.{◌≡◌, ◌↔◌, ℕ, suc, ◌+◌, ◌<◌, Bool, true, false, eqb, ◌&&◌, List, [], ◌∷◌, length, Some, refl, sym, ap, ◌∙◌, inl, inr, arith, nat_lt, slice_get, option_map_or, Contains, list_any, list_all}
+use Rattle.cube_machine.proofs.Prelude.{range_with_len, cases_Bool, and_parts, and_from, eq-eqb, lt-ltb, ltb-true, slice_get-get_or, same_bool, place_of, ListsOnce, Edge, Graph, edge_in, has_contained, ArePlaces, AreKept, lists_once}
+use Rattle.cube_machine.proofs.Prelude.{keeps_edges, any_at, HasEdges}
 use Rattle.list_lemmas.proofs.Each.{all_range}
-use Rattle.serializability.specs.Replay.{place_of, ListsOnce}
-use Rattle.serializability.specs.Polygraph.{Edge}
-use Rattle.reach_laws.specs.Reach.{Graph}
 use Rattle.reach_laws.proofs.Walks.{Contains-here, Contains-further}
 use Rattle.known_graph.specs.Graphs.{IsKnownGraph}
 use Rattle.known_graph.proofs.Listed.{In, In-from_Contains}
-use Rattle.known_graph.proofs.Tested.{edge_in, has_contained}
-use Rattle.polygraph.specs.Places.{ArePlaces, AreKept}
 use Rattle.serializability.proofs.Listed.{once_length}
-use Rattle.cube_laws.specs.Steps.{lists_once, keeps_edges}
-use Rattle.cube_laws.proofs.Nodes.{any_at}
 use Rattle.cube_laws.proofs.Fits.{once_tested}
-use Rattle.cube_machine.specs.Sides.{HasEdges}
 
 -- ---- tests of all
 pub all_from : {A : Type 0} (t : A → Bool) (xs : List A) → ((x : A) → Contains xs x → t x ≡ true) → list_all t xs ≡ true

@@ -1,15 +1,7 @@
 -- The list of open nodes.
-use Rattle.std.proofs.Common.{◌≡◌, ℕ, zero, suc, ◌+◌, ◌-◌, ◌<◌, ◌≤◌, Bool, true, false, cond, not, ◌||◌, eqb, List, [], ◌∷◌, ◌++◌, length, get_or, Option, None, Some, refl, sym, ap, ◌∙◌, subst, inl, inr, arith}
-use Rattle.std.specs.Prelude.{slice_get, slice_set}
-use Rattle.std.specs.List.{list_any, insert, remove}
-use Rattle.std.proofs.lemmas.Bool.{cases_Bool, cond-true, cond-false, eqb-true}
-use Rattle.std.proofs.lemmas.Option.{same_Some}
-use Rattle.cube_laws.specs.Cubes.{Cube}
-use Rattle.cube_laws.specs.Steps.{is_open, or_else, last_open_from}
-use Rattle.cube_laws.proofs.Nodes.{none-some}
-use Rattle.cube_machine.specs.Ways.{nodes_with, nodes_of, cubes_after}
-use Rattle.cube_machine.specs.Kept.{open_from, IsAscending}
-use Rattle.cube_machine.specs.declared.node.TreeNode.{TreeNode}
+use Rattle.cube_machine.proofs.Prelude.{◌≡◌, ℕ, zero, suc, ◌+◌, ◌-◌, ◌<◌, ◌≤◌, Bool, true, false, cond, not, ◌||◌, eqb, List, [], ◌∷◌, ◌++◌, length, get_or, Option, None, Some, refl, sym, ap, ◌∙◌, subst, inl, inr, arith, slice_get}
+use Rattle.cube_machine.proofs.Prelude.{slice_set, list_any, insert, remove, cases_Bool, cond-true, cond-false, eqb-true, same_Some, Cube, is_open, or_else, last_open_from, none-some, nodes_with, nodes_of, cubes_after, open_from}
+use Rattle.cube_machine.proofs.Prelude.{IsAscending, TreeNode}
 use Rattle.cube_machine.proofs.Cubes.{as_many}
 
 -- how many of the first i nodes are open

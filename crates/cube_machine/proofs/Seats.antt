@@ -1,20 +1,8 @@
 -- The nodes that seats hold.
-use Rattle.std.proofs.Common.{◌≡◌, ℕ, zero, suc, ◌+◌, ◌≤◌, Bool, true, not, ◌||◌, eqb, List, [], ◌∷◌, length, get_or, Option, None, Some, refl, sym, ap, ◌∙◌, inl, inr, arith}
-use Rattle.std.specs.Prelude.{slice_get, is_some}
-use Rattle.std.specs.List.{list_any}
-use Rattle.std.proofs.lemmas.Bool.{cases_Bool, false≢true, cond-true, cond-false, eqb-true, eq-eqb}
-use Rattle.std.proofs.lemmas.Option.{slice_get-get_or, same_Some}
-use Rattle.list_lemmas.proofs.Bools.{same_bool}
+use Rattle.cube_machine.proofs.Prelude.{◌≡◌, ℕ, zero, suc, ◌+◌, ◌≤◌, Bool, true, not, ◌||◌, eqb, List, [], ◌∷◌, length, get_or, Option, None, Some, refl, sym, ap, ◌∙◌, inl, inr, arith, slice_get, is_some, list_any, cases_Bool, false≢true}
+use Rattle.cube_machine.proofs.Prelude.{cond-true, cond-false, eqb-true, eq-eqb, slice_get-get_or, same_Some, same_bool, Cube, Node, is_open, is_held, is_held_by, held_from, has_live, CubeState, Held, none-some, any_at, nodes_with}
+use Rattle.cube_machine.proofs.Prelude.{nodes_of, cubes_after, HasMark, IsTree, TreeNode}
 use Rattle.list_lemmas.proofs.Options.{some_of}
-use Rattle.cube_laws.specs.Cubes.{Cube}
-use Rattle.cube_laws.specs.State.{Node}
-use Rattle.cube_laws.specs.Steps.{is_open, is_held, is_held_by, held_from, has_live}
-use Rattle.cube_laws.specs.declared.messages.CubeState.{CubeState}
-use Rattle.cube_laws.specs.declared.messages.CubeState.TheVariants.{Held}
-use Rattle.cube_laws.proofs.Nodes.{none-some, any_at}
-use Rattle.cube_machine.specs.Ways.{nodes_with, nodes_of, cubes_after}
-use Rattle.cube_machine.specs.Kept.{HasMark, IsTree}
-use Rattle.cube_machine.specs.declared.node.TreeNode.{TreeNode}
 use Rattle.cube_machine.proofs.Lists.{any_found, any_either}
 use Rattle.cube_machine.proofs.Cubes.{as_many, any_mark}
 use Rattle.cube_machine.proofs.Places.{some_open}

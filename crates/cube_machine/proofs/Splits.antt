@@ -1,16 +1,6 @@
 -- Nodes with a mark written, and with two more.
-use Rattle.std.proofs.Common.{◌≡◌, ℕ, ◌<◌, true, false, List, [], ◌∷◌, ◌++◌, length, get_or, Option, None, Some, refl, sym, ap, ◌∙◌, arith, append_assoc}
-use Rattle.std.specs.Prelude.{slice_get, slice_set}
-use Rattle.std.specs.Option.{option_map_or}
-use Rattle.std.proofs.lemmas.List.{length-set}
-use Rattle.std.proofs.lemmas.Option.{slice_get_within, slice_get-get_or}
-use Rattle.list_lemmas.proofs.Elements.{get_put}
-use Rattle.pruning_laws.specs.declared.side.Side.TheVariants.{One, Two}
-use Rattle.cube_laws.specs.State.{Node}
-use Rattle.cube_laws.specs.Steps.{is_open, is_held_by, held_from, last_open_from, with_mark, child}
-use Rattle.cube_laws.specs.declared.messages.CubeState.{CubeState}
-use Rattle.cube_laws.proofs.Nodes.{none-some, get_front, found_held, found_open, found_first}
-use Rattle.cube_machine.specs.Ways.{cube_in}
+use Rattle.cube_machine.proofs.Prelude.{◌≡◌, ℕ, ◌<◌, true, false, List, [], ◌∷◌, ◌++◌, length, get_or, Option, None, Some, refl, sym, ap, ◌∙◌, arith, append_assoc, slice_get, slice_set, option_map_or, length-set, slice_get_within}
+use Rattle.cube_machine.proofs.Prelude.{slice_get-get_or, get_put, One, Two, Node, is_open, is_held_by, held_from, last_open_from, with_mark, child, CubeState, none-some, get_front, found_held, found_open, found_first, cube_in}
 
 pub held_within : (nodes : List Node) (seat id : ℕ) → held_from seat 0 nodes ≡ Some id → id < length nodes
 held_within nodes seat id e =

@@ -1,24 +1,8 @@
 -- What each change of the tree keeps.
-use Rattle.std.proofs.Common.{◌≡◌, ℕ, zero, suc, ◌+◌, ◌<◌, ◌≤◌, Bool, true, false, ◌||◌, List, [], ◌∷◌, ◌++◌, length, replicate, Option, None, Some, refl, sym, ap, ◌∙◌, subst, inl, inr, arith}
-use Rattle.std.specs.Prelude.{slice_get, slice_set}
-use Rattle.std.specs.Option.{option_map_or}
-use Rattle.std.specs.List.{insert, remove}
-use Rattle.std.proofs.lemmas.Bool.{cases_lt, false≢true}
-use Rattle.std.proofs.lemmas.List.{length-set}
-use Rattle.std.proofs.lemmas.Option.{slice_get_within, same_Some}
-use Rattle.list_lemmas.proofs.Elements.{get_put}
-use Rattle.pruning_laws.specs.declared.side.Side.{Side}
-use Rattle.cube_laws.specs.State.{Node}
-use Rattle.cube_laws.specs.Steps.{is_open, is_solved, held_from}
-use Rattle.cube_laws.specs.declared.messages.CubeState.{CubeState}
-use Rattle.cube_laws.specs.declared.messages.CubeState.TheVariants.{Open, Held}
-use Rattle.cube_laws.proofs.Nodes.{none-some, get_other, get_front}
-use Rattle.desk.proofs.Tied.{get_set}
+use Rattle.cube_machine.proofs.Prelude.{◌≡◌, ℕ, zero, suc, ◌+◌, ◌<◌, ◌≤◌, Bool, true, false, ◌||◌, List, [], ◌∷◌, ◌++◌, length, replicate, Option, None, Some, refl, sym, ap, ◌∙◌, subst, inl, inr, arith, slice_get, slice_set, option_map_or}
+use Rattle.cube_machine.proofs.Prelude.{insert, remove, cases_lt, false≢true, length-set, slice_get_within, same_Some, get_put, Side, Node, is_open, is_solved, held_from, CubeState, Open, Held, none-some, get_other, get_front, get_set}
+use Rattle.cube_machine.proofs.Prelude.{nodes_of, HasMark, IsAscending, IsTree, open_from, is_closed, Origin, TreeNode}
 use Rattle.cube_laws.proofs.Counted.{open_unsolved}
-use Rattle.cube_machine.specs.Ways.{nodes_of}
-use Rattle.cube_machine.specs.Kept.{HasMark, IsAscending, IsTree, open_from, is_closed}
-use Rattle.cube_machine.specs.declared.origin.Origin.{Origin}
-use Rattle.cube_machine.specs.declared.node.TreeNode.{TreeNode}
 use Rattle.cube_machine.proofs.Lists.{get_pushed, any_written, any_unchanged, any_pushed}
 use Rattle.cube_machine.proofs.Cubes.{remark, leaf, mark_tested, mark_absent}
 use Rattle.cube_machine.proofs.Places.{IsPlace, place_is, opens, open_removed, open_inserted, open_unchanged, open_pushed, open_fewer, open_within, open_ascending}

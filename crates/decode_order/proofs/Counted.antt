@@ -1,15 +1,8 @@
 -- The test by counting that a list has each of nodes 1 to n once.
-use Rattle.std.proofs.Common.{◌≡◌, ℕ, ◌+◌, ◌<◌, ◌≤◌, Bool, true, eqb, cond, List, [], ◌∷◌, get_or, refl, sym, ◌∙◌, subst, inl, inr, arith, eqb-true, eq-eqb, ne_eqb}
-use Rattle.std.specs.Prelude.{nat_eq, nat_lt, nat_le, ◌&&◌}
-use Rattle.std.specs.List.{list_any, list_all, count_by, range_with_len}
-use Rattle.std.proofs.lemmas.Bool.{cases_Bool, cond-true, cond-false, false≢true, and_from, and_parts, ltb-true, leb-true, lt-ltb, le-leb}
+use Rattle.decode_order.proofs.Prelude.{◌≡◌, ℕ, ◌+◌, ◌<◌, ◌≤◌, Bool, true, eqb, cond, List, [], ◌∷◌, get_or, refl, sym, ◌∙◌, subst, inl, inr, arith, eqb-true, eq-eqb, ne_eqb, nat_eq, nat_lt, nat_le, ◌&&◌, list_any, list_all, count_by}
+use Rattle.decode_order.proofs.Prelude.{range_with_len, cases_Bool, cond-true, cond-false, false≢true, and_from, and_parts, ltb-true, leb-true, lt-ltb, le-leb, ListsOnce, Has, Apart, Has-from_Contains, Contains-from_Has, Has-from_range}
+use Rattle.decode_order.proofs.Prelude.{range-from_Has, node_of, lists_once, Has_get, Has-from_any, any-from_Has, IsDistinct-from_Apart, once_apart}
 use Rattle.std.proofs.lemmas.List.Sums.{sum_by-cons}
-use Rattle.serializability.specs.Replay.{ListsOnce}
-use Rattle.serializability.proofs.Places.{Has, Apart, Has-from_Contains, Contains-from_Has}
-use Rattle.serializability.proofs.Sources.{Has-from_range, range-from_Has}
-use Rattle.serializability.proofs.Serial.{node_of}
-use Rattle.decode_order.specs.Replaying.{lists_once}
-use Rattle.serializability.proofs.Listed.{Has_get, Has-from_any, any-from_Has, IsDistinct-from_Apart, once_apart}
 
 -- ---- the test by counting
 all_each : (p : ℕ → Bool) (xs : List ℕ) → list_all p xs ≡ true → (v : ℕ) → Has v xs → p v ≡ true

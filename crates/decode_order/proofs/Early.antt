@@ -1,13 +1,6 @@
 -- Orders in which no node stands before an earlier one of its session.
-use Rattle.std.proofs.Common.{◌≡◌, ℕ, ◌<◌, ◌≤◌, Bool, true, eqb, cond, List, [], ◌∷◌, Some, refl, ap, inl, inr, arith, eqb-true, eq-eqb}
-use Rattle.std.specs.Prelude.{nat_lt, ◌&&◌}
-use Rattle.std.specs.List.{list_any}
-use Rattle.std.proofs.lemmas.Bool.{cases_Bool, and_from, and_parts, cond-false, ltb-true, lt-ltb}
-use Rattle.serializability.specs.Log.{Log}
-use Rattle.serializability.specs.Replay.{Before}
-use Rattle.serializability.proofs.Places.{Has}
-use Rattle.serializability.proofs.Sources.{any_found}
-use Rattle.decode_order.specs.Replaying.{first_early, first_before_ended}
+use Rattle.decode_order.proofs.Prelude.{◌≡◌, ℕ, ◌<◌, ◌≤◌, Bool, true, eqb, cond, List, [], ◌∷◌, Some, refl, ap, inl, inr, arith, eqb-true, eq-eqb, nat_lt, ◌&&◌, list_any, cases_Bool, and_from, and_parts, cond-false, ltb-true, lt-ltb, Log}
+use Rattle.decode_order.proofs.Prelude.{Before, Has, any_found, first_early, first_before_ended}
 use Rattle.decode_order.proofs.Timed.{Keeps}
 
 abbrev pub is_earlier : (ℕ → ℕ) → ℕ → ℕ → Bool

@@ -1,17 +1,11 @@
 -- The keys of a log's operations are below their count.
-use Rattle.std.proofs.Common.{ℕ, ◌<◌, List, [], ◌∷◌, length}
-use Rattle.std.specs.List.{AllByRecursion}
-use Rattle.session_log.specs.Text.{ClientSession}
+use Rattle.decode_order.proofs.Prelude.{ℕ, ◌<◌, List, [], ◌∷◌, length, AllByRecursion, ClientSession, Event, ops_of, events_of, log_of, event_key}
 use Rattle.session_log.specs.Text as text
 use Rattle.session_log.specs.declared.session.Op.{Op}
 use Rattle.session_log.specs.declared.session.Op.TheVariants.{Read, Write}
-use Rattle.serializability.specs.declared.event.Event.{Event}
 use Rattle.log_definitions.specs.WellFormed.{keys_in}
-use Rattle.log_definitions.specs.Serial.{ops_of}
-use Rattle.log_definitions.specs.Numbers.{events_of, log_of}
 use Rattle.log_definitions.proofs.Keys.{Listed, all_listed, number_below}
 use Rattle.log_definitions.proofs.Nodes.{each_op}
-use Rattle.serializability.specs.Events.{event_key}
 
 numbers_below : (keys : List (List ℕ)) (ops : List Op) → AllByRecursion (λ o. Listed keys (text.key_of o)) ops → AllByRecursion (λ (e : Event). event_key e < length keys) (events_of keys ops)
 numbers_below keys [] h = tt

@@ -1,13 +1,6 @@
 -- An order that is gone through from its last node on, with the least end of those that were passed.
-use Rattle.std.proofs.Common.{◌≡◌, ℕ, Bool, cond, List, [], ◌∷◌, ◌++◌, length, Option, Some, None, refl, sym, ap, ◌∙◌, append_assoc}
-use Rattle.std.specs.Prelude.{◌||◌}
-use Rattle.std.specs.List.{list_any}
-use Rattle.std.proofs.lemmas.List.{append-nil}
-use Rattle.session_log.specs.Moments.{is_earlier}
-use Rattle.session_log.specs.Text.{ClientSession}
-use Rattle.log_definitions.specs.Serial.{begun_of, ended_of}
-use Rattle.log_definitions.specs.Numbers.{log_of}
-use Rattle.decode_order.specs.Replaying.{first_before_ended}
+use Rattle.decode_order.proofs.Prelude.{◌≡◌, ℕ, Bool, cond, List, [], ◌∷◌, ◌++◌, length, Option, Some, None, refl, sym, ap, ◌∙◌, append_assoc, ◌||◌, list_any, append-nil, is_earlier, ClientSession, begun_of, ended_of, log_of}
+use Rattle.decode_order.proofs.Prelude.{first_before_ended}
 
 -- u ended before v began
 abbrev pub ended_before : (ℕ → Option ℕ) → (ℕ → Option ℕ) → ℕ → ℕ → Bool

@@ -1,3 +1,4 @@
+mod Prelude
 pub mod Placing
 pub mod Counted
 pub mod Early

@@ -1,12 +1,6 @@
 -- Marks for the nodes of a list.
-use Rattle.std.proofs.Common.{◌≡◌, ℕ, ◌+◌, ◌<◌, ◌≤◌, Bool, true, false, List, [], ◌∷◌, ◌++◌, length, get_or, take, drop, refl, sym, ap, ◌∙◌, subst, inl, inr, arith}
-use Rattle.std.specs.Prelude.{slice_set}
-use Rattle.std.proofs.lemmas.Bool.{cases_eq, true≢false}
-use Rattle.std.proofs.lemmas.List.{get_or-set_same, get_or-set_other, length-set}
-use Rattle.serializability.specs.Replay.{ListsOnce}
-use Rattle.serializability.proofs.Places.{Has, Apart, Has-append_front, Has-append_back, Has-append_cases, Apart-not_both}
-use Rattle.serializability.proofs.Fronts.{front_more, around, Apart-push}
-use Rattle.serializability.proofs.Listed.{once_apart}
+use Rattle.decode_order.proofs.Prelude.{◌≡◌, ℕ, ◌+◌, ◌<◌, ◌≤◌, Bool, true, false, List, [], ◌∷◌, ◌++◌, length, get_or, take, drop, refl, sym, ap, ◌∙◌, subst, inl, inr, arith, slice_set, cases_eq, true≢false, get_or-set_same}
+use Rattle.decode_order.proofs.Prelude.{get_or-set_other, length-set, ListsOnce, Has, Apart, Has-append_front, Has-append_back, Has-append_cases, Apart-not_both, front_more, around, Apart-push, once_apart}
 
 -- exactly the nodes of the line are marked
 pub record Marked (n : ℕ) (line : List ℕ) (marks : List Bool) : Type 0 where

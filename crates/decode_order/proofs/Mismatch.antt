@@ -1,16 +1,8 @@
 -- The first read in replay that does not meet the map.
-use Rattle.std.proofs.Common.{◌≡◌, ℕ, ◌+◌, ◌<◌, Bool, true, false, cond, List, [], ◌∷◌, ◌++◌, length, get_or, take, drop, Option, Some, None, refl, sym, ap, ◌∙◌, inl, inr, eqb-true, eq-eqb}
-use Rattle.std.specs.Prelude.{map}
-use Rattle.std.specs.List.{flat_map}
-use Rattle.std.specs.Option.{option_or}
-use Rattle.std.proofs.lemmas.Bool.{cases_Bool, cond-true}
-use Rattle.std.proofs.lemmas.List.{at_drop_more, map-append, take_more}
-use Rattle.serializability.specs.declared.event.Event.{Event}
+use Rattle.decode_order.proofs.Prelude.{◌≡◌, ℕ, ◌+◌, ◌<◌, Bool, true, false, cond, List, [], ◌∷◌, ◌++◌, length, get_or, take, drop, Option, Some, None, refl, sym, ap, ◌∙◌, inl, inr, eqb-true, eq-eqb, map, flat_map, option_or, cases_Bool}
+use Rattle.decode_order.proofs.Prelude.{cond-true, at_drop_more, map-append, take_more, Event, Store, empty, after, Meets, PlacedOp, placed_from, in_replay, held, meets, first_mismatch, rest_from}
 use Rattle.serializability.specs.declared.event.Event.TheVariants.{Read, Write}
-use Rattle.serializability.specs.Replay.{Store, empty, after, Meets}
 use Rattle.serializability.proofs.Replays.{after-append}
-use Rattle.decode_order.specs.Replaying.{PlacedOp, placed_from, in_replay, held, meets, first_mismatch}
-use Rattle.serializability.proofs.Fronts.{rest_from}
 
 abbrev pub ops_of : List PlacedOp → List Event
 ops_of ps = map (λ (p : PlacedOp). p.op) ps

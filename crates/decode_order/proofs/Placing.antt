@@ -1,10 +1,6 @@
 -- Nodes that are put at the places that their ranks say.
-use Rattle.std.proofs.Common.{◌≡◌, ◌≢◌, ℕ, ◌+◌, ◌-◌, ◌<◌, ◌≤◌, Bool, List, length, get_or, ap, ◌∙◌, subst, inl, inr, arith, sym}
-use Rattle.std.specs.Prelude.{slice_set}
-use Rattle.std.proofs.lemmas.Bool.{cases_lt}
-use Rattle.std.proofs.lemmas.List.{get_or_default, ext_get_or, get_or-set_same, get_or-set_other, length-set}
-use Rattle.serializability.specs.Decoded.{IsOrder, IsDecoded}
-use Rattle.serializability.proofs.Ranks.{rank, rank-apart, rank-pos, rank-zero, rank-le, rank-onto}
+use Rattle.decode_order.proofs.Prelude.{◌≡◌, ◌≢◌, ℕ, ◌+◌, ◌-◌, ◌<◌, ◌≤◌, Bool, List, length, get_or, ap, ◌∙◌, subst, inl, inr, arith, sym, slice_set, cases_lt, get_or_default, ext_get_or, get_or-set_same, get_or-set_other, length-set}
+use Rattle.decode_order.proofs.Prelude.{IsOrder, IsDecoded, rank, rank-apart, rank-pos, rank-zero, rank-le, rank-onto}
 
 -- ---- one more node is put at its place
 pub record Placed (n : ℕ) (r : ℕ → ℕ → Bool) (items : List ℕ) (v : ℕ) : Type 0 where

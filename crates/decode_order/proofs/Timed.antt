@@ -1,14 +1,7 @@
 -- Orders in which no node stands before an earlier one, as a test says, and what that says of places.
-use Rattle.std.proofs.Common.{◌≡◌, ◌≢◌, ℕ, ◌<◌, ◌≤◌, Bool, true, false, eqb, cond, not, List, [], ◌∷◌, ◌++◌, length, Option, Some, None, refl, sym, ap, ◌∙◌, subst, inl, inr, arith, ne_eqb, append_assoc}
-use Rattle.std.specs.List.{list_any}
-use Rattle.std.proofs.lemmas.Bool.{cases_Bool, false≢true, and_from, and_parts, cond-false, not-true, not_from_false, eqb-false}
-use Rattle.serializability.specs.Log.{Log, precedes}
-use Rattle.serializability.specs.Replay.{place_of, Before, ListsOnce}
-use Rattle.serializability.proofs.Places.{Has, Apart, Has-from_Contains, Has-append_back, Has-append_cases, Apart-not_both, Has-split, place_of-here, place_of-front, place_of-back}
-use Rattle.serializability.proofs.Sources.{any_found, any_from}
-use Rattle.serializability.proofs.Serial.{behind_zero, node_of}
-use Rattle.serializability.proofs.Listed.{once_apart}
-use Rattle.decode_order.specs.Replaying.{first_before_ended}
+use Rattle.decode_order.proofs.Prelude.{◌≡◌, ◌≢◌, ℕ, ◌<◌, ◌≤◌, Bool, true, false, eqb, cond, not, List, [], ◌∷◌, ◌++◌, length, Option, Some, None, refl, sym, ap, ◌∙◌, subst, inl, inr, arith, ne_eqb, append_assoc, list_any, cases_Bool}
+use Rattle.decode_order.proofs.Prelude.{false≢true, and_from, and_parts, cond-false, not-true, not_from_false, eqb-false, Log, precedes, place_of, Before, ListsOnce, Has, Apart, Has-from_Contains, Has-append_back, Has-append_cases}
+use Rattle.decode_order.proofs.Prelude.{Apart-not_both, Has-split, place_of-here, place_of-front, place_of-back, any_found, any_from, behind_zero, node_of, once_apart, first_before_ended}
 
 -- no node stands before an earlier one
 abbrev pub InTime : (ℕ → ℕ → Bool) → List ℕ → Type 0

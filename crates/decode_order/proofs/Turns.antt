@@ -1,19 +1,9 @@
 -- The first node that stands before an earlier one of its session, found by the node before it.
-use Rattle.std.proofs.Common.{◌≡◌, ℕ, zero, suc, ◌+◌, ◌-◌, ◌<◌, ◌≤◌, Bool, true, false, List, [], ◌∷◌, length, get_or, take, drop, Some, sym, ap, ◌∙◌, subst, inl, inr, arith}
-use Rattle.std.specs.Prelude.{slice_set}
-use Rattle.std.specs.List.{list_any}
-use Rattle.std.proofs.lemmas.Bool.{cond-true}
-use Rattle.serializability.specs.Log.{Log}
+use Rattle.decode_order.proofs.Prelude.{◌≡◌, ℕ, zero, suc, ◌+◌, ◌-◌, ◌<◌, ◌≤◌, Bool, true, false, List, [], ◌∷◌, length, get_or, take, drop, Some, sym, ap, ◌∙◌, subst, inl, inr, arith, slice_set, list_any, cond-true, Log, ListsOnce, Has}
+use Rattle.decode_order.proofs.Prelude.{Apart, Has-from_Contains, Has-append_front, Has-append_back, Has-append_cases, Apart-not_both, any_from, node_of, first_early, Has_get, once_apart, front_more, rest_from, around}
 use Rattle.serializability.specs.Reads.{IsNumbered}
-use Rattle.serializability.specs.Replay.{ListsOnce}
-use Rattle.serializability.proofs.Places.{Has, Apart, Has-from_Contains, Has-append_front, Has-append_back, Has-append_cases, Apart-not_both}
-use Rattle.serializability.proofs.Sources.{any_from}
-use Rattle.serializability.proofs.Serial.{node_of}
-use Rattle.decode_order.specs.Replaying.{first_early}
-use Rattle.serializability.proofs.Listed.{Has_get, once_apart}
 use Rattle.decode_order.proofs.Early.{is_earlier, earlier_both, early_further}
 use Rattle.decode_order.proofs.Marks.{Marked, marked_more}
-use Rattle.serializability.proofs.Fronts.{front_more, rest_from, around}
 
 -- with a node of the line, the node before it in its session is there
 pub record FromStart (session : ℕ → ℕ) (line : List ℕ) : Type 0 where

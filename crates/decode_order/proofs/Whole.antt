@@ -1,12 +1,8 @@
 -- What is wrong with an order as a whole.
-use Rattle.std.proofs.Common.{◌≡◌, ℕ, List, Option, Some, None, refl, sym, ap, ◌∙◌, subst, inl, inr}
-use Rattle.std.specs.Option.{option_map, option_or}
-use Rattle.std.proofs.lemmas.Bool.{cases_Bool, cond-true, cond-false, false≢true, false_from_ne_true}
-use Rattle.serializability.specs.Log.{Log}
-use Rattle.serializability.specs.Replay.{empty, Meets, IsSerial, ListsOnce}
+use Rattle.decode_order.proofs.Prelude.{◌≡◌, ℕ, List, Option, Some, None, refl, sym, ap, ◌∙◌, subst, inl, inr, option_map, option_or, cases_Bool, cond-true, cond-false, false≢true, false_from_ne_true, Log, empty, Meets, IsSerial, ListsOnce}
+use Rattle.decode_order.proofs.Prelude.{lists_once, first_early, first_before_ended, first_mismatch, in_replay, session_fault, moment_fault, read_fault, replay_fault}
 use Rattle.decode_order.specs.declared.fault.ReplayFault.{ReplayFault}
 use Rattle.decode_order.specs.declared.fault.ReplayFault.TheVariants.{NotAPermutation, SessionOrder, MomentOrder}
-use Rattle.decode_order.specs.Replaying.{lists_once, first_early, first_before_ended, first_mismatch, in_replay, session_fault, moment_fault, read_fault, replay_fault}
 use Rattle.decode_order.proofs.Counted.{lists_once_is, lists_once_from}
 use Rattle.decode_order.proofs.Early.{is_earlier, early_is, sessions_kept, kept_sessions}
 use Rattle.decode_order.proofs.Timed.{in_time, none_before, kept, from_kept, moments_kept, kept_moments}

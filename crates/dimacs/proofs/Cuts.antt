@@ -1,12 +1,6 @@
 -- A text cut at its first line feed, and a line cut at its first blank.
-use Rattle.std.proofs.Common.{◌≡◌, ℕ, ◌+◌, ◌<◌, ◌≤◌, Bool, true, false, cond, List, [], ◌∷◌, ◌++◌, length, take, drop, nat_lt, ◌==◌, Some, None, position, refl, ap, ◌∙◌, subst, arith, if◌then◌else◌}
-use Rattle.std.specs.Prelude.{filter}
-use Rattle.std.specs.List.{slice_split, position_or_len}
-use Rattle.std.specs.Str.Lines.{lines_of_parts, strip_carriage_return}
-use Rattle.std.proofs.lemmas.Bool.{ne_eqb, ltb-true, ltb-false}
-use Rattle.std.proofs.lemmas.List.Sums.{fails_before_first}
-use Rattle.std.proofs.lemmas.List.Splits.{slice_split_first, slice_split_none, length-slice_split}
-use Rattle.dimacs.specs.Words.{is_blank, lines_of, words}
+use Rattle.dimacs.proofs.Prelude.{◌≡◌, ℕ, ◌+◌, ◌<◌, ◌≤◌, Bool, true, false, cond, List, [], ◌∷◌, ◌++◌, length, take, drop, nat_lt, ◌==◌, Some, None, position, refl, ap, ◌∙◌, subst, arith, if◌then◌else◌, filter, slice_split, position_or_len}
+use Rattle.dimacs.proofs.Prelude.{lines_of_parts, strip_carriage_return, ne_eqb, ltb-true, ltb-false, fails_before_first, slice_split_first, slice_split_none, length-slice_split, is_blank, lines_of, words}
 
 some_cases : (p : ℕ → Bool) (xs : List ℕ) (t : Bool) → nat_lt (position_or_len p xs) (length xs) ≡ t → (i : ℕ) → Some i ≡ cond t (Some (position_or_len p xs)) None → (position_or_len p xs ≡ i) × (position_or_len p xs < length xs)
 some_cases p xs true e i is = (cc, ltb-true (position_or_len p xs) (length xs) e)

@@ -1,24 +1,11 @@
 -- What is known after one more item, and the fault of an item.
-use Rattle.std.proofs.Common.{◌≡◌, ℕ, zero, suc, ◌+◌, ◌-◌, ◌^◌, ◌<◌, ◌≤◌, nat_lt, Bool, true, false, not, cond, List, [], ◌∷◌, ◌++◌, length, get_or, Option, Some, None, Ok, Err, refl, sym, ap, ◌∙◌, arith, append-nil, set, length-set, ⊎_elim, replicate}
-use Rattle.std.specs.Str.{bytes_eq}
-use Rattle.std.specs.Prelude.{codes, map, filter_map, slice_get, is_some, ◌==◌, ◌||◌}
-use Rattle.std.specs.List.{range_with_len, cons_option}
-use Rattle.std.specs.Option.{option_or}
-use Rattle.std.proofs.lemmas.Bool.{eq-eqb, ne_eqb, lt-ltb, le-ltb, ltb-false, cases_eq}
-use Rattle.std.proofs.lemmas.List.{get_or_at, length_push, get_or-set_same, get_or-set_other, same_lists}
-use Rattle.std.proofs.lemmas.List.Elements.{filter_map-append}
+use Rattle.dimacs.proofs.Prelude.{◌≡◌, ℕ, zero, suc, ◌+◌, ◌-◌, ◌^◌, ◌<◌, ◌≤◌, nat_lt, Bool, true, false, not, cond, List, [], ◌∷◌, ◌++◌, length, get_or, Option, Some, None, Ok, Err, refl, sym, ap, ◌∙◌, arith, append-nil, set, length-set}
+use Rattle.dimacs.proofs.Prelude.{⊎_elim, replicate, bytes_eq, codes, map, filter_map, slice_get, is_some, ◌==◌, ◌||◌, range_with_len, cons_option, option_or, eq-eqb, ne_eqb, lt-ltb, le-ltb, ltb-false, cases_eq, get_or_at, length_push}
+use Rattle.dimacs.proofs.Prelude.{get_or-set_same, get_or-set_other, same_lists, filter_map-append, length-map-range_with_len, get_or-map-range_with_len, Literal, AnswerFault, BadLine, TwoStatus, OutOfRange, BothSigns, Reading}
+use Rattle.dimacs.proofs.Prelude.{digits_value, and-false, Item, Claim, Given, Zero, Broken, is_blank, words, is_number, signed_item, line_items, claim_of, status, is_given, mentions, number_of, is_closed, item_fault, line_fault, signs}
+use Rattle.dimacs.proofs.Prelude.{marks, Knows, Takes}
 use Rattle.std.proofs.lemmas.List.Folds.{list_any-append}
-use Rattle.std.proofs.lemmas.List.FromFn.{length-map-range_with_len, get_or-map-range_with_len}
-use Rattle.serializability.specs.declared.literal.Literal.{Literal}
 use Rattle.dimacs.specs.declared.status.Status.{Status}
-use Rattle.dimacs.specs.declared.answer.AnswerFault.{AnswerFault}
-use Rattle.dimacs.specs.declared.answer.AnswerFault.TheVariants.{BadLine, TwoStatus, OutOfRange, BothSigns}
-use Rattle.dimacs.specs.declared.reading.Reading.{Reading}
-use Rattle.std.specs.Str.Parse.{digits_value}
-use Rattle.std.proofs.Math.Bool.{and-false}
-use Rattle.dimacs.specs.Words.{Item, Claim, Given, Zero, Broken, is_blank, words, is_number, signed_item, line_items}
-use Rattle.dimacs.specs.Answer.{claim_of, status, is_given, mentions, number_of, is_closed, item_fault, line_fault}
-use Rattle.dimacs.specs.Reading.{signs, marks, Knows, Takes}
 
 -- ---- the status
 pushed_status : (before : List Item) (i : Item) → claim_of i ≡ None → status (before ++ i ∷ []) ≡ status before

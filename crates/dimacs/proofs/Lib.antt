@@ -1,3 +1,4 @@
+mod Prelude
 pub mod Cuts
 pub mod Items
 pub mod Numerals

@@ -1,8 +1,6 @@
 -- The bytes of a numeral.
-use Rattle.std.proofs.Common.{◌≡◌, ℕ, zero, suc, ◌+◌, ◌-◌, ◌≤◌, List, [], ◌∷◌, ◌++◌, length, get_or, take, drop, slice_set, refl, ap, ◌∙◌, arith, length-append, length-drop}
+use Rattle.dimacs.proofs.Prelude.{◌≡◌, ℕ, zero, suc, ◌+◌, ◌-◌, ◌≤◌, List, [], ◌∷◌, ◌++◌, length, get_or, take, drop, slice_set, refl, ap, ◌∙◌, arith, length-append, length-drop, take-set-le, get_or-set_same, length-decimal-le}
 use Rattle.std.proofs.Math.Seq.{take-append-add}
-use Rattle.std.proofs.lemmas.List.{take-set-le, get_or-set_same}
-use Rattle.std.proofs.lemmas.Fmt.{length-decimal-le}
 use Rattle.std.specs.Fmt.{decimal}
 
 pub few_digits : (n : ℕ) (digits : List ℕ) → n ≤ 999999 → digits ≡ decimal n → length digits ≤ 6

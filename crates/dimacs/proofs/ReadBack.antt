@@ -1,23 +1,11 @@
 -- The answer that lists an assignment is read back.
-use Rattle.std.proofs.Common.{◌≡◌, ℕ, zero, suc, ◌+◌, ◌-◌, ◌^◌, ◌<◌, ◌≤◌, Bool, true, false, not, cond, List, [], ◌∷◌, ◌++◌, length, get_or, Some, None, refl, ap, ◌∙◌, arith, append-nil, length-append}
-use Rattle.order_cnf.specs.Clauses.{IsWithin}
-use Rattle.std.specs.Prelude.{codes, decimal, filter, map, nat_lt, ◌==◌, ◌||◌}
+use Rattle.dimacs.proofs.Prelude.{◌≡◌, ℕ, zero, suc, ◌+◌, ◌-◌, ◌^◌, ◌<◌, ◌≤◌, Bool, true, false, not, cond, List, [], ◌∷◌, ◌++◌, length, get_or, Some, None, refl, ap, ◌∙◌, arith, append-nil, length-append, IsWithin, codes, decimal, filter}
+use Rattle.dimacs.proofs.Prelude.{map, nat_lt, ◌==◌, ◌||◌, All, AllByRecursion, flat_map, range_with_len, slice_split, strip_carriage_return, digits_value, ne_eqb, eq-eqb, lt-ltb, le-ltb, and_from, or_from, decimal_nonempty, first_decimal}
+use Rattle.dimacs.proofs.Prelude.{digits_decimal, digits_value-decimal, get_or_at, same_lists, length-map-range_with_len, get_or-map-range_with_len, slice_split_at, and-false, Literal, Unclosed, literal_text, clause_text, Item, Claim}
+use Rattle.dimacs.proofs.Prelude.{Given, Zero, is_blank, is_number, signed_item, number_item, status_named, words, line_items, lines_of, items_of, status, mentions, is_closed, item_fault, line_fault, first_fault, answer_fault, assignment}
+use Rattle.dimacs.proofs.Prelude.{assignment_of, status_of}
 use Rattle.std.specs.Bool.{beq}
-use Rattle.std.specs.List.{All, AllByRecursion, flat_map, range_with_len, slice_split}
-use Rattle.std.specs.Str.Lines.{strip_carriage_return}
-use Rattle.std.specs.Str.Parse.{digits_value}
-use Rattle.std.proofs.lemmas.Bool.{ne_eqb, eq-eqb, lt-ltb, le-ltb, and_from, or_from}
-use Rattle.std.proofs.lemmas.Fmt.{decimal_nonempty, first_decimal, digits_decimal, digits_value-decimal}
-use Rattle.std.proofs.lemmas.List.{get_or_at, same_lists}
-use Rattle.std.proofs.lemmas.List.FromFn.{length-map-range_with_len, get_or-map-range_with_len}
-use Rattle.std.proofs.lemmas.List.Splits.{slice_split_at}
-use Rattle.std.proofs.Math.Bool.{and-false}
-use Rattle.serializability.specs.declared.literal.Literal.{Literal}
 use Rattle.dimacs.specs.declared.status.Status.TheVariants.{Satisfiable}
-use Rattle.dimacs.specs.declared.answer.AnswerFault.TheVariants.{Unclosed}
-use Rattle.dimacs.specs.Text.{literal_text, clause_text}
-use Rattle.dimacs.specs.Words.{Item, Claim, Given, Zero, is_blank, is_number, signed_item, number_item, status_named, words, line_items, lines_of}
-use Rattle.dimacs.specs.Answer.{items_of, status, mentions, is_closed, item_fault, line_fault, first_fault, answer_fault, assignment, assignment_of, status_of}
 use Rattle.dimacs.specs.Models.{literals_of, model_text}
 use Rattle.session_log.proofs.Digits.{own}
 use Rattle.dimacs.proofs.Items.{literal, pushed_mention, other_variable, numbered_closed}

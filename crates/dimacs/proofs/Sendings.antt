@@ -1,16 +1,11 @@
 -- A whole text, as its bytes go out piece by piece.
-use Rattle.std.proofs.Common.{◌≡◌, ℕ, ◌+◌, ◌-◌, ◌≤◌, List, [], ◌∷◌, ◌++◌, length, take, drop, Option, Ok, Err, refl, sym, ap, ◌∙◌, subst, arith, take-add, drop-drop, take_all, append_assoc, length-append, length-drop}
+use Rattle.dimacs.proofs.Prelude.{◌≡◌, ℕ, ◌+◌, ◌-◌, ◌≤◌, List, [], ◌∷◌, ◌++◌, length, take, drop, Option, Ok, Err, refl, sym, ap, ◌∙◌, subst, arith, take-add, drop-drop, take_all, append_assoc, length-append, length-drop, drop_at}
+use Rattle.dimacs.proofs.Prelude.{take-append-le, flat_map, Literal, Cnf, header, clause_text, text_of, IsUnderWay, IsCutOff}
 use Rattle.std.specs.Io.KnownBytes.{Appends}
-use Rattle.std.proofs.lemmas.List.{drop_at, take-append-le}
-use Rattle.std.specs.List.{flat_map}
 use Rattle.std.proofs.KnownBytes.{Appends-trans, Appends-nil}
-use Rattle.serializability.specs.declared.literal.Literal.{Literal}
-use Rattle.serializability.specs.Formula.{Cnf}
 use Rattle.output.specs.declared.fault.WriteFault.{WriteFault}
 use Rattle.output.specs.Sinks.{WritesFrom}
-use Rattle.dimacs.specs.Text.{header, clause_text, text_of}
 use Rattle.dimacs.proofs.Texts.{text-parts}
-use Rattle.dimacs.specs.Sending.{IsUnderWay, IsCutOff}
 
 at_start : (b : Option (List ℕ)) (piece rest whole : List ℕ) → whole ≡ piece ++ rest → IsUnderWay b b 0 piece rest whole
 at_start b piece rest whole e = record { within = omega arith; out = Appends-nil b; waits = e }

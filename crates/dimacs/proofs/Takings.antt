@@ -1,19 +1,8 @@
 -- Items taken one after another, in a line and in a text.
-use Rattle.std.proofs.Common.{◌≡◌, ℕ, ◌+◌, ◌^◌, ◌<◌, ◌≤◌, Bool, true, false, cond, List, [], ◌∷◌, ◌++◌, length, Option, Some, None, Result, Ok, Err, refl, sym, ap, ◌∙◌, subst, arith, append-nil, append_assoc}
-use Rattle.std.specs.Prelude.{map, nat_eq, MatchResult, IfOk, IfErr, OnOk}
-use Rattle.std.proofs.lemmas.Bool.{le-ltb, lt-ltb}
-use Rattle.std.specs.List.{flat_map, slice_split}
-use Rattle.std.specs.Option.{option_or}
-use Rattle.std.specs.Str.Lines.{lines_of_parts}
-use Rattle.std.proofs.lemmas.List.Splits.{length-slice_split}
-use Rattle.std.proofs.lemmas.List.Sums.{count_by-le-length}
-use Rattle.dimacs.specs.declared.answer.AnswerFault.{AnswerFault}
-use Rattle.dimacs.specs.declared.reading.Reading.{Reading}
-use Rattle.dimacs.specs.Words.{Item, number_item, lines_of, line_items}
-use Rattle.dimacs.specs.declared.answer.AnswerFault.TheVariants.{Memory, TooLong}
+use Rattle.dimacs.proofs.Prelude.{◌≡◌, ℕ, ◌+◌, ◌^◌, ◌<◌, ◌≤◌, Bool, true, false, cond, List, [], ◌∷◌, ◌++◌, length, Option, Some, None, Result, Ok, Err, refl, sym, ap, ◌∙◌, subst, arith, append-nil, append_assoc, map, nat_eq, MatchResult}
+use Rattle.dimacs.proofs.Prelude.{IfOk, IfErr, OnOk, le-ltb, lt-ltb, flat_map, slice_split, option_or, lines_of_parts, length-slice_split, count_by-le-length, AnswerFault, Reading, Item, number_item, lines_of, line_items, Memory, TooLong}
+use Rattle.dimacs.proofs.Prelude.{line_fault, first_fault, items_of, item_fault, end_fault, is_closed, status, answer_fault, StandsFor, IsAnswer, IsFault, Knows, Takes}
 use Rattle.dimacs.specs.declared.answer.SolverAnswer.{SolverAnswer}
-use Rattle.dimacs.specs.Answer.{line_fault, first_fault, items_of, item_fault, end_fault, is_closed, status, answer_fault, StandsFor, IsAnswer, IsFault}
-use Rattle.dimacs.specs.Reading.{Knows, Takes}
 
 option_or_assoc : {X : Type 0} (a b c : Option X) → option_or a (option_or b c) ≡ option_or (option_or a b) c
 option_or_assoc None b c = refl

@@ -1,17 +1,7 @@
 -- What a text says of its formula: its bytes are cut at spaces and line feeds.
-use Rattle.std.proofs.Common.{◌≡◌, ℕ, zero, suc, ◌+◌, ◌/◌, ◌%◌, ◌^◌, ◌<◌, Bool, true, false, cond, get_or, List, [], ◌∷◌, ◌++◌, length, refl, sym, ap, ◌∙◌, subst, arith, append_assoc}
-use Rattle.order_cnf.specs.Clauses.{IsWithin}
-use Rattle.std.specs.Prelude.{decimal, map, codes, ◌==◌}
-use Rattle.std.specs.Fmt.{digits, digits_onto, digit_glyph}
-use Rattle.std.specs.List.{All, AllByRecursion, flat_map, slice_split}
-use Rattle.std.proofs.lemmas.Bool.{ne_eqb, eq-eqb, lt-ltb, cond_both}
-use Rattle.std.proofs.lemmas.List.{append_cancel_right, append_cancel_left}
-use Rattle.std.proofs.lemmas.List.Elements.{All-nil, All-cons, All-append}
-use Rattle.std.proofs.lemmas.List.Splits.{slice_split_none, slice_split_at}
-use Rattle.std.proofs.lemmas.Fmt.{decimal_injective, first_decimal}
-use Rattle.serializability.specs.declared.literal.Literal.{Literal}
-use Rattle.serializability.specs.Formula.{Cnf, IsInRange}
-use Rattle.dimacs.specs.Text.{literal_text, clause_text, header, text_of}
+use Rattle.dimacs.proofs.Prelude.{◌≡◌, ℕ, zero, suc, ◌+◌, ◌/◌, ◌%◌, ◌^◌, ◌<◌, Bool, true, false, cond, get_or, List, [], ◌∷◌, ◌++◌, length, refl, sym, ap, ◌∙◌, subst, arith, append_assoc, IsWithin, decimal, map, codes, ◌==◌, digits}
+use Rattle.dimacs.proofs.Prelude.{digits_onto, digit_glyph, All, AllByRecursion, flat_map, slice_split, ne_eqb, eq-eqb, lt-ltb, cond_both, append_cancel_right, append_cancel_left, All-nil, All-cons, All-append, slice_split_none}
+use Rattle.dimacs.proofs.Prelude.{slice_split_at, decimal_injective, first_decimal, Literal, Cnf, IsInRange, literal_text, clause_text, header, text_of}
 use Rattle.dimacs.proofs.Cuts.{is_lf}
 
 -- ---- bytes that a list has not

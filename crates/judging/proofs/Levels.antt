@@ -1,19 +1,10 @@
 -- What is judged at a level, and what it says of a log whose outcomes are known, and of the sessions that this comes from.
-use Rattle.std.proofs.Common.{◌≡◌, ◌⊎◌, inl, inr, ℕ, List, [], map, Some, refl, sym, ap, ◌∙◌, subst, true}
-use Rattle.std.specs.List.{AllByRecursion}
-use Rattle.session_log.specs.Text.{ClientSession, IsLegal, key_of}
-use Rattle.session_log.specs.declared.session.Op.{Op}
-use Rattle.log_definitions.specs.Unknown.{resolved}
-use Rattle.log_definitions.specs.Numbers.{log_of}
+use Rattle.judging.proofs.Prelude.{◌≡◌, ◌⊎◌, inl, inr, ℕ, List, [], map, Some, refl, sym, ap, ◌∙◌, subst, true, AllByRecursion, ClientSession, IsLegal, key_of, Op, resolved, log_of, keys_in, first_seen, IsSerialOrder, ops_resolved}
+use Rattle.judging.proofs.Prelude.{some_where_serial, IsSoundLog, IsLog, nodes_stay, resolved_is_log, IsPart, IsReduceFault, Unknown, HasNoOrder, IsSearched, Level, Serializable, Snapshot, Prefix, Below, JudgeMeans, Why, Spent, TooLarge}
+use Rattle.judging.proofs.Prelude.{TooManyChoices, NoRoom, NotBegun, NotShown, Found, IsOver, Anomaly, Overlooked, is_split, judged_at, HasNoOrderAt, HasRoomAt, IsOrderAt, IsJudgedAt, Finds, FindsAt, FindsIn, IsOwnOf, IsRefutedLog}
+use Rattle.judging.proofs.Prelude.{IsUndecidedBy, IsFound, of_serial}
 use Rattle.serializability.specs.Anomalies.{anomaly_of}
 use Rattle.serializability.specs.declared.anomaly.Anomaly.{Anomaly as Reported}
-use Rattle.log_definitions.specs.WellFormed.{keys_in, first_seen}
-use Rattle.log_definitions.specs.Serial.{IsSerialOrder}
-use Rattle.log_definitions.proofs.Settled.{ops_resolved}
-use Rattle.log_definitions.proofs.OnlyTaken.{some_where_serial}
-use Rattle.log_laws.specs.Logs.{IsSoundLog, IsLog}
-use Rattle.log_laws.proofs.Resolved.{nodes_stay, resolved_is_log}
-use Rattle.part_laws.specs.Parts.{IsPart}
 use Rattle.level_laws.specs.Split.{split_writers}
 use Rattle.level_laws.proofs.Resolved.{of_same_nodes}
 use Rattle.level_laws.proofs.Some.{snapshot_of_taken, prefix_of_taken}
@@ -28,22 +19,8 @@ use Rattle.level_refutations.specs.Refuted.{is_refuted}
 use Rattle.splitting.specs.Locks.{locks_of, no_room}
 use Rattle.splitting.proofs.Fresh.{same_locks, same_room, snapshot_by_split_log, prefix_by_split_log}
 use Rattle.polygraph.specs.declared.fault.PolyFault.TheVariants as poly_fault
-use Rattle.reduction.specs.Outcome.{IsReduceFault}
-use Rattle.branch_search.specs.declared.answer.Answer.TheVariants.{Unknown}
-use Rattle.deciding.specs.Decides.{HasNoOrder, IsSearched}
-use Rattle.judging.specs.declared.level.Level.{Level}
-use Rattle.judging.specs.declared.level.Level.TheVariants.{Serializable, Snapshot, Prefix, Below}
-use Rattle.judging.specs.declared.means.JudgeMeans.{JudgeMeans}
-use Rattle.judging.specs.declared.judged.Why.{Why}
-use Rattle.judging.specs.declared.judged.Why.TheVariants.{Spent, TooLarge, TooManyChoices, NoRoom, NotBegun, NotShown}
-use Rattle.judging.specs.declared.found.Found.{Found}
 use Rattle.judging.specs.declared.found.Found.TheVariants as found
-use Rattle.judging.specs.Limits.{IsOver}
 use Rattle.judging.specs.declared.judged.Finding.{Finding}
-use Rattle.judging.specs.declared.judged.Finding.TheVariants.{Anomaly, Overlooked}
-use Rattle.judging.specs.Levels.{is_split, judged_at, HasNoOrderAt, HasRoomAt, IsOrderAt, IsJudgedAt}
-use Rattle.judging.specs.Judges.{Finds, FindsAt, FindsIn, IsOwnOf, IsRefutedLog, IsUndecidedBy}
-use Rattle.judging.specs.Finds.{IsFound, of_serial}
 use Rattle.judging.proofs.Resolved.{twice, known, serial_of_resolved}
 use Rattle.judging.proofs.Parts.{none_of_part}
 

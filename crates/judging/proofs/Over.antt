@@ -1,26 +1,13 @@
 -- A log whose session numbers and identities are its own has no fault but a limit.
-use Rattle.std.proofs.Common.{◌≡◌, ℕ, ◌<◌, Bool, true, false, not, cond, List, ◌∷◌, length, count_by, subst, nat_lt, Option, Some, None, refl, sym, ap, ◌∙◌, arith}
-use Rattle.std.specs.Option.{option_or}
-use Rattle.std.proofs.lemmas.Bool.{ltb-true}
-use Rattle.session_log.specs.Text.{ClientSession}
-use Rattle.session_log.specs.declared.fault.Limit.{Limit}
+use Rattle.judging.proofs.Prelude.{◌≡◌, ℕ, ◌<◌, Bool, true, false, not, cond, List, ◌∷◌, length, count_by, subst, nat_lt, Option, Some, None, refl, sym, ap, ◌∙◌, arith, option_or, ltb-true, ClientSession, Limit, OverLimit, IsFault}
+use Rattle.judging.proofs.Prelude.{Apart-from_IsDistinct, IsDistinct-from_Apart, written, IsLog, ops_in, txns_in, log_lines, session_twice, write_twice, session_fault, write_fault, limit_fault, list_fault, keys_in, is_aborted, neither}
+use Rattle.judging.proofs.Prelude.{IsOver, IsLimitOrMemory}
 use Rattle.session_log.specs.declared.fault.Limit.TheVariants as limit
 use Rattle.session_log.specs.declared.fault.LogFault.{LogFault}
 use Rattle.session_log.specs.declared.fault.LogFault.TheVariants as faults
-use Rattle.session_log.specs.declared.fault.LogFault.TheVariants.{OverLimit}
-use Rattle.session_log.specs.Faults.{IsFault}
-use Rattle.serializability.proofs.Places.{Apart-from_IsDistinct}
-use Rattle.serializability.proofs.Listed.{IsDistinct-from_Apart}
-use Rattle.log_definitions.specs.WellFormed.{written}
-use Rattle.log_laws.specs.Logs.{IsLog}
-use Rattle.log_definitions.specs.Unknown.{ops_in, txns_in}
-use Rattle.log_definitions.specs.WellFormed.{log_lines, session_twice, write_twice, session_fault, write_fault, limit_fault, list_fault, keys_in, is_aborted}
-use Rattle.log_definitions.proofs.Scanning.{neither}
 use Rattle.long_log_definitions.specs.LongLog as long
 use Rattle.long_log_definitions.specs.LongLog.{HasOwnNumbers}
 use Rattle.long_log_definitions.proofs.Texts.{no_fault_where_numbers}
-use Rattle.judging.specs.Limits.{IsOver}
-use Rattle.judging.specs.Finds.{IsLimitOrMemory}
 
 -- the fault is this limit, which is passed
 pub record IsPassed (ss : List ClientSession) (f : LogFault) : Type 0 where

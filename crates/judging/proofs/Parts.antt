@@ -1,22 +1,13 @@
 -- Parts of a log whose outcomes are known.
-use Rattle.std.proofs.Common.{Bool, List, sym, ◌∙◌}
-use Rattle.std.specs.List.{AllByRecursion}
-use Rattle.session_log.specs.Text.{ClientSession, IsLegal}
-use Rattle.log_definitions.specs.Unknown.{resolved}
-use Rattle.log_definitions.proofs.OnlyTaken.{some_where_serial}
-use Rattle.log_definitions.proofs.Settled.{IsLearnt}
-use Rattle.log_laws.specs.Logs.{IsSoundLog, IsLog}
-use Rattle.part_laws.specs.Parts.{IsTxnPart, IsSessionPart, IsPart}
+use Rattle.judging.proofs.Prelude.{Bool, List, sym, ◌∙◌, AllByRecursion, ClientSession, IsLegal, resolved, some_where_serial, IsLearnt, IsSoundLog, IsLog, IsTxnPart, IsSessionPart, IsPart, picked, is_kept, chosen, HasNoOrder}
+use Rattle.judging.proofs.Prelude.{resolved_is_log}
 use Rattle.part_laws.proofs.Thinned.{thinned_same, each_thinned}
 use Rattle.part_laws.proofs.Sessions.{txns_of_part}
 use Rattle.part_laws.proofs.Orders.{no_order_of_part}
 use Rattle.part_laws.proofs.Logs.{part_is_log}
 use Rattle.part_laws.proofs.Chosen.{thinned_is_part, session_itself}
-use Rattle.log_parts.specs.Picked.{picked, is_kept, chosen}
 use Rattle.log_parts.proofs.Steps.{passes, some_picked}
-use Rattle.deciding.specs.Decides.{HasNoOrder}
 use Rattle.judging.proofs.Resolved.{serial_resolved, some_order}
-use Rattle.log_laws.proofs.Resolved.{resolved_is_log}
 
 pub part_log : (ss part : List ClientSession) → IsLog ss → IsPart ss part → IsLog part
 part_log ss part log h =

@@ -1,28 +1,16 @@
 -- Sessions whose unknown outcomes are resolved hold no more than the sessions that they come from.
-use Rattle.std.proofs.Common.{◌≡◌, ℕ, ◌+◌, ◌≤◌, Bool, true, false, cond, ◌||◌, List, [], ◌∷◌, ◌++◌, length, length-append, map, count_by, Option, Some, None, refl, sym, ap, ◌∙◌, subst, arith}
-use Rattle.std.specs.Prelude.{is_some}
-use Rattle.std.specs.List.{flat_map, list_any, AllByRecursion}
+use Rattle.judging.proofs.Prelude.{◌≡◌, ℕ, ◌+◌, ◌≤◌, Bool, true, false, cond, ◌||◌, List, [], ◌∷◌, ◌++◌, length, length-append, map, count_by, Option, Some, None, refl, sym, ap, ◌∙◌, subst, arith, is_some, flat_map, list_any}
+use Rattle.judging.proofs.Prelude.{AllByRecursion, ClientSession, Transaction, IsLegal, IsLegalTxn, MayEndAt, op_line, end_line, txn_lines, session_lines, line_text, full_line, text_of_lines, log_text, has_moment, has_unknown}
+use Rattle.judging.proofs.Prelude.{least_version, header_text, Op, One, Two, Three, log_by_lines, Limit, length-map, sum_by-cons, sum_by-append, is_unknown, txns_in, settled_as, settle, settled, taken, resolved, log_lines, numbers_resolved}
+use Rattle.judging.proofs.Prelude.{ops_resolved, one as one_if, IsOver}
 use Rattle.std.proofs.lemmas.List.Concat.{flat_map-append}
-use Rattle.session_log.specs.Text.{ClientSession, Transaction, IsLegal, IsLegalTxn, MayEndAt, op_line, end_line, txn_lines, session_lines, line_text, full_line, text_of_lines, log_text, has_moment, has_unknown, least_version}
-use Rattle.session_log.specs.Version.{header_text}
 use Rattle.session_log.specs.declared.line.Line.{Line}
 use Rattle.session_log.specs.declared.line.Line.TheVariants as line
-use Rattle.session_log.specs.declared.session.Op.{Op}
 use Rattle.session_log.specs.declared.session.Outcome.{Outcome}
 use Rattle.session_log.specs.declared.session.Outcome.TheVariants.{Commit, Abort, Unknown}
-use Rattle.session_log.specs.declared.version.Version.TheVariants.{One, Two, Three}
-use Rattle.session_log.proofs.Whole.{log_by_lines}
-use Rattle.session_log.specs.declared.fault.Limit.{Limit}
 use Rattle.session_log.specs.declared.fault.Limit.TheVariants as limit
-use Rattle.std.proofs.lemmas.List.{length-map}
-use Rattle.std.proofs.lemmas.List.Sums.{sum_by-cons, sum_by-append}
-use Rattle.log_definitions.specs.Unknown.{is_unknown, txns_in, settled_as, settle, settled, taken, resolved}
-use Rattle.log_definitions.specs.WellFormed.{log_lines}
-use Rattle.log_definitions.proofs.Settled.{numbers_resolved, ops_resolved}
 use Rattle.log_definitions.proofs.Taken.{resolved_is}
 use Rattle.log_definitions.proofs.FewNodes.{may_be_node}
-use Rattle.order_cnf.proofs.Counted.{one as one_if}
-use Rattle.judging.specs.Limits.{IsOver}
 use Rattle.judging.proofs.Resolved.{keys_of_resolved}
 
 abbrev size : List Line → ℕ

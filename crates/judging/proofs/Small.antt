@@ -1,38 +1,15 @@
 -- A log within the limits has of nothing too much.
-use Rattle.std.proofs.Common.{◌≡◌, ℕ, ◌≤◌, Bool, true, false, cond, nat_lt, List, [], ◌∷◌, length, length-append, map, count_by, Some, None, refl, sym, ap, ◌∙◌, subst, arith}
-use Rattle.std.specs.List.{flat_map, AllByRecursion}
-use Rattle.std.proofs.lemmas.Bool.{ltb-false}
-use Rattle.std.proofs.lemmas.List.Sums.{sum_by-cons, sum_by-append}
-use Rattle.std.proofs.lemmas.List.{map-append}
-use Rattle.session_log.specs.Text.{ClientSession, IsLegal, IsHeldBy, least_version, session_lines, txn_lines, line_text, text_of_lines, log_text}
-use Rattle.session_log.specs.Version.{header_text, version_of, body_of, version_number, first_line}
+use Rattle.judging.proofs.Prelude.{◌≡◌, ℕ, ◌≤◌, Bool, true, false, cond, nat_lt, List, [], ◌∷◌, length, length-append, map, count_by, Some, None, refl, sym, ap, ◌∙◌, subst, arith, flat_map, AllByRecursion, ltb-false, sum_by-cons}
+use Rattle.judging.proofs.Prelude.{sum_by-append, map-append, ClientSession, IsLegal, IsHeldBy, least_version, session_lines, txn_lines, line_text, text_of_lines, log_text, header_text, version_of, body_of, version_number, first_line}
+use Rattle.judging.proofs.Prelude.{is_session_line, Limit, OverLimit, Version, One, Two, Three, log_by_lines, lines_log, stands, IsWellFormed, log_lines, rules_where_no_fault, IsReduceFault, one as one_if, Unknown, IsSearched, Serializable}
+use Rattle.judging.proofs.Prelude.{IsOver, judged_at, IsVerdict, IsInVain, JudgeMeans, Why, Spent, TooLarge, TooManyChoices, NoRoom, NotBegun, NotShown, Tried}
 use Rattle.session_log.specs.Lines.{lines}
-use Rattle.session_log.specs.Faults.{is_session_line}
 use Rattle.session_log.specs.Blocks.{size_fault}
-use Rattle.session_log.specs.declared.fault.Limit.{Limit}
 use Rattle.session_log.specs.declared.fault.Limit.TheVariants as limit
-use Rattle.session_log.specs.declared.fault.LogFault.TheVariants.{OverLimit}
 use Rattle.session_log.specs.declared.line.Line.TheVariants as line
-use Rattle.session_log.specs.declared.version.Version.{Version}
-use Rattle.session_log.specs.declared.version.Version.TheVariants.{One, Two, Three}
 use Rattle.session_log.proofs.Least.{least_is_least}
-use Rattle.session_log.proofs.Whole.{log_by_lines, lines_log, stands}
 use Rattle.session_log.proofs.Cutting.{counted_behind}
-use Rattle.log_definitions.specs.WellFormed.{IsWellFormed, log_lines}
-use Rattle.log_definitions.proofs.Scanning.{rules_where_no_fault}
 use Rattle.polygraph.specs.declared.fault.PolyFault.TheVariants as poly_fault
-use Rattle.reduction.specs.Outcome.{IsReduceFault}
-use Rattle.order_cnf.proofs.Counted.{one as one_if}
-use Rattle.branch_search.specs.declared.answer.Answer.TheVariants.{Unknown}
-use Rattle.deciding.specs.Decides.{IsSearched}
-use Rattle.judging.specs.declared.level.Level.TheVariants.{Serializable}
-use Rattle.judging.specs.Limits.{IsOver}
-use Rattle.judging.specs.Levels.{judged_at}
-use Rattle.judging.specs.Judges.{IsVerdict, IsInVain}
-use Rattle.judging.specs.declared.means.JudgeMeans.{JudgeMeans}
-use Rattle.judging.specs.declared.judged.Why.{Why}
-use Rattle.judging.specs.declared.judged.Why.TheVariants.{Spent, TooLarge, TooManyChoices, NoRoom, NotBegun, NotShown}
-use Rattle.judging.specs.declared.judged.Tried.{Tried}
 use Rattle.judging.specs.declared.judged.Verdict.TheVariants.{Undecided}
 use Rattle.judging.proofs.Levels.{not_snapshot, not_below}
 

@@ -1,36 +1,16 @@
 -- What is said of resolved sessions is said of those that they come from.
-use Rattle.std.proofs.Common.{◌≡◌, Bool, List, Vec, map, refl, sym, ◌∙◌, subst}
-use Rattle.std.specs.Prelude.{Result, Ok, Err, IfOk}
-use Rattle.std.specs.List.{AllByRecursion}
-use Rattle.std.specs.declared.alloc.Global.{Global}
+use Rattle.judging.proofs.Prelude.{◌≡◌, Bool, List, Vec, map, refl, sym, ◌∙◌, subst, Result, Ok, Err, IfOk, AllByRecursion, Global, ClientSession, IsLegal, view, Log, resolved, IsSoundLog, IsLog, IsPart, IsOpenHistory, IsReduceFault}
+use Rattle.judging.proofs.Prelude.{Unknown, IsSearched, chosen, IsOver, Level, Serializable, Snapshot, Prefix, Below, JudgeMeans, Why, Spent, TooLarge, TooManyChoices, NoRoom, NotBegun, NotShown, Tried, IsRefutedLog, IsUndecidedBy, IsTried}
+use Rattle.judging.proofs.Prelude.{IsVerdict, IsMadeOf, IsMade, IsToldPart, IsSaid, IsTriedOf, of_serial}
 use Rattle.log_definitions.proofs.Members.{each_weaker}
-use Rattle.session_log.specs.Text.{ClientSession, IsLegal, view}
-use Rattle.serializability.specs.Log.{Log}
-use Rattle.log_definitions.specs.Unknown.{resolved}
-use Rattle.log_laws.specs.Logs.{IsSoundLog, IsLog}
-use Rattle.part_laws.specs.Parts.{IsPart}
 use Rattle.prune_ledger.specs.Pruned.{Remainder}
 use Rattle.serializability.specs.Polygraph.{Polygraph}
 use Rattle.reduction.specs.Chained.{HasItsOrders, IsUnpruned}
-use Rattle.reduction.specs.Outcome.{IsOpenHistory, IsReduceFault}
 use Rattle.polygraph.specs.declared.fault.PolyFault.TheVariants as poly_fault
-use Rattle.branch_search.specs.declared.answer.Answer.TheVariants.{Unknown}
-use Rattle.deciding.specs.Decides.{IsSearched}
-use Rattle.log_parts.specs.Picked.{chosen}
-use Rattle.judging.specs.Limits.{IsOver}
-use Rattle.judging.specs.declared.level.Level.{Level}
-use Rattle.judging.specs.declared.level.Level.TheVariants.{Serializable, Snapshot, Prefix, Below}
-use Rattle.judging.specs.declared.means.JudgeMeans.{JudgeMeans}
-use Rattle.judging.specs.declared.judged.Why.{Why}
-use Rattle.judging.specs.declared.judged.Why.TheVariants.{Spent, TooLarge, TooManyChoices, NoRoom, NotBegun, NotShown}
-use Rattle.judging.specs.declared.judged.Tried.{Tried}
 use Rattle.judging.specs.declared.judged.Tried.TheVariants.{Nothing, NotSerial, PartSerial, PartOpen}
 use Rattle.judging.specs.declared.judged.RefutedPart.{RefutedPart}
 use Rattle.judging.specs.declared.judged.Verdict.{Verdict}
 use Rattle.judging.specs.declared.judged.Verdict.TheVariants as verdict
-use Rattle.judging.specs.Judges.{IsRefutedLog, IsUndecidedBy, IsTried, IsVerdict}
-use Rattle.judging.specs.Made.{IsMadeOf, IsMade, IsToldPart}
-use Rattle.judging.specs.Finds.{IsSaid, IsTriedOf, of_serial}
 use Rattle.judging.proofs.Resolved.{twice, known, serial_resolved, serial_of_resolved, log_resolved}
 use Rattle.seen_laws.specs.declared.level.Level.{Level as BelowLevel}
 use Rattle.judging.proofs.Levels.{bare_resolved, judged_resolved, room_resolved, order_of_resolved, none_at_part, not_below}

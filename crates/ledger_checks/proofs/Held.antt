@@ -1,21 +1,12 @@
 -- What the tests of a ledger say.
-use Rattle.std.proofs.Common.{◌≡◌, ◌⊎◌, ℕ, ◌+◌, ◌<◌, Bool, true, ◌&&◌, List, [], ◌∷◌, ◌++◌, length, get_or, take, drop, refl, sym, ap, ◌∙◌, subst, inl, inr}
+use Rattle.ledger_checks.proofs.Prelude.{◌≡◌, ◌⊎◌, ℕ, ◌+◌, ◌<◌, Bool, true, ◌&&◌, List, [], ◌∷◌, ◌++◌, length, get_or, take, drop, refl, sym, ap, ◌∙◌, subst, inl, inr, list_any, false≢true, and_parts, and_from, or_cases, or_left, or_right}
+use Rattle.ledger_checks.proofs.Prelude.{drop_more, take_more, same_bool, Edge, Polygraph, IsCycle, other, has_edge, leads, is_line, side_of, kept_side, kept_after, edges_after, IsShown, AreShown, is_of, is_held, leads_by, is_line_by}
+use Rattle.ledger_checks.proofs.Prelude.{is_shown_by, are_shown_by, is_cycle_by, LedgerEntry}
 use Rattle.std.specs.Prelude.{◌==◌, nat_lt, slice_index}
-use Rattle.std.specs.List.{list_any}
-use Rattle.std.proofs.lemmas.Bool.{false≢true, and_parts, and_from, or_cases, or_left, or_right}
-use Rattle.std.proofs.lemmas.List.{drop_more, take_more}
-use Rattle.list_lemmas.proofs.Bools.{same_bool}
-use Rattle.serializability.specs.Polygraph.{Edge, Polygraph}
-use Rattle.reach_laws.specs.Reach.{IsCycle}
 use Rattle.known_graph.proofs.Listed.{In, In-from_Contains}
-use Rattle.pruning_laws.specs.Forced.{other}
 use Rattle.pruning_laws.specs.Ledger.{Entry as Kept, sides_in}
 use Rattle.prune_ledger.specs.Posted.{Posted}
-use Rattle.known_graph.specs.Tests.{has_edge, leads, is_line}
-use Rattle.prune_ledger.specs.Ledger.{side_of, kept_side, kept_after, edges_after, IsShown, AreShown}
-use Rattle.ledger_checks.specs.Tested.{is_of, is_held, leads_by, is_line_by, is_shown_by, are_shown_by, is_cycle_by}
 use Rattle.prune_ledger.specs.Pruned.{posts_in, kept_by}
-use Rattle.prune_ledger.specs.declared.ledger.LedgerEntry.{LedgerEntry}
 use Rattle.known_graph.proofs.Tested.{edge_in, has_in, has_contained, walk_of, line_of}
 use Rattle.prune_ledger.proofs.Sides.{known_with, more_kept, new_kept, kept_cases, no_kept}
 use Rattle.prune_ledger.proofs.Grown.{kept_append, posts_append}

@@ -1,23 +1,12 @@
 -- The edges that a ledger keeps, as bits.
-use Rattle.std.proofs.Common.{◌≡◌, ℕ, ◌+◌, ◌*◌, ◌<◌, ◌≤◌, Bool, false, eqb, ◌&&◌, ◌||◌, List, [], ◌∷◌, ◌++◌, length, get_or, take, replicate, refl, sym, ap, ◌∙◌, subst, append_assoc, append-nil, arith, eq-eqb, eqb-true}
-use Rattle.std.specs.List.{list_any}
-use Rattle.std.proofs.lemmas.Bool.{and_parts, and_from}
-use Rattle.std.proofs.lemmas.List.{take_more}
+use Rattle.ledger_checks.proofs.Prelude.{◌≡◌, ℕ, ◌+◌, ◌*◌, ◌<◌, ◌≤◌, Bool, false, eqb, ◌&&◌, ◌||◌, List, [], ◌∷◌, ◌++◌, length, get_or, take, replicate, refl, sym, ap, ◌∙◌, subst, append_assoc, append-nil, arith, eq-eqb, eqb-true, list_any}
+use Rattle.ledger_checks.proofs.Prelude.{and_parts, and_from, take_more, same_bool, Edge, Polygraph, Graph, other, has_edge, side_of, is_of, is_held, edge_place, HasEdges, edges_kept, LedgerEntry}
 use Rattle.std.proofs.lemmas.Nat.{same_from_place}
 use Rattle.std.proofs.Math.Bool.{or_comm, or-false}
-use Rattle.list_lemmas.proofs.Bools.{same_bool}
-use Rattle.serializability.specs.Polygraph.{Edge, Polygraph}
-use Rattle.reach_laws.specs.Reach.{Graph}
-use Rattle.pruning_laws.specs.Forced.{other}
 use Rattle.known_graph.specs.Bits.{bit_of}
-use Rattle.known_graph.specs.Tests.{has_edge}
 use Rattle.known_graph.proofs.Words.{bit_of-zeros}
 use Rattle.known_graph.proofs.Rows.{edge_append}
-use Rattle.prune_ledger.specs.Ledger.{side_of}
-use Rattle.ledger_checks.specs.Tested.{is_of, is_held}
-use Rattle.ledger_checks.specs.KeptEdges.{edge_place, HasEdges, edges_kept}
 use Rattle.ledger_checks.specs.declared.kept.KeptEdges.{KeptEdges}
-use Rattle.prune_ledger.specs.declared.ledger.LedgerEntry.{LedgerEntry}
 
 -- ---- bits
 pub place_is : (a b u v : ℕ) → a ≡ u → b ≡ v → a * 1024 + b ≡ edge_place u v

@@ -1,2 +1,3 @@
+mod Prelude
 pub mod Held
 pub mod KeptBits

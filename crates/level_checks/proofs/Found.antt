@@ -1,25 +1,8 @@
 -- What the writes of each key say of the operations.
-use Rattle.std.proofs.Common.{◌≡◌, ◌⊎◌, ℕ, ◌<◌, true, List, [], ◌∷◌, ◌++◌, Option, Some, None, refl, sym, ap, ◌∙◌, subst, inl, inr, arith}
-use Rattle.std.specs.Prelude.{if◌then◌else◌}
-use Rattle.std.specs.List.{AllByRecursion, Contains}
-use Rattle.std.specs.Str.{bytes_eq}
-use Rattle.std.proofs.lemmas.Bool.{cases_Bool}
-use Rattle.std.proofs.lemmas.Slice.Eq.{bytes_eq-Decides}
-use Rattle.std.proofs.lemmas.Option.{same_Some}
-use Rattle.std.proofs.lemmas.List.{append_assoc}
-use Rattle.list_lemmas.proofs.Lists.{append_none}
-use Rattle.list_lemmas.proofs.Each.{member}
-use Rattle.list_lemmas.proofs.Elements.{behind}
+use Rattle.level_checks.proofs.Prelude.{◌≡◌, ◌⊎◌, ℕ, ◌<◌, true, List, [], ◌∷◌, ◌++◌, Option, Some, None, refl, sym, ap, ◌∙◌, subst, inl, inr, arith, if◌then◌else◌, AllByRecursion, Contains, bytes_eq, cases_Bool, bytes_eq-Decides, same_Some}
+use Rattle.level_checks.proofs.Prelude.{append_assoc, append_none, member, behind, Op, Read, Write, last_write, Look, Chains, pushed, IsOwn, FoundIn, IsFound, with_ops, NoneSeen, AreFound}
 use Rattle.log_laws.proofs.Lists.{first_or_behind}
-use Rattle.session_log.specs.declared.session.Op.{Op}
-use Rattle.session_log.specs.declared.session.Op.TheVariants.{Read, Write}
 use Rattle.serializability.specs.Reads.{later}
-use Rattle.seen_laws.specs.Seen.{last_write}
-use Rattle.level_checks.specs.declared.trace.Look.{Look}
-use Rattle.level_checks.specs.Chains.{Chains, pushed, IsOwn, FoundIn, IsFound}
-use Rattle.level_checks.specs.Traces.{with_ops}
-use Rattle.level_checks.specs.Seen.{NoneSeen}
-use Rattle.level_checks.specs.Walk.{AreFound}
 
 -- ---- with operations
 same_key : (key : List ℕ) → bytes_eq key key ≡ true

@@ -1,25 +1,16 @@
 -- A way through a whole order shows that it keeps the level.
-use Rattle.std.proofs.Common.{◌≡◌, ◌≢◌, ◌⊎◌, ℕ, zero, suc, ◌+◌, ◌-◌, ◌<◌, ◌≤◌, List, [], ◌∷◌, ◌++◌, length, map, Option, Some, None, refl, sym, ap, ◌∙◌, subst, inl, inr, arith, get_or}
-use Rattle.std.specs.Prelude.{slice_get, slice_index}
-use Rattle.std.specs.List.{AllByRecursion, Contains, filter, enumerate_from}
-use Rattle.std.specs.Option.{option_map_or}
-use Rattle.std.proofs.lemmas.Bool.{cases_Bool, cases_order}
-use Rattle.std.proofs.lemmas.List.{map-append}
+use Rattle.level_checks.proofs.Prelude.{◌≡◌, ◌≢◌, ◌⊎◌, ℕ, zero, suc, ◌+◌, ◌-◌, ◌<◌, ◌≤◌, List, [], ◌∷◌, ◌++◌, length, map, Option, Some, None, refl, sym, ap, ◌∙◌, subst, inl, inr, arith, get_or, slice_get, slice_index, AllByRecursion}
+use Rattle.level_checks.proofs.Prelude.{Contains, filter, enumerate_from, option_map_or, cases_Bool, cases_order, map-append, slice_get-get_or, get_or_from_slice_get, member, each_member, same_item, ClientSession, Transaction, Op, Read}
+use Rattle.level_checks.proofs.Prelude.{Write, Has, Apart, Apart-from_IsDistinct, Contains-from_Has, place_of-here, place_of-further, length_mapped, each_weaker, Level, ReadCommitted, MonotonicAtomicView, ReadAtomic, Causal, last_write}
+use Rattle.level_checks.proofs.Prelude.{ReadsBehind, WritesKey, IsEarlier, ReadsFrom, Direct, Past, Sees, IsLastSeen, FindsLast, IsLevelOrder, Look, Row, Chains, IsOwn, FoundIn, HeadBelow, IsFound, with_ops, Includes, SeenBy, NoneSeen}
+use Rattle.level_checks.proofs.Prelude.{Brief, briefs, briefs_in, session_at, ops_at, number_at, ops_on, index_on, past, AreFound, IsKept, IsWalk}
 use Rattle.std.proofs.lemmas.List.Elements.{Contains-append_left, Contains-append_right}
-use Rattle.std.proofs.lemmas.Option.{slice_get-get_or, get_or_from_slice_get}
-use Rattle.list_lemmas.proofs.Each.{member, each_member}
-use Rattle.list_lemmas.proofs.Elements.{same_item}
-use Rattle.session_log.specs.Text.{ClientSession, Transaction}
-use Rattle.session_log.specs.declared.session.Op.{Op}
-use Rattle.session_log.specs.declared.session.Op.TheVariants.{Read, Write}
 use Rattle.serializability.specs.Replay.{place_of, Before, ListsOnce}
-use Rattle.serializability.proofs.Places.{Has, Apart, Apart-from_IsDistinct, Contains-from_Has, place_of-here, place_of-further, length_mapped}
 use Rattle.serializability.proofs.Listed.{once_from}
 use Rattle.serializability.proofs.Serial.{behind_zero}
 use Rattle.log_definitions.specs.Unknown.{ops_in, txns_in, is_committed, resolved}
 use Rattle.log_definitions.specs.WellFormed.{written}
 use Rattle.log_definitions.specs.Serial.{Committed, committed_of, committed_in, node_of, session_of, ops_of}
-use Rattle.log_definitions.proofs.Members.{each_weaker}
 use Rattle.log_definitions.proofs.Settled.{IsLearnt, txn_ops}
 use Rattle.log_definitions.proofs.Nodes.{kept_in, node_ops, each_op}
 use Rattle.log_definitions.proofs.Chosen.{Has-written}
@@ -28,17 +19,7 @@ use Rattle.log_laws.specs.Logs.{IsLearntLog, IsSoundLog}
 use Rattle.log_laws.proofs.Txns.{split}
 use Rattle.log_laws.proofs.Sessions.{nodes_of}
 use Rattle.log_laws.proofs.Shifted.{nodes_are}
-use Rattle.seen_laws.specs.declared.level.Level.{Level}
-use Rattle.seen_laws.specs.declared.level.Level.TheVariants.{ReadCommitted, MonotonicAtomicView, ReadAtomic, Causal}
-use Rattle.seen_laws.specs.Seen.{last_write, ReadsBehind, WritesKey, IsEarlier, ReadsFrom, Direct, Past, Sees, IsLastSeen, FindsLast, IsLevelOrder}
 use Rattle.seen_laws.specs.Seen.Past.{step, path}
-use Rattle.level_checks.specs.declared.trace.Look.{Look}
-use Rattle.level_checks.specs.declared.seen.Row.{Row}
-use Rattle.level_checks.specs.Chains.{Chains, IsOwn, FoundIn, HeadBelow, IsFound}
-use Rattle.level_checks.specs.Traces.{with_ops}
-use Rattle.level_checks.specs.Seen.{Includes, SeenBy, NoneSeen}
-use Rattle.level_checks.specs.Nodes.{Brief, briefs, briefs_in}
-use Rattle.level_checks.specs.Walk.{session_at, ops_at, number_at, ops_on, index_on, past, AreFound, IsKept, IsWalk}
 use Rattle.level_checks.proofs.Judged.{includes_through}
 use Rattle.level_checks.proofs.Found.{written_with, kept_with, each_with, none_written, last_first, found_member, found_before, found_split, read_source}
 

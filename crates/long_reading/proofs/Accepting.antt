@@ -1,20 +1,8 @@
 -- From what was read of a text to what the text is.
-use Rattle.std.proofs.Common.{◌≡◌, ℕ, List, Some, None, sym, ap, ◌∙◌, subst}
-use Rattle.session_log.specs.Text.{ClientSession, log_text}
-use Rattle.session_log.specs.Version.{version_of, first_line}
-use Rattle.session_log.specs.Faults.{grammar_fault, IsFault}
-use Rattle.session_log.specs.Blocks.{blocks_of}
-use Rattle.session_log.specs.declared.fault.LogFault.{LogFault}
+use Rattle.long_reading.proofs.Prelude.{◌≡◌, ℕ, List, Some, None, sym, ap, ◌∙◌, subst, ClientSession, log_text, version_of, first_line, grammar_fault, IsFault, blocks_of, LogFault, fault_by_blocks, joined, same_fault, option_or}
+use Rattle.long_reading.proofs.Prelude.{either_fault, log_lines, session_twice, write_twice, session_fault, write_fault, size_fault, list_fault, IsLongLog, IsLongLogFault, memory, size, grammar, list, AreRead, fault_of_blocks, Stated}
+use Rattle.long_reading.proofs.Prelude.{by_line, AscendFrom}
 use Rattle.session_log.specs.declared.fault.LogFault.TheVariants.{Memory, SessionTwice, WriteTwice}
-use Rattle.session_log.proofs.Together.{fault_by_blocks, joined}
-use Rattle.session_log.proofs.Steps.{same_fault}
-use Rattle.std.specs.Option.{option_or}
-use Rattle.session_log.proofs.FaultsOf.{either_fault}
-use Rattle.log_definitions.specs.WellFormed.{log_lines, session_twice, write_twice, session_fault, write_fault}
-use Rattle.long_log_definitions.specs.LongLog.{size_fault, list_fault, IsLongLog, IsLongLogFault, memory, size, grammar, list}
-use Rattle.long_reading.specs.Reading.{AreRead, fault_of_blocks}
-use Rattle.long_reading.specs.declared.repeats.Stated.{Stated}
-use Rattle.long_reading.specs.Statements.{by_line, AscendFrom}
 use Rattle.long_reading.proofs.Stating.{from_none}
 
 pub text_is : (log : List ℕ) (ss : List ClientSession) → AreRead log (blocks_of log) ss → log ≡ log_text (version_of log) ss

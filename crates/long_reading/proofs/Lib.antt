@@ -1,3 +1,4 @@
+mod Prelude
 pub mod Read
 pub mod Stating
 pub mod Sorting

@@ -1,23 +1,10 @@
 -- What is read of blocks that follow one another.
-use Rattle.std.proofs.Common.{◌≡◌, ℕ, zero, suc, ◌+◌, ◌<◌, List, [], ◌∷◌, ◌++◌, length, map, take, drop, get_or, Option, Some, None, refl, sym, ap, ◌∙◌, subst, arith}
-use Rattle.std.specs.Prelude.{slice_get}
-use Rattle.std.specs.List.{flat_map, AllByRecursion, Contains}
+use Rattle.long_reading.proofs.Prelude.{◌≡◌, ℕ, zero, suc, ◌+◌, ◌<◌, List, [], ◌∷◌, ◌++◌, length, map, take, drop, get_or, Option, Some, None, refl, sym, ap, ◌∙◌, subst, arith, slice_get, flat_map, AllByRecursion, Contains, append-nil}
+use Rattle.long_reading.proofs.Prelude.{map-append, length-map, take_more, drop_more, take-append-drop, flat_map-append, some_at, ClientSession, view, IsLegal, IsHeldBy, session_text, version_of, IsFault, block_text, block_fault, first_of}
+use Rattle.long_reading.proofs.Prelude.{Block, Session, LogFault, same_fault, fault_as, AreRead, fault_of_blocks}
 use denote.Ref.{Bor}
-use Rattle.std.proofs.lemmas.List.{append-nil, map-append, length-map, take_more, drop_more, take-append-drop}
-use Rattle.std.proofs.lemmas.List.Concat.{flat_map-append}
 use Rattle.std.proofs.lemmas.Option.{slice_get_within, get_or_from_slice_get}
-use Rattle.list_lemmas.proofs.Elements.{some_at}
-use Rattle.session_log.specs.Text.{ClientSession, view, IsLegal, IsHeldBy, session_text}
-use Rattle.session_log.specs.Version.{version_of}
-use Rattle.session_log.specs.Faults.{IsFault}
-use Rattle.session_log.specs.Blocks.{block_text, block_fault, first_of}
-use Rattle.session_log.specs.declared.block.Block.{Block}
-use Rattle.session_log.specs.declared.session.Session.{Session}
-use Rattle.session_log.specs.declared.fault.LogFault.{LogFault}
-use Rattle.session_log.proofs.Steps.{same_fault}
-use Rattle.session_log.proofs.FaultsOf.{fault_as}
 use Rattle.log_definitions.proofs.Members.{themselves}
-use Rattle.long_reading.specs.Reading.{AreRead, fault_of_blocks}
 
 module _ {A : Type 0} where
   pub all_append : (P : A → Type 0) (xs ys : List A) → AllByRecursion P xs → AllByRecursion P ys → AllByRecursion P (xs ++ ys)

@@ -1,9 +1,7 @@
 -- A sorted list of numbers shows the first line whose number stood before.
-use Rattle.std.proofs.Common.{◌≡◌, ◌≢◌, ◌⊎◌, inl, inr, ℕ, zero, suc, ◌+◌, ◌-◌, ◌<◌, ◌≤◌, false, cond, min, List, [], ◌∷◌, ◌++◌, length, get_or, Option, Some, None, refl, sym, ap, ◌∙◌, subst, arith, nat_eq, nat_cmp}
-use Rattle.std.specs.Prelude.{count_by}
-use Rattle.std.specs.List.{Contains}
+use Rattle.long_reading.proofs.Prelude.{◌≡◌, ◌≢◌, ◌⊎◌, inl, inr, ℕ, zero, suc, ◌+◌, ◌-◌, ◌<◌, ◌≤◌, false, cond, min, List, [], ◌∷◌, ◌++◌, length, get_or, Option, Some, None, refl, sym, ap, ◌∙◌, subst, arith, nat_eq, nat_cmp, count_by}
+use Rattle.long_reading.proofs.Prelude.{Contains, option_map_or, repeated, Stated, by_line, AscendFrom}
 use Rattle.std.specs.List.Sorted.{IsPermutation, IsSorted}
-use Rattle.std.specs.Option.{option_map_or}
 use Rattle.std.specs.Ordering.{is_lt, ordering_then}
 use Rattle.std.specs.declared.cmp.Ordering.{Ordering}
 use Rattle.std.proofs.lemmas.Bool.{cases_Bool, eqb-true, eqb-false, eq-eqb, ne_eqb, cases_lt, false≢true}
@@ -11,11 +9,8 @@ use Rattle.std.proofs.lemmas.Cmp.{nat_cmp_total, on_total, then_total, ranked, b
 use Rattle.std.proofs.lemmas.List.Sorted.{sorted_far, ranks_by, Contains-permutation, IsPermutation-sym, sum_by-IsPermutation}
 use Rattle.std.proofs.lemmas.List.Sums.{sum_by-cons}
 use Rattle.serializability.proofs.Places.{Has, Apart}
-use Rattle.log_definitions.specs.WellFormed.{repeated}
 use Rattle.log_definitions.proofs.Scanning.{numbers}
 use Rattle.long_log_definitions.proofs.Repeats.{apart_where_none, first_where_some, IsFirstRepeated}
-use Rattle.long_reading.specs.declared.repeats.Stated.{Stated}
-use Rattle.long_reading.specs.Statements.{by_line, AscendFrom}
 
 -- the order of the numbers, and of the lines among equal ones
 abbrev pub compared : Stated → Stated → Ordering

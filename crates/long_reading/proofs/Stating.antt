@@ -1,20 +1,11 @@
 -- What lines state, line by line.
-use Rattle.std.proofs.Common.{◌≡◌, ℕ, ◌+◌, ◌<◌, ◌≤◌, List, [], ◌∷◌, ◌++◌, length, map, take, drop, get_or, Option, refl, sym, ap, ◌∙◌, subst, arith, append_assoc, length-append}
-use Rattle.std.specs.List.{flat_map}
-use Rattle.std.proofs.lemmas.List.{append-nil, map-append, take_more, take_all, take-append-drop}
-use Rattle.std.proofs.lemmas.List.Concat.{flat_map-append, flat_map_single}
-use Rattle.session_log.specs.Text.{view, view_txn, op_line, end_line, txn_lines, session_lines}
+use Rattle.long_reading.proofs.Prelude.{◌≡◌, ℕ, ◌+◌, ◌<◌, ◌≤◌, List, [], ◌∷◌, ◌++◌, length, map, take, drop, get_or, Option, refl, sym, ap, ◌∙◌, subst, arith, append_assoc, length-append, flat_map, append-nil, map-append, take_more}
+use Rattle.long_reading.proofs.Prelude.{take_all, take-append-drop, flat_map-append, flat_map_single, view, view_txn, op_line, end_line, txn_lines, session_lines, Op, Txn, Session, log_lines, sessions_from, writes_from, Stated, Statements}
+use Rattle.long_reading.proofs.Prelude.{by_line, AscendFrom, Takes}
 use Rattle.session_log.specs.declared.line.Line.{Line}
 use Rattle.session_log.specs.declared.line.Line.TheVariants as line
-use Rattle.session_log.specs.declared.session.Op.{Op}
 use Rattle.session_log.specs.declared.session.Outcome.{Outcome}
-use Rattle.session_log.specs.declared.session.Txn.{Txn}
-use Rattle.session_log.specs.declared.session.Session.{Session}
-use Rattle.log_definitions.specs.WellFormed.{log_lines, sessions_from, writes_from}
 use Rattle.log_definitions.proofs.Lines.{sessions_from-append, writes_from-append}
-use Rattle.long_reading.specs.declared.repeats.Stated.{Stated}
-use Rattle.long_reading.specs.declared.stated.Statements.{Statements}
-use Rattle.long_reading.specs.Statements.{by_line, AscendFrom, Takes}
 use Rattle.long_reading.proofs.Read.{flat_map-map}
 
 pub by_line-push : (stated now : List Stated) (s : Stated) → now ≡ stated ++ s ∷ [] → by_line now ≡ by_line stated ++ (s.line, s.number) ∷ []

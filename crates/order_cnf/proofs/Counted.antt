@@ -1,10 +1,6 @@
 -- How many of some numbers pass a test.
-use Rattle.std.proofs.Common.{◌≡◌, refl, sym, ap, ◌∙◌, ℕ, zero, suc, ◌+◌, ◌*◌, ◌/◌, ◌%◌, ◌^◌, ◌<◌, ◌≤◌, Bool, true, false, cond, eqb, arith, count_ones}
-use Rattle.std.specs.Int.{bit_at}
+use Rattle.order_cnf.proofs.Prelude.{◌≡◌, refl, sym, ap, ◌∙◌, ℕ, zero, suc, ◌+◌, ◌*◌, ◌/◌, ◌%◌, ◌^◌, ◌<◌, ◌≤◌, Bool, true, false, cond, eqb, arith, count_ones, bit_at, ones_cat, div-add-mod', mod_below, bit_at_lowest, bit_at-suc, IsWord}
 use Rattle.std.specs.Int.Count.{ones-ones}
-use Rattle.std.proofs.lemmas.Nat.{ones_cat, div-add-mod', mod_below}
-use Rattle.std.proofs.lemmas.Nat.Bits.{bit_at_lowest, bit_at-suc}
-use Rattle.order_cnf.specs.Cycles.{IsWord}
 
 abbrev pub one : Bool → ℕ
 one b = cond b 1 0

@@ -1,12 +1,6 @@
 -- How many pairs have a variable.
-use Rattle.std.proofs.Common.{◌≡◌, ℕ, zero, suc, ◌+◌, ◌*◌, ◌≤◌, Bool, true, false, List, [], ◌∷◌, length, arith, length-append, cond}
-use Rattle.std.specs.List.{filter, range_with_len}
-use Rattle.std.specs.Prelude.{map}
-use Rattle.std.proofs.lemmas.List.{length-map}
-use Rattle.std.proofs.lemmas.Nat.{mul-le}
+use Rattle.order_cnf.proofs.Prelude.{◌≡◌, ℕ, zero, suc, ◌+◌, ◌*◌, ◌≤◌, Bool, true, false, List, [], ◌∷◌, length, arith, length-append, cond, filter, range_with_len, map, length-map, mul-le, is_free, pairs_of, Relation, known_in, pairs_in}
 use Rattle.std.proofs.lemmas.List.FromFn.{length-range_with_len}
-use Rattle.serializability.specs.Pairs.{is_free, pairs_of}
-use Rattle.order_cnf.specs.Tables.{Relation, known_in, pairs_in}
 
 pairs_twice : (m a : ℕ) → 2 * length (pairs_of (range_with_len a m)) + m ≡ m * m
 pairs_twice zero a = omega arith

@@ -1,19 +1,9 @@
 -- Cycles of which no edge is known, and the clauses that they stand for.
-use Rattle.std.proofs.Common.{◌≡◌, ◌↔◌, refl, sym, ap, ◌∙◌, ℕ, zero, suc, ◌+◌, ◌-◌, ◌*◌, ◌/◌, ◌^◌, ◌<◌, ◌≤◌, Bool, true, false, not, cond, ◌&&◌, ◌||◌, List, [], ◌∷◌, ◌++◌, length, get_or, arith, count_ones}
-use Rattle.std.specs.Prelude.{nat_le, bit_and}
-use Rattle.std.specs.List.{Contains, range_with_len}
-use Rattle.std.proofs.lemmas.Bool.{le-leb, lt-leb, and_right, false≢true}
-use Rattle.std.proofs.lemmas.List.{length-append}
-use Rattle.std.proofs.lemmas.Nat.{div-add-mod', ones-le}
+use Rattle.order_cnf.proofs.Prelude.{◌≡◌, ◌↔◌, refl, sym, ap, ◌∙◌, ℕ, zero, suc, ◌+◌, ◌-◌, ◌*◌, ◌/◌, ◌^◌, ◌<◌, ◌≤◌, Bool, true, false, not, cond, ◌&&◌, ◌||◌, List, [], ◌∷◌, ◌++◌, length, get_or, arith, count_ones, nat_le, bit_and, Contains}
+use Rattle.order_cnf.proofs.Prelude.{range_with_len, le-leb, lt-leb, and_right, false≢true, length-append, div-add-mod', ones-le, Literal, Graph, bit_of, row_len, nodes_within_row, Relation, known_in, is_open_cycle, is_open_from, IsWord}
+use Rattle.order_cnf.proofs.Prelude.{IsPairTable, clauses_at, of_one, up_to}
 use Rattle.list_lemmas.proofs.Bools.{same_bool}
-use Rattle.serializability.specs.declared.literal.Literal.{Literal}
-use Rattle.reach_laws.specs.Reach.{Graph}
-use Rattle.known_graph.specs.Bits.{bit_of, row_len}
-use Rattle.known_graph.proofs.Edges.{nodes_within_row}
 use Rattle.known_graph.proofs.Words.{bit_there}
-use Rattle.order_cnf.specs.Tables.{Relation, known_in}
-use Rattle.order_cnf.specs.Cycles.{is_open_cycle, is_open_from, IsWord, IsPairTable}
-use Rattle.order_cnf.specs.Streams.{clauses_at, of_one, up_to}
 use Rattle.order_cnf.proofs.WordBits.{and_word, word_as, no_word}
 use Rattle.order_cnf.proofs.Counted.{one, count_in, count_none, count_same, count_split, count_most, word_counted}
 

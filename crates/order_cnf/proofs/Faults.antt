@@ -1,9 +1,5 @@
 -- Which limit is passed first.
-use Rattle.std.proofs.Common.{◌≡◌, ◌≤◌, length, None}
-use Rattle.std.proofs.lemmas.Bool.{le-ltb}
-use Rattle.serializability.specs.Log.{Log}
-use Rattle.serializability.specs.Polygraph.{bipaths}
-use Rattle.order_cnf.specs.Limits.{choices_fault}
+use Rattle.order_cnf.proofs.Prelude.{◌≡◌, ◌≤◌, length, None, le-ltb, Log, bipaths, choices_fault}
 
 pub few_choices : (log : Log) → log.nodes ≤ 100 → length (bipaths log) ≤ 100000 → choices_fault log ≡ None
 few_choices log few fits =

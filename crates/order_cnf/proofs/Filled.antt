@@ -1,11 +1,5 @@
 -- Tables of bits of pairs that are filled one pair after the other.
-use Rattle.std.proofs.Common.{◌≡◌, ◌⊎◌, ◌↔◌, inl, inr, sym, ap, ◌∙◌, ℕ, ◌+◌, ◌<◌, ◌≤◌, Bool, true, false, ◌&&◌, arith}
-use Rattle.std.specs.Prelude.{nat_le}
-use Rattle.std.specs.List.{Contains}
-use Rattle.std.proofs.lemmas.Bool.{cases_eq, false≢true, and_from, le-leb}
-use Rattle.serializability.specs.Polygraph.{Edge}
-use Rattle.reach_laws.specs.Reach.{Graph}
-use Rattle.known_graph.proofs.Edges.{pair_same}
+use Rattle.order_cnf.proofs.Prelude.{◌≡◌, ◌⊎◌, ◌↔◌, inl, inr, sym, ap, ◌∙◌, ℕ, ◌+◌, ◌<◌, ◌≤◌, Bool, true, false, ◌&&◌, arith, nat_le, Contains, cases_eq, false≢true, and_from, le-leb, Edge, Graph, pair_same}
 
 -- each bit that is set is one at which f holds, and the bits of the pairs that are done are
 pub record IsFilled (n : ℕ) (f : ℕ → ℕ → Bool) (Done : ℕ → ℕ → Type 0) (table : Graph) : Type 0 where

@@ -1,3 +1,4 @@
+mod Prelude
 pub mod PairPlaces
 pub mod Counts
 pub mod Faults

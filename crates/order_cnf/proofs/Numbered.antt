@@ -1,16 +1,9 @@
 -- Pairs are numbered in order.
-use Rattle.std.proofs.Common.{◌≡◌, ◌⊎◌, inl, inr, refl, sym, ap, ◌∙◌, ℕ, suc, ◌+◌, ◌-◌, ◌*◌, ◌<◌, ◌≤◌, ◌&&◌, true, false, eqb, List, [], ◌∷◌, ◌++◌, length, get_or, arith, eq-eqb, eqb-true}
-use Rattle.std.specs.Prelude.{map, slice_set, replicate}
-use Rattle.std.specs.List.{filter, range_with_len, AllByRecursion}
-use Rattle.std.proofs.lemmas.Bool.{cases_Bool, cases_lt, cases_eq, cases_order, and_parts, cond-true, cond-false, and_from}
-use Rattle.std.proofs.lemmas.List.{append_assoc, length-append, get_or-set_other, get_or-replicate, get_or_past, length-replicate, length-set}
+use Rattle.order_cnf.proofs.Prelude.{◌≡◌, ◌⊎◌, inl, inr, refl, sym, ap, ◌∙◌, ℕ, suc, ◌+◌, ◌-◌, ◌*◌, ◌<◌, ◌≤◌, ◌&&◌, true, false, eqb, List, [], ◌∷◌, ◌++◌, length, get_or, arith, eq-eqb, eqb-true, map, slice_set, replicate, filter}
+use Rattle.order_cnf.proofs.Prelude.{range_with_len, AllByRecursion, cases_Bool, cases_lt, cases_eq, cases_order, and_parts, cond-true, cond-false, and_from, append_assoc, length-append, get_or-set_other, get_or-replicate, get_or_past}
+use Rattle.order_cnf.proofs.Prelude.{length-replicate, length-set, same_from_place, mul-add-lt, is_free, pairs_of, pair_place, each_from_append, Relation, known_in, pairs_in, variable_of, up_to}
 use Rattle.std.proofs.lemmas.Grind.{get_or-set_at}
-use Rattle.std.proofs.lemmas.Nat.{same_from_place, mul-add-lt}
 use Rattle.std.proofs.lemmas.List.Elements.{filter-append}
-use Rattle.serializability.specs.Pairs.{is_free, pairs_of, pair_place}
-use Rattle.serializability.proofs.Places.{each_from_append}
-use Rattle.order_cnf.specs.Tables.{Relation, known_in, pairs_in, variable_of}
-use Rattle.order_cnf.specs.Streams.{up_to}
 use Rattle.order_cnf.proofs.Walks.{up_to_first, up_to_last}
 use Rattle.order_cnf.proofs.Counts.{few_pairs}
 

@@ -1,9 +1,5 @@
 -- The place of a pair of nodes 0 to n among all of them.
-use Rattle.std.proofs.Common.{◌≡◌, ℕ, suc, ◌+◌, ◌<◌, ◌≤◌, eqb, ◌&&◌, List, [], ◌∷◌, length, refl, inl, inr, arith, eq-eqb}
-use Rattle.std.proofs.lemmas.Bool.{cases_Bool, cond-true, cond-false, and_from}
-use Rattle.serializability.specs.Pairs.{pair_place}
-use Rattle.serializability.specs.Plain.{nothing_known, plain_pairs}
-use Rattle.serializability.proofs.Made.{HasPair, pair_free}
+use Rattle.order_cnf.proofs.Prelude.{◌≡◌, ℕ, suc, ◌+◌, ◌<◌, ◌≤◌, eqb, ◌&&◌, List, [], ◌∷◌, length, refl, inl, inr, arith, eq-eqb, cases_Bool, cond-true, cond-false, and_from, pair_place, nothing_known, plain_pairs, HasPair, pair_free}
 
 -- ---- a pair that is there has its place among them
 pub place_within : (pairs : List (ℕ × ℕ)) (i j : ℕ) → HasPair i j pairs → pair_place pairs i j < length pairs

@@ -1,18 +1,8 @@
 -- Units, bipaths and sides, one at a time.
-use Rattle.std.proofs.Common.{◌≡◌, refl, sym, ap, ◌∙◌, ℕ, zero, suc, ◌+◌, ◌-◌, ◌<◌, Bool, true, false, cond, Option, None, Some, List, [], ◌∷◌, ◌++◌, length, take, drop, arith}
-use Rattle.std.specs.Prelude.{map, is_some, MatchOption}
-use Rattle.std.proofs.lemmas.Bool.{false≢true}
+use Rattle.order_cnf.proofs.Prelude.{◌≡◌, refl, sym, ap, ◌∙◌, ℕ, zero, suc, ◌+◌, ◌-◌, ◌<◌, Bool, true, false, cond, Option, None, Some, List, [], ◌∷◌, ◌++◌, length, take, drop, arith, map, is_some, MatchOption, false≢true, map-append}
+use Rattle.order_cnf.proofs.Prelude.{append_assoc, nil_from_length, Literal, Edge, Choice, Known, edge_literal, side_clauses, Clause, literals, Relation, known_in, pairs_in, given, bipaths_of, units_of, sides_after, sides_left, turned}
+use Rattle.order_cnf.proofs.Prelude.{rank_of, rest_of, of_three, up_to, last_variable, IsStep, clauses_in}
 use Rattle.std.specs.Iterator.{MakesProgress, at_most}
-use Rattle.std.proofs.lemmas.List.{map-append, append_assoc, nil_from_length}
-use Rattle.serializability.specs.declared.literal.Literal.{Literal}
-use Rattle.serializability.specs.Polygraph.{Edge, Choice}
-use Rattle.serializability.specs.Pairs.{Known, edge_literal}
-use Rattle.order_laws.specs.Reduced.{side_clauses}
-use Rattle.order_cnf.specs.declared.clause.Clause.{Clause}
-use Rattle.order_cnf.specs.Clauses.{literals}
-use Rattle.order_cnf.specs.Tables.{Relation, known_in, pairs_in, given}
-use Rattle.order_cnf.specs.Streams.{bipaths_of, units_of, sides_after, sides_left, turned, rank_of, rest_of, of_three, up_to, last_variable, IsStep}
-use Rattle.order_cnf.specs.Layouts.{clauses_in}
 
 pub bipath_is : (r : Relation) (c : Choice) (a b : Literal) → a ∷ [] ≡ map (λ (e : Edge). edge_literal (pairs_in r) e.0 e.1) c.one → b ∷ [] ≡ map (λ (e : Edge). edge_literal (pairs_in r) e.0 e.1) c.two
     → (a ∷ b ∷ []) ∷ [] ≡ bipaths_of r (c ∷ [])

@@ -1,15 +1,6 @@
 -- The clauses that an assignment has passed.
-use Rattle.std.proofs.Common.{◌≡◌, refl, sym, ap, ◌∙◌, subst, ℕ, ◌+◌, ◌-◌, Bool, true, false, List, [], ◌∷◌, ◌++◌, length, take, get_or, arith}
-use Rattle.std.specs.List.{AllByRecursion}
-use Rattle.std.proofs.lemmas.Bool.{false≢true}
-use Rattle.std.proofs.lemmas.List.{append_assoc, length-append}
-use Rattle.std.proofs.Math.Seq.{take-append_seam}
-use Rattle.serializability.specs.declared.literal.Literal.{Literal}
-use Rattle.serializability.specs.Formula.{clause_true}
-use Rattle.serializability.proofs.Places.{each_from_append, each_of_append}
-use Rattle.serializability.proofs.PlainLaws.{True}
-use Rattle.order_cnf.specs.Clauses.{IsWithin}
-use Rattle.order_cnf.specs.Data.{IsFirstFalse}
+use Rattle.order_cnf.proofs.Prelude.{◌≡◌, refl, sym, ap, ◌∙◌, subst, ℕ, ◌+◌, ◌-◌, Bool, true, false, List, [], ◌∷◌, ◌++◌, length, take, get_or, arith, AllByRecursion, false≢true, append_assoc, length-append, take-append_seam, Literal}
+use Rattle.order_cnf.proofs.Prelude.{clause_true, each_from_append, each_of_append, True, IsWithin, IsFirstFalse}
 use Rattle.order_cnf.proofs.Wholes.{later_range}
 
 pub record IsPassed (values : List Bool) (all rest : List (List Literal)) (n : ℕ) : Type 0 where

@@ -1,26 +1,10 @@
 -- The plain formula of a clean log is a formula: its literals are in range, its clauses short, and what satisfies it an order.
-use Rattle.std.proofs.Common.{◌≡◌, inl, inr, refl, ap, ◌∙◌, ℕ, ◌+◌, ◌<◌, ◌≤◌, List, [], ◌∷◌, ◌++◌, length, sym, subst, arith}
-use Rattle.std.specs.List.{AllByRecursion}
-use Rattle.std.specs.Prelude.{map}
+use Rattle.order_cnf.proofs.Prelude.{◌≡◌, inl, inr, refl, ap, ◌∙◌, ℕ, ◌+◌, ◌<◌, ◌≤◌, List, [], ◌∷◌, ◌++◌, length, sym, subst, arith, AllByRecursion, map, cases_order, lt-ltb, le-ltb, length-map, Literal, Log, Edge, Choice, Polygraph, arcs}
+use Rattle.order_cnf.proofs.Prelude.{bipaths, bipath_polygraph, edge_literal, triples_of, triple_clauses, order_clauses, nothing_known, plain_nodes, plain_pairs, literals_of, plain, plain_of, IsInRange, HasShortClauses, IsFormula}
+use Rattle.order_cnf.proofs.Prelude.{each_from_append, each_from_map, each_from_flat_map, each_triple_from, plain_is_order, IsWithin, Joins, IsSingle, IsBipath, HasPlain, size_fault, plain_fault}
 use Rattle.std.specs.Option.{option_or}
-use Rattle.std.proofs.lemmas.Bool.{cases_order, lt-ltb, le-ltb}
-use Rattle.std.proofs.lemmas.List.{length-map}
-use Rattle.serializability.specs.declared.literal.Literal.{Literal}
-use Rattle.serializability.specs.Log.{Log}
 use Rattle.serializability.specs.Reads.{IsClean}
-use Rattle.serializability.specs.Polygraph.{Edge, Choice, Polygraph, arcs, bipaths, bipath_polygraph}
-use Rattle.serializability.specs.Pairs.{edge_literal, triples_of, triple_clauses, order_clauses}
-use Rattle.serializability.specs.Plain.{nothing_known, plain_nodes, plain_pairs, literals_of, plain, plain_of}
-use Rattle.serializability.specs.Formula.{IsInRange, HasShortClauses}
-use Rattle.serializability.specs.Decoded.{IsFormula}
-use Rattle.serializability.proofs.Places.{each_from_append, each_from_map, each_from_flat_map}
 use Rattle.serializability.proofs.Serial.{each_from_arcs, each_from_bipaths, arc_apart, rival_is, source_within}
-use Rattle.serializability.proofs.Made.{each_triple_from}
-use Rattle.serializability.proofs.PlainLaws.{plain_is_order}
-use Rattle.order_cnf.specs.Clauses.{IsWithin}
-use Rattle.polygraph.specs.Polygraphs.{Joins}
-use Rattle.order_cnf.specs.Bipaths.{IsSingle, IsBipath, HasPlain}
-use Rattle.order_cnf.specs.Limits.{size_fault, plain_fault}
 use Rattle.order_cnf.proofs.Faults.{few_choices}
 use Rattle.order_cnf.proofs.PairPlaces.{pair_within}
 

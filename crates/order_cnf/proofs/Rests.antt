@@ -1,28 +1,14 @@
 -- What is known of a polygraph that is left open, by its rows.
-use Rattle.std.proofs.Common.{◌≡◌, sym, ap, ◌∙◌, subst, ℕ, ◌*◌, ◌<◌, ◌≤◌, true, List, [], ◌∷◌, ◌++◌, length, arith, ◌+◌}
-use Rattle.std.specs.List.{AllByRecursion}
-use Rattle.serializability.specs.Polygraph.{Edge, Choice, Polygraph}
-use Rattle.serializability.specs.Pairs.{Known, free_pairs}
-use Rattle.serializability.proofs.Places.{each_from_append}
-use Rattle.serializability.specs.declared.literal.Literal.{Literal}
-use Rattle.reach_laws.specs.Reach.{Graph}
+use Rattle.order_cnf.proofs.Prelude.{◌≡◌, sym, ap, ◌∙◌, subst, ℕ, ◌*◌, ◌<◌, ◌≤◌, true, List, [], ◌∷◌, ◌++◌, length, arith, ◌+◌, AllByRecursion, Edge, Choice, Polygraph, Known, free_pairs, each_from_append, Literal, Graph, edge_in}
+use Rattle.order_cnf.proofs.Prelude.{has_contained, Joins, JoinsBoth, IsReach, order_nodes, reduced, is_listed, Relation, known_in, pairs_in, IsStrict, IsRest, IsProperRest, IsUnturned, clauses_in, Shape, cnf_with}
 use Rattle.reach_laws.proofs.Walks.{each_contained, each_from_contained}
 use Rattle.pruning_laws.specs.declared.side.Side.{Side}
 use Rattle.pruning_laws.specs.declared.side.Side.TheVariants.{One, Two}
 use Rattle.pruning_laws.specs.Forced.{IsRefuted, edges_of}
-use Rattle.known_graph.proofs.Tested.{edge_in, has_contained}
-use Rattle.polygraph.specs.Polygraphs.{Joins, JoinsBoth}
 use Rattle.prune_ledger.specs.Pruned.{Remainder}
-use Rattle.order_laws.specs.Reduced.{IsReach, order_nodes, reduced}
 use Rattle.order_laws.specs.Proper.{IsProper}
 use Rattle.order_laws.proofs.Reached.{reach_known, not_back, initial_known, same_pairs}
-use Rattle.order_cnf.specs.Data.{is_listed}
-use Rattle.order_cnf.specs.Tables.{Relation, known_in, pairs_in, IsStrict}
-use Rattle.order_cnf.specs.Left.{IsRest, IsProperRest}
-use Rattle.order_cnf.specs.Streams.{IsUnturned}
 use Rattle.order_cnf.proofs.Wholes.{edges_in, counts_in, reduced_is}
-use Rattle.order_cnf.specs.Layouts.{clauses_in}
-use Rattle.order_cnf.specs.Shapes.{Shape, cnf_with}
 
 pub is_reach : (p : Polygraph) (rows : Graph) → IsRest p rows → IsReach p.known (is_listed rows.edges)
 is_reach p rows k = record { each = λ u v. (λ t. (k.rows.reach u v).0 (edge_in rows.edges (u, v) t), λ r. has_contained rows.edges (u, v) ((k.rows.reach u v).1 r)) }

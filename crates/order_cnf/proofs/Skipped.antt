@@ -1,15 +1,6 @@
 -- Triples without a clause that a walk leaves out.
-use Rattle.std.proofs.Common.{◌≡◌, ◌≢◌, refl, sym, ap, ◌∙◌, inl, inr, ℕ, zero, suc, ◌+◌, ◌-◌, ◌*◌, ◌/◌, ◌^◌, ◌<◌, ◌≤◌, Bool, true, false, ◌||◌, List, [], ◌∷◌, ◌++◌, length, arith}
-use Rattle.std.specs.Prelude.{nat_le, bit_or}
-use Rattle.std.specs.Int.{w64, trailing_zeros}
-use Rattle.std.proofs.lemmas.Bool.{cases_lt, or_cases, or_parts, or_from, and_parts, leb-true}
-use Rattle.serializability.specs.declared.literal.Literal.{Literal}
-use Rattle.known_graph.specs.Bits.{row_len}
-use Rattle.known_graph.proofs.Edges.{nodes_within_row}
-use Rattle.order_cnf.specs.Cursors.{cursor_left}
-use Rattle.order_cnf.specs.Cycles.{is_open_cycle, is_open_from, IsWord}
-use Rattle.order_cnf.specs.Streams.{clauses_at, of_one, of_two, of_three, up_to}
-use Rattle.order_cnf.specs.Tables.{Relation}
+use Rattle.order_cnf.proofs.Prelude.{◌≡◌, ◌≢◌, refl, sym, ap, ◌∙◌, inl, inr, ℕ, zero, suc, ◌+◌, ◌-◌, ◌*◌, ◌/◌, ◌^◌, ◌<◌, ◌≤◌, Bool, true, false, ◌||◌, List, [], ◌∷◌, ◌++◌, length, arith, nat_le, bit_or, w64, trailing_zeros, cases_lt}
+use Rattle.order_cnf.proofs.Prelude.{or_cases, or_parts, or_from, and_parts, leb-true, Literal, row_len, nodes_within_row, cursor_left, is_open_cycle, is_open_from, IsWord, clauses_at, of_one, of_two, of_three, up_to, Relation}
 use Rattle.order_cnf.proofs.Walks.{up_to_first, up_to_last, first_of_one, none_of_one}
 use Rattle.order_cnf.proofs.WordBits.{or_word, first_bit, none_of_word}
 use Rattle.order_cnf.proofs.Counted.{one}

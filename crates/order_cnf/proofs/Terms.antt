@@ -1,18 +1,9 @@
 -- Clauses by what a formula says of their edges.
-use Rattle.std.proofs.Common.{◌≡◌, ◌≢◌, inl, inr, refl, sym, ap, ◌∙◌, subst, ℕ, suc, ◌+◌, ◌<◌, ◌≤◌, ◌&&◌, ◌||◌, Bool, true, false, cond, not, ltb, List, [], ◌∷◌, ◌++◌, length, Option, arith}
-use Rattle.std.specs.Prelude.{map}
-use Rattle.std.specs.List.{filter, list_any}
-use Rattle.std.proofs.lemmas.Bool.{cases_order, false≢true, or_parts, lt-ltb, le-ltb}
-use Rattle.serializability.specs.declared.literal.Literal.{Literal}
-use Rattle.serializability.specs.Polygraph.{Edge}
-use Rattle.serializability.specs.Pairs.{edge_literal, edge_clause, pair_place}
-use Rattle.serializability.proofs.Made.{pair_free}
-use Rattle.order_cnf.specs.declared.clause.Clause.{Clause}
+use Rattle.order_cnf.proofs.Prelude.{◌≡◌, ◌≢◌, inl, inr, refl, sym, ap, ◌∙◌, subst, ℕ, suc, ◌+◌, ◌<◌, ◌≤◌, ◌&&◌, ◌||◌, Bool, true, false, cond, not, ltb, List, [], ◌∷◌, ◌++◌, length, Option, arith, map, filter, list_any, cases_order}
+use Rattle.order_cnf.proofs.Prelude.{false≢true, or_parts, lt-ltb, le-ltb, Literal, Edge, edge_literal, edge_clause, pair_place, pair_free, Clause, IsWithin, Relation, known_in, pairs_in, term_of, is_true, literals_in, clause_of, given}
+use Rattle.order_cnf.proofs.Prelude.{clauses_at}
 use Rattle.order_cnf.specs.declared.term.Term.{Term}
 use Rattle.order_cnf.specs.declared.term.Term.TheVariants as term
-use Rattle.order_cnf.specs.Clauses.{IsWithin}
-use Rattle.order_cnf.specs.Tables.{Relation, known_in, pairs_in, term_of, is_true, literals_in, clause_of, given}
-use Rattle.order_cnf.specs.Streams.{clauses_at}
 use Rattle.order_cnf.proofs.PairPlaces.{place_within}
 
 -- ---- a term by two facts

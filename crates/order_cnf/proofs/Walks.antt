@@ -1,16 +1,7 @@
 -- What is left of a walk over all triples of nodes.
-use Rattle.std.proofs.Common.{◌≡◌, inl, inr, refl, sym, ap, ◌∙◌, ℕ, suc, ◌+◌, ◌-◌, ◌<◌, ◌≤◌, Option, None, Some, false, List, [], ◌∷◌, ◌++◌, length, arith}
-use Rattle.std.specs.Prelude.{map, is_some}
-use Rattle.std.specs.List.{flat_map, range_with_len}
-use Rattle.std.proofs.lemmas.Bool.{cases_order, false≢true}
-use Rattle.std.proofs.lemmas.List.{map-append, append_assoc, length-append}
+use Rattle.order_cnf.proofs.Prelude.{◌≡◌, inl, inr, refl, sym, ap, ◌∙◌, ℕ, suc, ◌+◌, ◌-◌, ◌<◌, ◌≤◌, Option, None, Some, false, List, [], ◌∷◌, ◌++◌, length, arith, map, is_some, flat_map, range_with_len, cases_order, false≢true, map-append}
+use Rattle.order_cnf.proofs.Prelude.{append_assoc, length-append, Literal, pairs_of, triples_of, cursor_left, Clause, Relation, given, of_three, of_two, of_one, up_to, clauses_at}
 use Rattle.std.proofs.lemmas.List.Concat.{flat_map-append}
-use Rattle.serializability.specs.declared.literal.Literal.{Literal}
-use Rattle.serializability.specs.Pairs.{pairs_of, triples_of}
-use Rattle.order_cnf.specs.Cursors.{cursor_left}
-use Rattle.order_cnf.specs.declared.clause.Clause.{Clause}
-use Rattle.order_cnf.specs.Tables.{Relation, given}
-use Rattle.order_cnf.specs.Streams.{of_three, of_two, of_one, up_to, clauses_at}
 
 pub up_to_first : (k end : ℕ) → k < end → up_to k end ≡ k ∷ up_to (k + 1) end
 up_to_first k end h = let e : end - k ≡ suc (end - (k + 1)) = omega arith in ap (range_with_len k) e

@@ -1,25 +1,9 @@
 -- The clauses of whole formulas are those of their definitions.
-use Rattle.std.proofs.Common.{◌≡◌, refl, sym, ap, ◌∙◌, subst, ℕ, suc, ◌+◌, ◌-◌, true, false, List, [], ◌∷◌, ◌++◌, length, drop, arith, append-nil}
-use Rattle.std.specs.Prelude.{map, Some, is_some}
-use Rattle.std.specs.List.{flat_map, range_with_len, AllByRecursion}
-use Rattle.std.proofs.lemmas.Bool.{false≢true}
-use Rattle.std.proofs.lemmas.List.{append_assoc, length-append, length-map}
-use Rattle.std.proofs.Math.Seq.{take-append_seam, drop-append_seam}
-use Rattle.serializability.specs.declared.literal.Literal.{Literal}
-use Rattle.serializability.specs.Polygraph.{Edge, Choice, Polygraph}
-use Rattle.serializability.specs.Formula.{Cnf}
-use Rattle.serializability.specs.Decoded.{IsFormula}
-use Rattle.serializability.specs.Pairs.{free_pairs, edge_literal, triples_of, triple_clauses, order_clauses}
-use Rattle.serializability.specs.Plain.{nothing_known, plain_nodes, plain_pairs, literals_of, plain_of, contradiction}
-use Rattle.serializability.proofs.PlainLaws.{contradicted}
-use Rattle.order_laws.specs.Reduced.{reduced, choice_clauses, side_clauses, order_nodes}
-use Rattle.order_cnf.specs.Bipaths.{IsBipath}
-use Rattle.order_cnf.specs.Tables.{Relation, known_in, pairs_in}
-use Rattle.order_cnf.specs.Streams.{units_of, bipaths_of, of_three, sides_after, last_variable, up_to, turned, IsUnturned, IsFreeBipath}
-use Rattle.order_cnf.specs.Layouts.{clauses_in}
+use Rattle.order_cnf.proofs.Prelude.{◌≡◌, refl, sym, ap, ◌∙◌, subst, ℕ, suc, ◌+◌, ◌-◌, true, false, List, [], ◌∷◌, ◌++◌, length, drop, arith, append-nil, map, Some, is_some, flat_map, range_with_len, AllByRecursion, false≢true}
+use Rattle.order_cnf.proofs.Prelude.{append_assoc, length-append, length-map, take-append_seam, drop-append_seam, Literal, Edge, Choice, Polygraph, Cnf, IsFormula, free_pairs, edge_literal, triples_of, triple_clauses, order_clauses}
+use Rattle.order_cnf.proofs.Prelude.{nothing_known, plain_nodes, plain_pairs, literals_of, plain_of, contradiction, contradicted, reduced, choice_clauses, side_clauses, order_nodes, IsBipath, Relation, known_in, pairs_in, units_of}
+use Rattle.order_cnf.proofs.Prelude.{bipaths_of, of_three, sides_after, last_variable, up_to, turned, IsUnturned, IsFreeBipath, clauses_in, size_fault, Shape, cnf_with}
 use Rattle.order_cnf.specs.declared.fault.CnfFault.{CnfFault}
-use Rattle.order_cnf.specs.Limits.{size_fault}
-use Rattle.order_cnf.specs.Shapes.{Shape, cnf_with}
 
 none_after : (r : Relation) (l : Literal) → sides_after r l [] [] ≡ []
 unfolding sides_after

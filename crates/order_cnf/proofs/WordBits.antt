@@ -1,12 +1,7 @@
 -- Words of bits.
-use Rattle.std.proofs.Common.{◌≡◌, ◌≢◌, refl, sym, ap, ◌∙◌, ℕ, zero, suc, ◌+◌, ◌-◌, ◌*◌, ◌/◌, ◌%◌, ◌^◌, ◌<◌, ◌≤◌, min, Bool, true, false, eqb, ◌&&◌, ◌||◌, inl, inr, arith}
-use Rattle.std.specs.Prelude.{bit_and, bit_or, nat_le}
-use Rattle.std.specs.Int.{bit_at, w64, trailing_zeros}
-use Rattle.std.proofs.lemmas.Bool.{cases_lt, le-leb, lt-leb}
-use Rattle.std.proofs.lemmas.Nat.{div-add-mod', mod_below}
-use Rattle.std.proofs.lemmas.Nat.Bits.{bit_at_and, bit_at_or, bit_at-lt, bit_at-trailing_zeros, bit_at-zero, bit_at_ones, bit_at_mask_inside, bit_at_mask_below, ones_shl}
+use Rattle.order_cnf.proofs.Prelude.{◌≡◌, ◌≢◌, refl, sym, ap, ◌∙◌, ℕ, zero, suc, ◌+◌, ◌-◌, ◌*◌, ◌/◌, ◌%◌, ◌^◌, ◌<◌, ◌≤◌, min, Bool, true, false, eqb, ◌&&◌, ◌||◌, inl, inr, arith, bit_and, bit_or, nat_le, bit_at, w64, trailing_zeros}
+use Rattle.order_cnf.proofs.Prelude.{cases_lt, le-leb, lt-leb, div-add-mod', mod_below, bit_at_and, bit_at_or, bit_at-lt, bit_at-trailing_zeros, bit_at-zero, bit_at_ones, bit_at_mask_inside, bit_at_mask_below, ones_shl, IsWord}
 use Rattle.known_graph.proofs.Fresh.{either_bit}
-use Rattle.order_cnf.specs.Cycles.{IsWord}
 
 both : (x y : ℕ) → x < 2 → y < 2 → eqb (min x y) 1 ≡ (eqb x 1 && eqb y 1)
 both zero y hx hy = let e : min 0 y ≡ 0 = omega arith in ap (λ n. eqb n 1) e

@@ -1,23 +1,8 @@
 -- An order that fits gives an assignment that satisfies the reduced formula.
-use Rattle.std.proofs.Common.{◌≡◌, ◌⊎◌, ℕ, suc, ◌+◌, ◌-◌, Bool, true, false, cond, not, List, [], ◌∷◌, ◌++◌, length, get_or, refl, sym, ap, ◌∙◌, inl, inr, arith, length-append}
-use Rattle.std.specs.List.{AllByRecursion}
-use Rattle.std.specs.Prelude.{map}
-use Rattle.std.proofs.lemmas.Bool.{cases_Bool, false≢true, or_left, or_right}
+use Rattle.order_laws.proofs.Prelude.{◌≡◌, ◌⊎◌, ℕ, suc, ◌+◌, ◌-◌, Bool, true, false, cond, not, List, [], ◌∷◌, ◌++◌, length, get_or, refl, sym, ap, ◌∙◌, inl, inr, arith, length-append, AllByRecursion, map, cases_Bool, false≢true, or_left}
+use Rattle.order_laws.proofs.Prelude.{or_right, Before, Edge, Choice, Polygraph, Keeps, KeepsOne, Fits, Literal, value_of, literal_true, Satisfies, Known, free_pairs, edge_literal, order_clauses, each_from_append, length_mapped, lit}
+use Rattle.order_laws.proofs.Prelude.{in_order, made, Agrees, lit_made, order_clauses_made, True, reach_kept, tested_keeps, keeps_tested, keeps_test, Joins, JoinsBoth, side_clauses, choice_clauses, order_nodes, reduced, IsReach, IsProper}
 use Rattle.std.proofs.lemmas.List.{get_or-append-add}
-use Rattle.serializability.specs.Replay.{Before}
-use Rattle.serializability.specs.Polygraph.{Edge, Choice, Polygraph, Keeps, KeepsOne, Fits}
-use Rattle.serializability.specs.declared.literal.Literal.{Literal}
-use Rattle.serializability.specs.Formula.{value_of, literal_true, Satisfies}
-use Rattle.serializability.specs.Pairs.{Known, free_pairs, edge_literal, order_clauses}
-use Rattle.serializability.proofs.Places.{each_from_append, length_mapped}
-use Rattle.serializability.proofs.Tournament.{lit}
-use Rattle.serializability.proofs.Made.{in_order, made, Agrees, lit_made, order_clauses_made}
-use Rattle.serializability.proofs.PlainLaws.{True}
-use Rattle.reach_laws.proofs.Walks.{reach_kept}
-use Rattle.pruning_laws.proofs.Pruned.{tested_keeps, keeps_tested, keeps_test}
-use Rattle.polygraph.specs.Polygraphs.{Joins, JoinsBoth}
-use Rattle.order_laws.specs.Reduced.{side_clauses, choice_clauses, order_nodes, reduced, IsReach}
-use Rattle.order_laws.specs.Proper.{IsProper}
 use Rattle.order_laws.proofs.Reached.{InitialKnown, initial_known, past_zero}
 
 -- ---- the assignment: a choice's variable says that side one is kept

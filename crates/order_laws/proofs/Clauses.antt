@@ -1,24 +1,10 @@
 -- Literals in range, and clauses of one to three literals.
-use Rattle.std.proofs.Common.{◌≡◌, ◌≢◌, ℕ, suc, ◌+◌, ◌<◌, ◌≤◌, Bool, true, false, eqb, ltb, cond, not, ◌&&◌, List, [], ◌∷◌, ◌++◌, length, refl, sym, ◌∙◌, inl, inr, arith, eq-eqb}
-use Rattle.std.specs.Prelude.{map}
-use Rattle.std.specs.List.{filter, list_any, range_with_len, AllByRecursion}
-use Rattle.std.proofs.lemmas.Bool.{cases_order, cases_Bool, cond-true, cond-false, false≢true, and_from, or_parts, not_from_false, not-true, not-false, lt-ltb, le-ltb}
+use Rattle.order_laws.proofs.Prelude.{◌≡◌, ◌≢◌, ℕ, suc, ◌+◌, ◌<◌, ◌≤◌, Bool, true, false, eqb, ltb, cond, not, ◌&&◌, List, [], ◌∷◌, ◌++◌, length, refl, sym, ◌∙◌, inl, inr, arith, eq-eqb, map, filter, list_any, range_with_len}
+use Rattle.order_laws.proofs.Prelude.{AllByRecursion, cases_order, cases_Bool, cond-true, cond-false, false≢true, and_from, or_parts, not_from_false, not-true, not-false, lt-ltb, le-ltb, Edge, Choice, Polygraph, Literal, IsInRange}
+use Rattle.order_laws.proofs.Prelude.{HasShortClauses, Known, is_free, free_pairs, pair_place, edge_literal, edge_clause, triple_clauses, triples_of, order_clauses, IsFormula, each_from_append, each_from_flat_map, each_from_map}
+use Rattle.order_laws.proofs.Prelude.{each_from_filter, length_mapped, IsKnown, HasPair, pair_free, each_triple_from, clause_from, each_contained, each_from_contained, Side, One, Two, edges_of, IsRefuted, Joins, JoinsBoth, side_clauses}
+use Rattle.order_laws.proofs.Prelude.{choice_clauses, order_nodes, reduced, IsReach, IsProper}
 use Rattle.std.proofs.lemmas.List.Sums.{length-filter, count_by-le-length}
-use Rattle.serializability.specs.Polygraph.{Edge, Choice, Polygraph}
-use Rattle.serializability.specs.declared.literal.Literal.{Literal}
-use Rattle.serializability.specs.Formula.{IsInRange, HasShortClauses}
-use Rattle.serializability.specs.Pairs.{Known, is_free, free_pairs, pair_place, edge_literal, edge_clause, triple_clauses, triples_of, order_clauses}
-use Rattle.serializability.specs.Decoded.{IsFormula}
-use Rattle.serializability.proofs.Places.{each_from_append, each_from_flat_map, each_from_map, each_from_filter, length_mapped}
-use Rattle.serializability.proofs.Tournament.{IsKnown}
-use Rattle.serializability.proofs.Made.{HasPair, pair_free, each_triple_from, clause_from}
-use Rattle.reach_laws.proofs.Walks.{each_contained, each_from_contained}
-use Rattle.pruning_laws.specs.declared.side.Side.{Side}
-use Rattle.pruning_laws.specs.declared.side.Side.TheVariants.{One, Two}
-use Rattle.pruning_laws.specs.Forced.{edges_of, IsRefuted}
-use Rattle.polygraph.specs.Polygraphs.{Joins, JoinsBoth}
-use Rattle.order_laws.specs.Reduced.{side_clauses, choice_clauses, order_nodes, reduced, IsReach}
-use Rattle.order_laws.specs.Proper.{IsProper}
 use Rattle.order_laws.proofs.Reached.{InitialKnown, reach_known, not_back, initial_known, past_zero}
 use Rattle.order_laws.proofs.Satisfied.{formula_is_order}
 

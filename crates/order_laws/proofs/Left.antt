@@ -1,11 +1,5 @@
 -- What pruning leaves of a polygraph has a reduced formula.
-use Rattle.std.proofs.Common.{◌≡◌, ◌↔◌, ℕ, List, [], ap, ◌∙◌}
-use Rattle.std.specs.List.{Contains}
-use Rattle.serializability.specs.Polygraph.{Edge, Choice, Polygraph}
-use Rattle.serializability.specs.Pairs.{Known}
-use Rattle.serializability.specs.Formula.{Cnf}
-use Rattle.reach_laws.proofs.Walks.{each_from_contained, reach_in}
-use Rattle.order_laws.specs.Reduced.{reduced, IsReach}
+use Rattle.order_laws.proofs.Prelude.{◌≡◌, ◌↔◌, ℕ, List, [], ap, ◌∙◌, Contains, Edge, Choice, Polygraph, Known, Cnf, each_from_contained, reach_in, reduced, IsReach}
 
 -- ---- polygraphs with the same set of known edges
 pub same_reach : (edges more : List Edge) (known : Known) → ((e : Edge) → (Contains edges e ↔ Contains more e)) → IsReach edges known → IsReach more known

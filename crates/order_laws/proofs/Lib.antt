@@ -1,3 +1,4 @@
+mod Prelude
 pub mod Reached
 pub mod Satisfied
 pub mod Assigned

@@ -1,18 +1,8 @@
 -- What is known where the known edges have no cycle, and node 0 is the first.
-use Rattle.std.proofs.Common.{◌≡◌, ◌≢◌, ℕ, suc, ◌+◌, ◌<◌, ◌≤◌, Bool, true, false, not, List, [], ◌∷◌, ◌++◌, refl, sym, ap, ◌∙◌, subst, inl, inr, arith}
-use Rattle.std.specs.Prelude.{map}
-use Rattle.std.specs.List.{Contains, AllByRecursion, filter, range_with_len}
-use Rattle.std.proofs.lemmas.Bool.{cases_lt, cases_Bool, false≢true, and_left, not_from_true}
+use Rattle.order_laws.proofs.Prelude.{◌≡◌, ◌≢◌, ℕ, suc, ◌+◌, ◌<◌, ◌≤◌, Bool, true, false, not, List, [], ◌∷◌, ◌++◌, refl, sym, ap, ◌∙◌, subst, inl, inr, arith, map, Contains, AllByRecursion, filter, range_with_len, cases_lt, cases_Bool}
+use Rattle.order_laws.proofs.Prelude.{false≢true, and_left, not_from_true, Edge, Polygraph, Known, pairs_of, is_free, free_pairs, each_from_map, each_from_range, IsKnown, reach_joined, IsRefuted, order_nodes, IsReach, IsProper}
 use Rattle.std.proofs.lemmas.List.Elements.{filter-append}
-use Rattle.serializability.specs.Polygraph.{Edge, Polygraph}
-use Rattle.serializability.specs.Pairs.{Known, pairs_of, is_free, free_pairs}
-use Rattle.serializability.proofs.Places.{each_from_map, each_from_range}
-use Rattle.serializability.proofs.Tournament.{IsKnown}
 use Rattle.reach_laws.specs.Reach.{IsCyclic}
-use Rattle.reach_laws.proofs.Walks.{reach_joined}
-use Rattle.pruning_laws.specs.Forced.{IsRefuted}
-use Rattle.order_laws.specs.Reduced.{order_nodes, IsReach}
-use Rattle.order_laws.specs.Proper.{IsProper}
 
 pub reach_known : (edges : List Edge) (known : Known) → IsReach edges known → (IsCyclic edges → ⊥) → IsKnown known
 reach_known edges known is acyclic = record {

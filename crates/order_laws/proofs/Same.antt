@@ -1,14 +1,8 @@
 -- Two forced sets of a polygraph hold the same sides, and two formulas of it are the same.
-use Rattle.std.proofs.Common.{◌≡◌, ℕ, ◌+◌, true, cond, ◌||◌, List, [], ◌∷◌, ◌++◌, refl, ap, ◌∙◌, subst}
+use Rattle.order_laws.proofs.Prelude.{◌≡◌, ℕ, ◌+◌, true, cond, ◌||◌, List, [], ◌∷◌, ◌++◌, refl, ap, ◌∙◌, subst, Edge, Choice, Polygraph, Known, Side, One, Two, Sides, EachNumbered, kept_from, edges_with, IsForced, open_from, pruned}
+use Rattle.order_laws.proofs.Prelude.{numbered_and, reduced, IsReach}
 use Rattle.std.proofs.Math.Path.{fun_ext}
 use Rattle.list_lemmas.proofs.Bools.{same_bool}
-use Rattle.serializability.specs.Polygraph.{Edge, Choice, Polygraph}
-use Rattle.serializability.specs.Pairs.{Known}
-use Rattle.pruning_laws.specs.declared.side.Side.{Side}
-use Rattle.pruning_laws.specs.declared.side.Side.TheVariants.{One, Two}
-use Rattle.pruning_laws.specs.Forced.{Sides, EachNumbered, kept_from, edges_with, IsForced, open_from, pruned}
-use Rattle.pruning_laws.proofs.Pruned.{numbered_and}
-use Rattle.order_laws.specs.Reduced.{reduced, IsReach}
 
 -- ---- one forced set
 abbrev pub Agree : Sides → Sides → ℕ → Choice → Type 0

@@ -1,25 +1,10 @@
 -- A satisfying assignment of a reduced formula stands for an order that fits.
-use Rattle.std.proofs.Common.{◌≡◌, ◌⊎◌, ℕ, suc, ◌+◌, Bool, true, false, cond, not, List, [], ◌∷◌, ◌++◌, length, refl, sym, ap, ◌∙◌, subst, inl, inr, arith}
-use Rattle.std.specs.List.{AllByRecursion}
-use Rattle.std.proofs.lemmas.Bool.{cases_Bool, false≢true, or_cases}
-use Rattle.serializability.specs.Replay.{Before}
-use Rattle.serializability.specs.Polygraph.{Edge, Choice, Polygraph, Keeps, KeepsOne, Fits}
-use Rattle.serializability.specs.declared.literal.Literal.{Literal}
-use Rattle.serializability.specs.Formula.{value_of, literal_true, Satisfies}
-use Rattle.serializability.specs.Pairs.{Known, free_pairs, edge_literal, order_clauses}
-use Rattle.serializability.specs.Decoded.{is_before, before, IsOrder, IsDecoded}
-use Rattle.serializability.proofs.Places.{each_of_append}
+use Rattle.order_laws.proofs.Prelude.{◌≡◌, ◌⊎◌, ℕ, suc, ◌+◌, Bool, true, false, cond, not, List, [], ◌∷◌, ◌++◌, length, refl, sym, ap, ◌∙◌, subst, inl, inr, arith, AllByRecursion, cases_Bool, false≢true, or_cases, Before, Edge, Choice}
+use Rattle.order_laws.proofs.Prelude.{Polygraph, Keeps, KeepsOne, Fits, Literal, value_of, literal_true, Satisfies, Known, free_pairs, edge_literal, order_clauses, is_before, before, IsOrder, IsDecoded, each_of_append, lit, known_other}
+use Rattle.order_laws.proofs.Prelude.{before_known, before_lit, turns_kept, is_order, unit_true, True, each_contained, each_from_contained, Side, One, Two, edges_of, IsRefuted, Joins, JoinsBoth, side_clauses, choice_clauses, order_nodes}
+use Rattle.order_laws.proofs.Prelude.{reduced, IsReach, IsProper}
 use Rattle.serializability.proofs.Ranks.{IsRanked, ranked_once, ranked_before}
 use Rattle.serializability.proofs.Lines.{decoded}
-use Rattle.serializability.proofs.Tournament.{lit, known_other, before_known, before_lit, turns_kept, is_order}
-use Rattle.serializability.proofs.PlainLaws.{unit_true, True}
-use Rattle.reach_laws.proofs.Walks.{each_contained, each_from_contained}
-use Rattle.pruning_laws.specs.declared.side.Side.{Side}
-use Rattle.pruning_laws.specs.declared.side.Side.TheVariants.{One, Two}
-use Rattle.pruning_laws.specs.Forced.{edges_of, IsRefuted}
-use Rattle.polygraph.specs.Polygraphs.{Joins, JoinsBoth}
-use Rattle.order_laws.specs.Reduced.{side_clauses, choice_clauses, order_nodes, reduced, IsReach}
-use Rattle.order_laws.specs.Proper.{IsProper}
 use Rattle.order_laws.proofs.Reached.{reach_known, edge_known, not_back, initial_known, same_pairs}
 
 abbrev pairs_of_nodes : Polygraph → Known → List (ℕ × ℕ)

@@ -1,18 +1,10 @@
 -- Rows that are added, one transaction and one session after the other.
-use Rattle.std.proofs.Common.{◌≡◌, ℕ, zero, suc, ◌+◌, ◌≤◌, Bool, true, false, cond, List, [], ◌∷◌, ◌++◌, length, drop, map, refl, sym, ap, ◌∙◌, Some, inl, inr, arith, append_assoc, length-append, Vec}
-use Rattle.std.specs.Prelude.{slice_get, slice_index_or}
+use Rattle.part_places.proofs.Prelude.{◌≡◌, ℕ, zero, suc, ◌+◌, ◌≤◌, Bool, true, false, cond, List, [], ◌∷◌, ◌++◌, length, drop, map, refl, sym, ap, ◌∙◌, Some, inl, inr, arith, append_assoc, length-append, Vec, slice_get, slice_index_or}
+use Rattle.part_places.proofs.Prelude.{cases_Bool, append-nil, drop_all, get_drop, ClientSession, Transaction, view, view_txn, txn_lines, session_lines, Session, flagged, thin, thin_txn, flag_of, flags_view, with_txns, picked, TxnRow}
+use Rattle.part_places.proofs.Prelude.{Table, part_row, flagged_rows, with_rows, part_table, first_txns, AddsRow, AddsRows}
 use Rattle.std.specs.declared.alloc.Global.{Global}
-use Rattle.std.proofs.lemmas.Bool.{cases_Bool}
-use Rattle.std.proofs.lemmas.List.{append-nil, drop_all}
-use Rattle.list_lemmas.proofs.Elements.{get_drop}
-use Rattle.session_log.specs.Text.{ClientSession, Transaction, view, view_txn, txn_lines, session_lines}
-use Rattle.session_log.specs.declared.session.Session.{Session}
 use Rattle.session_log.specs.declared.session.Txn.{Txn}
-use Rattle.part_laws.specs.Chosen.{flagged, thin, thin_txn}
-use Rattle.log_parts.specs.Picked.{flag_of, flags_view, with_txns, picked}
 use Rattle.log_parts.proofs.Steps.{txn_stays, txn_left, session_stays, none_from, flag_at}
-use Rattle.log_lines.specs.Rows.{TxnRow, Table}
-use Rattle.part_places.specs.PartRows.{part_row, flagged_rows, with_rows, part_table, first_txns, AddsRow, AddsRows}
 use Rattle.part_places.proofs.Matched.{drop_next}
 
 -- ---- transactions

@@ -1,3 +1,4 @@
+mod Prelude
 pub mod Matched
 pub mod Added
 pub mod Whole

@@ -1,13 +1,7 @@
 -- The operations that stay, one after the other.
-use Rattle.std.proofs.Common.{◌≡◌, ℕ, zero, suc, ◌+◌, Bool, true, false, cond, eqb, eqb-true, eq-eqb, List, [], ◌∷◌, ◌++◌, length, drop, refl, sym, ap, ◌∙◌, Some, inl, inr, arith, append_assoc, length-append}
-use Rattle.std.specs.Prelude.{slice_get}
-use Rattle.std.specs.List.{filter}
-use Rattle.std.proofs.lemmas.Bool.{false≢true, cases_Bool}
-use Rattle.list_lemmas.proofs.Elements.{get_drop}
-use Rattle.session_log.specs.declared.session.Op.{Op}
+use Rattle.part_places.proofs.Prelude.{◌≡◌, ℕ, zero, suc, ◌+◌, Bool, true, false, cond, eqb, eqb-true, eq-eqb, List, [], ◌∷◌, ◌++◌, length, drop, refl, sym, ap, ◌∙◌, Some, inl, inr, arith, append_assoc, length-append, slice_get, filter}
+use Rattle.part_places.proofs.Prelude.{false≢true, cases_Bool, get_drop, Op, stays, reads_next, is_kept, staying}
 use Rattle.session_log.specs.declared.session.Op.TheVariants.{Read, Write}
-use Rattle.part_laws.specs.Chosen.{stays}
-use Rattle.part_places.specs.PartRows.{reads_next, is_kept, staying}
 
 pub drop_next : {X : Type 0} (xs : List X) (n : ℕ) (x : X) (ys : List X) → drop n xs ≡ x ∷ ys → drop (n + 1) xs ≡ ys
 drop_next xs zero x ys e = ap (drop 1) e

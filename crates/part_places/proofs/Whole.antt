@@ -1,20 +1,11 @@
 -- The rows of a part, and the lines of the whole log's text.
-use Rattle.std.proofs.Common.{◌≡◌, ℕ, zero, suc, ◌+◌, Bool, true, false, cond, List, [], ◌∷◌, ◌++◌, length, map, get_or, refl, sym, ap, ◌∙◌, subst, Some, inl, inr, arith, length-append}
-use Rattle.std.specs.Prelude.{slice_get}
-use Rattle.std.specs.List.{filter, flat_map, AllByRecursion}
-use Rattle.std.proofs.lemmas.Bool.{cases_Bool}
-use Rattle.session_log.specs.Text.{ClientSession, Transaction, txn_lines, session_lines, log_text, op_line, end_line, IsLegal}
-use Rattle.session_log.specs.Version.{first_line, version_of}
+use Rattle.part_places.proofs.Prelude.{◌≡◌, ℕ, zero, suc, ◌+◌, Bool, true, false, cond, List, [], ◌∷◌, ◌++◌, length, map, get_or, refl, sym, ap, ◌∙◌, subst, Some, inl, inr, arith, length-append, slice_get, filter, flat_map, AllByRecursion}
+use Rattle.part_places.proofs.Prelude.{cases_Bool, ClientSession, Transaction, txn_lines, session_lines, log_text, op_line, end_line, IsLegal, first_line, version_of, Op, log_lines, stays, thin, thin_txn, flagged, flag_of, picked}
+use Rattle.part_places.proofs.Prelude.{with_txns, TxnRow, Table, Fits, op_counts, line_at, staying, part_row, flagged_rows, with_rows, part_table, IsInText}
 use Rattle.session_log.specs.declared.line.Line.TheVariants.{Begin}
-use Rattle.session_log.specs.declared.session.Op.{Op}
-use Rattle.log_definitions.specs.WellFormed.{log_lines}
-use Rattle.part_laws.specs.Chosen.{stays, thin, thin_txn, flagged}
-use Rattle.log_parts.specs.Picked.{flag_of, picked, with_txns}
-use Rattle.log_lines.specs.Rows.{TxnRow, Table, Fits, op_counts, line_at}
 use Rattle.log_lines.specs.Places.{BeginsAt, IsLineOf, StandsAt}
 use Rattle.log_lines.proofs.Own.{begin_line, operation_line, ending_line}
 use Rattle.log_lines.proofs.Nodes.{counts, counts_in}
-use Rattle.part_places.specs.PartRows.{staying, part_row, flagged_rows, with_rows, part_table, IsInText}
 
 -- ---- a row for each transaction, and a line for each operation
 

@@ -1,13 +1,7 @@
 -- Lines without names that snapshot isolation allows.
-use Rattle.std.proofs.Common.{◌≡◌, ℕ, zero, suc, ◌+◌, ◌<◌, false, List, [], ◌∷◌, ◌++◌, length, drop, codes, refl, ap, ◌∙◌, subst, arith, Option, None, Some, IfSome, String}
-use Rattle.std.specs.Bool.{nat_eq}
-use Rattle.std.specs.List.{starts_with}
+use Rattle.part_reasons.proofs.Prelude.{◌≡◌, ℕ, zero, suc, ◌+◌, ◌<◌, false, List, [], ◌∷◌, ◌++◌, length, drop, codes, refl, ap, ◌∙◌, subst, arith, Option, None, Some, IfSome, String, nat_eq, starts_with, Global, append-nil, lines}
+use Rattle.part_reasons.proofs.Prelude.{IsKnownAs, is_allowed, forbidden_in, IsForbiddenName}
 use Rattle.std.specs.String.{string_bytes}
-use Rattle.std.specs.declared.alloc.Global.{Global}
-use Rattle.std.proofs.lemmas.List.{append-nil}
-use Rattle.session_log.specs.Lines.{lines}
-use Rattle.part_reasons.specs.Why.{IsKnownAs}
-use Rattle.part_reasons.specs.Points.{is_allowed, forbidden_in, IsForbiddenName}
 
 pub allowed_behind : (line : List ℕ) (i : ℕ) → i < length line → starts_with nat_eq (drop i line) (codes "(G2-") ≡ false → is_allowed (drop (i + 1) line) ≡ is_allowed (drop i line)
 allowed_behind [] i lt e = absurd (omega (arith, lt))

@@ -1,10 +1,7 @@
 -- Whether a decision is an order, and what follows.
-use Rattle.std.proofs.Common.{ℕ, List, refl, inr}
-use Rattle.session_log.specs.Text.{ClientSession}
-use Rattle.deciding.specs.Decides.{Decides}
+use Rattle.part_reasons.proofs.Prelude.{ℕ, List, refl, inr, ClientSession, Decides, is_order, IsFound}
 use Rattle.deciding.specs.declared.decision.Decision.{Decision}
 use Rattle.deciding.specs.declared.decision.Decision.TheVariants.{Serial, Anomalous, Cyclic, Dead, Refuted, Spent}
-use Rattle.part_reasons.specs.Apart.{is_order, IsFound}
 
 pub found : (budget : ℕ) (ss : List ClientSession) (d : Decision) → Decides budget ss d → IsFound budget ss (is_order d)
 found budget ss (Serial order) h = (order, h.0)

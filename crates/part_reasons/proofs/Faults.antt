@@ -1,6 +1,5 @@
 -- A fault that is not want of memory.
-use Rattle.std.proofs.Common.{◌≡◌, refl}
-use Rattle.std.specs.Prelude.{◌≢◌, Option, Some}
+use Rattle.part_reasons.proofs.Prelude.{◌≡◌, refl, ◌≢◌, Option, Some}
 use Rattle.session_log.specs.Faults.{IsFault}
 use Rattle.session_log.specs.declared.fault.LogFault.{LogFault}
 use Rattle.session_log.specs.declared.fault.LogFault.TheVariants as fault

@@ -1,3 +1,4 @@
+mod Prelude
 pub mod Allowed
 mod Faults
 mod Singles

@@ -1,10 +1,6 @@
 -- Transactions of sessions, and each in a session of its own.
-use Rattle.std.proofs.Common.{◌≡◌, ℕ, ◌+◌, List, [], ◌∷◌, ◌++◌, length, ap, sym, ◌∙◌, ◌<◌, ◌≤◌, ◌^◌, add-zero, arith}
-use Rattle.std.specs.List.{AllByRecursion}
-use Rattle.session_log.specs.Text.{ClientSession, Transaction, IsLegal, IsLegalTxn}
-use Rattle.log_definitions.specs.Unknown.{txns_in}
+use Rattle.part_reasons.proofs.Prelude.{◌≡◌, ℕ, ◌+◌, List, [], ◌∷◌, ◌++◌, length, ap, sym, ◌∙◌, ◌<◌, ◌≤◌, ◌^◌, add-zero, arith, AllByRecursion, ClientSession, Transaction, IsLegal, IsLegalTxn, txns_in, singles, apart}
 use Rattle.serializability.proofs.Places.{each_from_flat_map}
-use Rattle.part_reasons.specs.Apart.{singles, apart}
 use Rattle.session_log.specs.declared.limits.TheConstants.{MAX_SESSIONS}
 
 -- one session more

@@ -1,3 +1,4 @@
+mod Prelude
 mod Found
 mod Ways
 mod Orderless

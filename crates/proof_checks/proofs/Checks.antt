@@ -1,13 +1,8 @@
 -- What the forms of proofs have in common.
-use Rattle.std.proofs.Common.{◌≡◌, ℕ, ◌≤◌, Bool, false, if◌then◌else◌, List, Option, Some, None, length, subst}
-use Rattle.std.specs.List.{list_any}
-use Rattle.serializability.specs.declared.literal.Literal.{Literal}
+use Rattle.proof_checks.proofs.Prelude.{◌≡◌, ℕ, ◌≤◌, Bool, false, if◌then◌else◌, List, Option, Some, None, length, subst, list_any, Literal, NoEmptyClause, Given, IsFaultOf, HasFaultWithin, is_empty_clause, end_fault}
 use Rattle.proof_text.specs.Forms.{form_of_text}
 use Rattle.proof_text.specs.declared.TheConstants.{MAX_PROOF_BYTES}
 use Rattle.proof_text.specs.declared.form.Form.{Form}
-use Rattle.proof_text.specs.declared.fault.ProofFault.TheVariants.{NoEmptyClause}
-use Rattle.proof_checks.specs.Checked.{Given, IsFaultOf, HasFaultWithin}
-use Rattle.proof_checks.specs.Ends.{is_empty_clause, end_fault}
 
 -- the end of a proof, where the empty clause stands, and where it does not
 ends_so : (form : Form) (g : Given) (proof : List ℕ) (cs : List (Option (List Literal))) (b : Bool) → IsFaultOf form g proof (end_fault cs) → list_any is_empty_clause cs ≡ b → IsFaultOf form g proof (if b then None else Some NoEmptyClause)

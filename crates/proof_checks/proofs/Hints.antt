@@ -1,23 +1,11 @@
 -- What hints close follows by unit propagation, and what follows so follows.
-use Rattle.std.proofs.Common.{◌≡◌, ℕ, zero, suc, ◌+◌, ◌<◌, ◌≤◌, length, take, take_all, get_or, add-one, Bool, true, false, not, ◌||◌, if◌then◌else◌, List, [], ◌∷◌, ◌++◌, Option, Some, None, Result, Ok, Err, IfOk, slice_get, refl, sym, ap, subst, ◌∙◌, ◌⊎◌, inl, inr}
-use Rattle.std.proofs.Math.Seq.{take-suc}
-use Rattle.std.specs.Option.{option_map}
-use Rattle.std.proofs.lemmas.Bool.{or_cases, or_left, or_right}
+use Rattle.proof_checks.proofs.Prelude.{◌≡◌, ℕ, zero, suc, ◌+◌, ◌<◌, ◌≤◌, length, take, take_all, get_or, add-one, Bool, true, false, not, ◌||◌, if◌then◌else◌, List, [], ◌∷◌, ◌++◌, Option, Some, None, Result, Ok, Err, IfOk, slice_get, refl}
+use Rattle.proof_checks.proofs.Prelude.{sym, ap, subst, ◌∙◌, ◌⊎◌, inl, inr, take-suc, option_map, or_cases, or_left, or_right, Literal, SatisfiesAll, Follows, Entails, value_is, known_false, left_of, with_true, with_false, all_open}
+use Rattle.proof_checks.proofs.Prelude.{clause_at, satisfied_at, is_same, is_among, negated, IsMadeFalse, assumed, forced, IsImplied, Standing, Holds, IsFound, IsTaken, EndsAt}
 use Rattle.serializability.specs.Formula.{value_of, literal_true, clause_true}
-use Rattle.serializability.specs.declared.literal.Literal.{Literal}
-use Rattle.refutation.specs.Follows.{SatisfiesAll, Follows, Entails}
 use Rattle.refutation.specs.Hinted.{looked, hinted}
-use Rattle.refutation.specs.Known.{value_is, known_false, left_of, with_true, with_false, all_open}
-use Rattle.refutation.specs.Numbered.{clause_at}
 use Rattle.refutation.proofs.Places.{written_cases}
-use Rattle.refutation.proofs.Units.{satisfied_at}
-use Rattle.proof_checks.specs.Distinct.{is_same, is_among, negated}
-use Rattle.proof_checks.specs.Propagation.{IsMadeFalse, assumed, forced, IsImplied}
-use Rattle.refutation.specs.Standing.{Standing}
 use Rattle.refutation.specs.Steps.{Steps}
-use Rattle.proof_checks.specs.Held.{Holds}
-use Rattle.proof_checks.specs.Passed.{IsFound, IsTaken}
-use Rattle.proof_checks.specs.Reached.{EndsAt}
 use Rattle.proof_checks.proofs.Propagating.{stands_at, at_stands, twice_negated, alike, self_same, implied_more, held_implied, holds_added, holds_same}
 use Rattle.proof_checks.proofs.Reaching.{both, more_cases}
 

@@ -1,3 +1,4 @@
+mod Prelude
 pub mod Checks
 pub mod Hints
 pub mod Once

@@ -1,14 +1,7 @@
 -- Literals that are kept once.
-use Rattle.std.proofs.Common.{◌≡◌, ℕ, ◌+◌, ◌*◌, ◌<◌, ◌≤◌, Bool, true, false, not, ◌||◌, eqb, ◌==◌, if◌then◌else◌, List, [], ◌∷◌, ◌++◌, length, filter, take, refl, sym, ap, ◌∙◌, get_or, add-one, append-nil, arith, take_all}
-use Rattle.std.proofs.Math.Seq.{take-suc}
-use Rattle.std.proofs.lemmas.Bool.{eqb-true, ne_eqb}
-use Rattle.std.specs.List.{list_any}
-use Rattle.std.proofs.lemmas.List.Folds.{list_any_more}
-use Rattle.std.proofs.lemmas.List.Elements.{filter-append}
+use Rattle.proof_checks.proofs.Prelude.{◌≡◌, ℕ, ◌+◌, ◌*◌, ◌<◌, ◌≤◌, Bool, true, false, not, ◌||◌, eqb, ◌==◌, if◌then◌else◌, List, [], ◌∷◌, ◌++◌, length, filter, take, refl, sym, ap, ◌∙◌, get_or, add-one, append-nil, arith, take_all}
+use Rattle.proof_checks.proofs.Prelude.{take-suc, eqb-true, ne_eqb, list_any, list_any_more, filter-append, Literal, code_of, is_same, is_among, with_literal, distinct, negated, is_tautology, is_nil}
 use Rattle.list_lemmas.proofs.Comparisons.{eqb_flip}
-use Rattle.serializability.specs.declared.literal.Literal.{Literal}
-use Rattle.proof_checks.specs.Distinct.{code_of, is_same, is_among, with_literal, distinct, negated, is_tautology}
-use Rattle.proof_checks.specs.Ends.{is_nil}
 
 -- a literal stands among literals as it stands among them without another
 among_others : (l m : Literal) (ls : List Literal) → is_same l m ≡ false → is_among (filter (λ k. not (is_same m k)) ls) l ≡ is_among ls l

@@ -1,25 +1,10 @@
 -- What the steps of a DRAT proof do to its first fault, and which clauses stand at its end.
-use Rattle.std.proofs.Common.{◌≡◌, ℕ, suc, ◌<◌, Bool, true, false, not, ◌||◌, ◌==◌, if◌then◌else◌, ◌↔◌, IsTrue, List, [], ◌∷◌, ◌++◌, length, Contains, Option, Some, None, Result, Ok, Err, IfOk, IfErr, refl, sym, ap, subst, ◌∙◌, inl, inr, arith}
-use Rattle.std.specs.List.{list_any}
-use Rattle.std.proofs.lemmas.Bool.{eqb-true}
-use Rattle.std.proofs.lemmas.List.Elements.{Contains-append_right}
-use Rattle.std.proofs.lemmas.List.Folds.{list_any_at}
-use Rattle.serializability.specs.declared.literal.Literal.{Literal}
-use Rattle.proof_text.specs.Faults.{fault_of_step}
-use Rattle.proof_text.specs.Reads.{IsRead}
-use Rattle.proof_text.specs.Steps.{DratStep}
-use Rattle.proof_text.specs.declared.fault.StepFault.{StepFault}
+use Rattle.proof_checks.proofs.Prelude.{◌≡◌, ℕ, suc, ◌<◌, Bool, true, false, not, ◌||◌, ◌==◌, if◌then◌else◌, ◌↔◌, IsTrue, List, [], ◌∷◌, ◌++◌, length, Contains, Option, Some, None, Result, Ok, Err, IfOk, IfErr, refl, sym, ap, subst, ◌∙◌}
+use Rattle.proof_checks.proofs.Prelude.{inl, inr, arith, list_any, eqb-true, Contains-append_right, list_any_at, Literal, fault_of_step, IsRead, DratStep, StepFault, DratAction, ProofFault, BadLine, NotImplied, NoEmptyClause, TooLong}
+use Rattle.proof_checks.proofs.Prelude.{Memory, is_tautology, is_empty_clause, end_fault, Holds, IsAddition, IsTaken, GoesOn, IsPassed, IsStepStop, IsNext, IsImplied}
 use Rattle.proof_text.specs.declared.fault.StepFault.TheVariants as step
-use Rattle.proof_text.specs.declared.drat.DratAction.{DratAction}
 use Rattle.proof_text.specs.declared.drat.DratAction.TheVariants.{Add, Delete}
-use Rattle.proof_text.specs.declared.fault.ProofFault.{ProofFault}
-use Rattle.proof_text.specs.declared.fault.ProofFault.TheVariants.{BadLine, NotImplied, NoEmptyClause, TooLong, Memory}
-use Rattle.proof_checks.specs.Distinct.{is_tautology}
 use Rattle.proof_checks.specs.Drat.{adds, is_idle, IsDratFault, ended, bad_line, idle, not_implied, added, refuted, IsDratStop}
-use Rattle.proof_checks.specs.Ends.{is_empty_clause, end_fault}
-use Rattle.proof_checks.specs.Held.{Holds}
-use Rattle.proof_checks.specs.Passed.{IsAddition, IsTaken, GoesOn, IsPassed, IsStepStop, IsNext}
-use Rattle.proof_checks.specs.Propagation.{IsImplied}
 use Rattle.proof_checks.proofs.Once.{tautology_distinct, nil_kept}
 
 -- whether the empty clause stands, by a test and by a list

@@ -1,19 +1,14 @@
 -- The places of IDs among ascending ones, and the numbers of clauses.
-use Rattle.std.proofs.Common.{◌≡◌, ℕ, ◌+◌, ◌-◌, ◌<◌, ◌≤◌, Bool, true, false, ◌&&◌, if◌then◌else◌, is_some, cond, nat_lt, nat_le, ◌==◌, List, [], ◌∷◌, ◌++◌, length, Option, Some, None, Result, Ok, Err, MatchResult, refl, sym, ap, ◌∙◌, get_or, position, inl, inr, arith, append_assoc, append-nil, drop, slice_set}
-use Rattle.std.specs.List.{position_or_len}
+use Rattle.proof_checks.proofs.Prelude.{◌≡◌, ℕ, ◌+◌, ◌-◌, ◌<◌, ◌≤◌, Bool, true, false, ◌&&◌, if◌then◌else◌, is_some, cond, nat_lt, nat_le, ◌==◌, List, [], ◌∷◌, ◌++◌, length, Option, Some, None, Result, Ok, Err, MatchResult, refl, sym, ap}
+use Rattle.proof_checks.proofs.Prelude.{◌∙◌, get_or, position, inl, inr, arith, append_assoc, append-nil, drop, slice_set, position_or_len, option_map, option_and_then, eq-eqb, ne_eqb, lt-ltb, le-ltb, le-leb, ltb-true, leb-true, cases_lt}
+use Rattle.proof_checks.proofs.Prelude.{cases_eq, all_open, Literal, clause_at, Proof, given_of, number_at, standing_at, named_at, numbers_at, is_next, without}
 use Rattle.std.specs.List.Sorted.{IsStrictlyIncreasing, IsBinarySearchResult}
 use Rattle.std.specs.Ordering.{nat_cmp}
-use Rattle.std.specs.Option.{option_map, option_and_then}
-use Rattle.std.proofs.lemmas.Bool.{eq-eqb, ne_eqb, lt-ltb, le-ltb, le-leb, ltb-true, leb-true, cases_lt, cases_eq}
 use Rattle.std.proofs.lemmas.List.Sums.{position_or_len_is}
 use Rattle.std.proofs.lemmas.List.Kept.{AllPairs-from_increasing}
 use Rattle.std.proofs.lemmas.List.Sorted.{searched}
 use Rattle.std.proofs.lemmas.List.{get_or_append_left, get_or_push, length_push, drop_all, get_or_default, length-replicate, drop_more}
 use Rattle.std.specs.Result.{result_ok}
-use Rattle.refutation.specs.Known.{all_open}
-use Rattle.serializability.specs.declared.literal.Literal.{Literal}
-use Rattle.refutation.specs.Numbered.{clause_at}
-use Rattle.proof_checks.specs.Lrat.{Proof, given_of, number_at, standing_at, named_at, numbers_at, is_next, without}
 
 pub place_at : (xs : List ℕ) (i x : ℕ) → IsStrictlyIncreasing xs → i < length xs → get_or xs i 0 ≡ x → position (λ y. y == x) xs ≡ Some i
 place_at xs i x up within at =

@@ -1,13 +1,7 @@
 -- What unit propagation makes false.
-use Rattle.std.proofs.Common.{◌≡◌, ℕ, zero, suc, ◌<◌, Bool, true, false, not, ◌||◌, List, [], ◌∷◌, ◌++◌, length, Contains, Option, Some, None, slice_get, unwrap_or, refl, sym, ap, subst, ◌∙◌, ◌⊎◌, inl, inr, arith}
-use Rattle.std.proofs.lemmas.Bool.{eqb-true, eq-eqb}
-use Rattle.std.proofs.lemmas.List.Elements.{Contains-append_left, Contains-append_right, Contains-append_cases}
+use Rattle.proof_checks.proofs.Prelude.{◌≡◌, ℕ, zero, suc, ◌<◌, Bool, true, false, not, ◌||◌, List, [], ◌∷◌, ◌++◌, length, Contains, Option, Some, None, slice_get, unwrap_or, refl, sym, ap, subst, ◌∙◌, ◌⊎◌, inl, inr, arith, eqb-true}
+use Rattle.proof_checks.proofs.Prelude.{eq-eqb, Contains-append_left, Contains-append_right, Contains-append_cases, Literal, clause_at, code_of, is_same, is_among, negated, IsRoot, Holds, IsMadeFalse, assumed, forced, IsImplied}
 use Rattle.std.proofs.lemmas.Option.{slice_get-get_or, slice_get_within, get_or_from_slice_get}
-use Rattle.serializability.specs.declared.literal.Literal.{Literal}
-use Rattle.refutation.specs.Numbered.{clause_at}
-use Rattle.proof_checks.specs.Distinct.{code_of, is_same, is_among, negated}
-use Rattle.proof_checks.specs.Held.{IsRoot, Holds}
-use Rattle.proof_checks.specs.Propagation.{IsMadeFalse, assumed, forced, IsImplied}
 use Rattle.proof_checks.proofs.Once.{same_literal}
 
 -- clauses that stand, by their numbers

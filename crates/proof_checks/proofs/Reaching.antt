@@ -1,15 +1,7 @@
 -- A propagation that looks at one clause after the other, to its end.
-use Rattle.std.proofs.Common.{◌≡◌, ℕ, zero, suc, ◌+◌, ◌<◌, ◌≤◌, Bool, true, false, not, ◌||◌, if◌then◌else◌, List, [], ◌∷◌, ◌++◌, length, take, get_or, Contains, Option, Some, refl, sym, ap, subst, ◌∙◌, ◌⊎◌, inl, inr, arith, length-append, add-one, take_all}
-use Rattle.std.proofs.Math.Seq.{take-suc}
-use Rattle.std.proofs.lemmas.Bool.{cases_eq, or_cases, or_left, or_right}
-use Rattle.std.proofs.lemmas.List.Folds.{list_any-append}
-use Rattle.std.proofs.lemmas.List.Elements.{Contains-append_left, Contains-append_right, Contains-append_cases}
-use Rattle.serializability.specs.declared.literal.Literal.{Literal}
-use Rattle.refutation.specs.Numbered.{clause_at}
-use Rattle.proof_checks.specs.Distinct.{is_same, is_among, negated, with_literal}
-use Rattle.proof_checks.specs.Propagation.{IsMadeFalse, assumed, forced, IsImplied}
-use Rattle.proof_checks.specs.Reached.{IsLast, IsOpen, IsDone, IsLeft, AreFalse, Keeps, Passes, Visits, Covers, PassesOr}
-use Rattle.proof_checks.specs.declared.plain.Left.{Left}
+use Rattle.proof_checks.proofs.Prelude.{◌≡◌, ℕ, zero, suc, ◌+◌, ◌<◌, ◌≤◌, Bool, true, false, not, ◌||◌, if◌then◌else◌, List, [], ◌∷◌, ◌++◌, length, take, get_or, Contains, Option, Some, refl, sym, ap, subst, ◌∙◌, ◌⊎◌, inl, inr, arith}
+use Rattle.proof_checks.proofs.Prelude.{length-append, add-one, take_all, take-suc, cases_eq, or_cases, or_left, or_right, list_any-append, Contains-append_left, Contains-append_right, Contains-append_cases, Literal, clause_at, is_same}
+use Rattle.proof_checks.proofs.Prelude.{is_among, negated, with_literal, IsMadeFalse, assumed, forced, IsImplied, IsLast, IsOpen, IsDone, IsLeft, AreFalse, Keeps, Passes, Visits, Covers, PassesOr, Left}
 use Rattle.proof_checks.specs.declared.plain.Left.TheVariants as left
 use Rattle.proof_checks.proofs.Propagating.{stands_at, at_stands, within_clauses, twice_negated, alike, self_same}
 

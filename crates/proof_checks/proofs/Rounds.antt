@@ -1,11 +1,6 @@
 -- Marks by rounds.
-use Rattle.std.proofs.Common.{◌≡◌, ℕ, zero, suc, ◌<◌, ◌≤◌, Bool, true, false, ◌||◌, eqb, List, [], ◌∷◌, ◌++◌, length, replicate, refl, sym, ap, ◌∙◌, get_or, slice_index, slice_set, get_or-set_other, get_or-set_same, take, take_all, inl, inr, arith}
-use Rattle.std.proofs.lemmas.Bool.{eqb-true, eqb-false, eq-eqb, cases_eq}
-use Rattle.std.proofs.lemmas.List.Folds.{list_any-append}
-use Rattle.std.proofs.Math.Bool.{or-true, or-false}
-use Rattle.serializability.specs.declared.literal.Literal.{Literal}
-use Rattle.proof_checks.specs.Distinct.{code_of, is_same, is_among}
-use Rattle.proof_checks.specs.Marks.{AreMarks}
+use Rattle.proof_checks.proofs.Prelude.{◌≡◌, ℕ, zero, suc, ◌<◌, ◌≤◌, Bool, true, false, ◌||◌, eqb, List, [], ◌∷◌, ◌++◌, length, replicate, refl, sym, ap, ◌∙◌, get_or, slice_index, slice_set, get_or-set_other, get_or-set_same, take}
+use Rattle.proof_checks.proofs.Prelude.{take_all, inl, inr, arith, eqb-true, eqb-false, eq-eqb, cases_eq, list_any-append, or-true, or-false, Literal, code_of, is_same, is_among, AreMarks}
 
 zeros : (n k : ℕ) → ◌≡◌ {A = ℕ} (get_or (replicate n 0) k 0) 0
 zeros zero k = refl

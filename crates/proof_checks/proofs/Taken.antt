@@ -1,24 +1,12 @@
 -- What a step of an LRAT proof does to its first fault.
-use Rattle.std.proofs.Common.{◌≡◌, ℕ, ◌<◌, Bool, true, false, not, ◌&&◌, ◌==◌, if◌then◌else◌, List, [], ◌∷◌, ◌++◌, length, Option, Some, None, Result, Ok, Err, IfOk, IfErr, sym, ap, subst, ◌∙◌, unwrap_or, arith}
-use Rattle.std.specs.List.{list_any}
-use Rattle.std.specs.Option.{option_or}
-use Rattle.std.proofs.lemmas.List.Folds.{list_any-append}
-use Rattle.std.proofs.Math.Bool.{or-true}
-use Rattle.std.proofs.lemmas.Bool.{not-true, not-false}
-use Rattle.serializability.specs.declared.literal.Literal.{Literal}
-use Rattle.proof_text.specs.Faults.{fault_of_step}
-use Rattle.proof_text.specs.Reads.{IsRead}
-use Rattle.proof_text.specs.Steps.{LratStep}
-use Rattle.proof_text.specs.declared.fault.StepFault.{StepFault}
+use Rattle.proof_checks.proofs.Prelude.{◌≡◌, ℕ, ◌<◌, Bool, true, false, not, ◌&&◌, ◌==◌, if◌then◌else◌, List, [], ◌∷◌, ◌++◌, length, Option, Some, None, Result, Ok, Err, IfOk, IfErr, sym, ap, subst, ◌∙◌, unwrap_or, arith, list_any}
+use Rattle.proof_checks.proofs.Prelude.{option_or, list_any-append, or-true, not-true, not-false, Literal, fault_of_step, IsRead, LratStep, StepFault, ProofFault, BadLine, NotImplied, NoEmptyClause, LratAction, distinct, is_nil}
+use Rattle.proof_checks.proofs.Prelude.{is_empty_clause, end_fault, IsFault, Proof, numbers_at, is_next, follows_by, without, addition_fault, action_fault, fault_by, step_fault, after_action, after_step, adds_empty, lrat_fault, AreNumbers}
+use Rattle.proof_checks.proofs.Prelude.{IsAdded}
 use Rattle.proof_text.specs.declared.fault.StepFault.TheVariants as step
-use Rattle.proof_text.specs.declared.fault.ProofFault.{ProofFault}
-use Rattle.proof_text.specs.declared.fault.ProofFault.TheVariants.{BadLine, NotImplied, NoEmptyClause}
-use Rattle.proof_text.specs.declared.lrat.LratAction.{LratAction}
 use Rattle.proof_text.specs.declared.lrat.LratAction.TheVariants.{Add, Delete}
-use Rattle.proof_checks.specs.Distinct.{distinct}
-use Rattle.proof_checks.specs.Ends.{is_nil, is_empty_clause, end_fault, IsFault}
-use Rattle.proof_checks.specs.Lrat.{Proof, numbers_at, is_next, follows_by, without, addition_fault, action_fault, fault_by, step_fault, after_action, after_step, adds, adds_empty, lrat_fault}
-use Rattle.proof_checks.specs.Kept.{AreNumbers, IsAdded, IsTaken, GoesOn}
+use Rattle.proof_checks.specs.Lrat.{adds}
+use Rattle.proof_checks.specs.Kept.{IsTaken, GoesOn}
 use Rattle.proof_checks.proofs.Once.{nil_kept}
 
 pub same_proof : (p q : Proof) → p.clauses ≡ q.clauses → p.added ≡ q.added → p ≡ q

@@ -1,10 +1,7 @@
 -- Where words and lines end.
-use Rattle.std.proofs.Common.{◌≡◌, ℕ, ◌+◌, ◌<◌, ◌≤◌, Bool, true, false, not, List, [], ◌∷◌, length, take, drop, position, Some, None, refl, sym, ap, ◌∙◌, arith, length-drop, ◌==◌}
-use Rattle.std.proofs.lemmas.Bool.{not-false}
+use Rattle.proof_text.proofs.Prelude.{◌≡◌, ℕ, ◌+◌, ◌<◌, ◌≤◌, Bool, true, false, not, List, [], ◌∷◌, length, take, drop, position, Some, None, refl, sym, ap, ◌∙◌, arith, length-drop, ◌==◌, not-false, position_or_len, take_step, drop_step}
+use Rattle.proof_text.proofs.Prelude.{position_some, position_none, is_lf, is_blank, onto_first, begins_word, words, lines, stated, is_passed}
 use Rattle.std.proofs.lemmas.List.Sums.{prefix_len-le-length}
-use Rattle.std.specs.List.{position_or_len}
-use Rattle.session_log.proofs.Lines.{take_step, drop_step, position_some, position_none, is_lf}
-use Rattle.proof_text.specs.Words.{is_blank, onto_first, begins_word, words, lines, stated, is_passed}
 
 -- a byte of a word
 abbrev pub is_text : ℕ → Bool

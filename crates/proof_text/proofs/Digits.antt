@@ -1,8 +1,6 @@
 -- Decimal digits that write a small number.
-use Rattle.std.proofs.Common.{◌≡◌, ℕ, ◌+◌, ◌-◌, ◌*◌, ◌<◌, ◌≤◌, ◌^◌, true, List, length, get_or, take, arith}
-use Rattle.std.specs.List.{list_all}
+use Rattle.proof_text.proofs.Prelude.{◌≡◌, ℕ, ◌+◌, ◌-◌, ◌*◌, ◌<◌, ◌≤◌, ◌^◌, true, List, length, get_or, take, arith, list_all, digits_value}
 use Rattle.std.specs.Char.{is_ascii_digit}
-use Rattle.std.specs.Str.Parse.{digits_value}
 use Rattle.std.proofs.lemmas.Str.Parse.{digits_value_short, digits_value-take-le}
 use Rattle.session_log.proofs.Digits.{own, value_more}
 

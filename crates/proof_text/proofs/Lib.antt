@@ -1,3 +1,4 @@
+mod Prelude
 pub mod Cutting
 pub mod Digits
 pub mod Packing

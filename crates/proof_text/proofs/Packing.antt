@@ -1,19 +1,10 @@
 -- Words, lines and steps of bytes.
-use Rattle.std.proofs.Common.{◌≡◌, ℕ, ◌+◌, ◌^◌, ◌<◌, ◌≤◌, zero, suc, Bool, true, false, List, [], ◌∷◌, length, take, drop, nat_lt, position, Option, Some, None, refl, sym, ap, ◌∙◌, arith, ◌==◌}
-use Rattle.std.proofs.lemmas.Bool.{ne_eqb}
-use Rattle.std.specs.List.{position_or_len, enumerate_from}
+use Rattle.proof_text.proofs.Prelude.{◌≡◌, ℕ, ◌+◌, ◌^◌, ◌<◌, ◌≤◌, zero, suc, Bool, true, false, List, [], ◌∷◌, length, take, drop, nat_lt, position, Option, Some, None, refl, sym, ap, ◌∙◌, arith, ◌==◌, ne_eqb, position_or_len}
+use Rattle.proof_text.proofs.Prelude.{enumerate_from, OnTrue, then_some, take_step, drop_step, position_some, position_none, Literal, onto_first, first_number, before_zero, with_front, whole, if_whole, literal_of, action_of_word}
+use Rattle.proof_text.proofs.Prelude.{binary_words, sevens, signed, binary_number, binary_numbers, is_zero, binary_lines, up_to_zero, behind_line, binary_action, clause_with, binary_step, DratStep, drat_with, steps_by, Number, DratAction}
 use Rattle.std.proofs.lemmas.Slice.Eq.{bytes_eq-Decides}
 use Rattle.std.specs.Str.{bytes_eq}
-use Rattle.std.specs.Bool.{OnTrue, then_some}
 use Rattle.std.specs.Option.{OnSome}
-use Rattle.session_log.proofs.Lines.{take_step, drop_step, position_some, position_none}
-use Rattle.serializability.specs.declared.literal.Literal.{Literal}
-use Rattle.proof_text.specs.Words.{onto_first}
-use Rattle.proof_text.specs.Numbers.{first_number, before_zero, with_front, whole, if_whole, literal_of}
-use Rattle.proof_text.specs.Binary.{action_of_word, binary_words, sevens, signed, binary_number, binary_numbers, is_zero, binary_lines, up_to_zero, behind_line, binary_action, clause_with, binary_step}
-use Rattle.proof_text.specs.Steps.{DratStep, drat_with, steps_by}
-use Rattle.proof_text.specs.declared.number.Number.{Number}
-use Rattle.proof_text.specs.declared.drat.DratAction.{DratAction}
 use Rattle.proof_text.proofs.Stepping.{drat_is}
 use Rattle.proof_text.proofs.UpToZero.{read_steps}
 

@@ -1,12 +1,7 @@
 -- What the definitions of steps say, part by part.
-use Rattle.std.proofs.Common.{◌≡◌, ℕ, Bool, true, false, List, [], Option, Some, None, option_map, option_and_then, ap, ◌∙◌}
-use Rattle.std.specs.Bool.{then_some}
-use Rattle.serializability.specs.declared.literal.Literal.{Literal}
-use Rattle.proof_text.specs.Numbers.{literal_of, id_of, before_zero, whole}
-use Rattle.proof_text.specs.Steps.{lrat_deletion, lrat_addition, deletion_of, addition_with, addition_of, drat_clause, clause_of, lrat_with, drat_with}
-use Rattle.proof_text.specs.declared.number.Number.{Number}
+use Rattle.proof_text.proofs.Prelude.{◌≡◌, ℕ, Bool, true, false, List, [], Option, Some, None, option_map, option_and_then, ap, ◌∙◌, then_some, Literal, literal_of, id_of, before_zero, whole, lrat_deletion, lrat_addition, deletion_of}
+use Rattle.proof_text.proofs.Prelude.{addition_with, addition_of, drat_clause, clause_of, lrat_with, drat_with, Number, DratAction}
 use Rattle.proof_text.specs.declared.lrat.LratAction.TheVariants as lrat
-use Rattle.proof_text.specs.declared.drat.DratAction.{DratAction}
 
 pub deletion_is : (ns : List (Option Number)) (read : Bool) (ids : List (Option ℕ)) → whole (before_zero (id_of false) ns) ≡ then_some read ids → deletion_of ns ≡ lrat_with (then_some read lrat.Delete) [] ids
 unfolding deletion_of

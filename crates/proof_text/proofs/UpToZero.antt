@@ -1,10 +1,6 @@
 -- Reading up to a 0.
-use Rattle.std.proofs.Common.{◌≡◌, ℕ, true, false, List, [], ◌∷◌, ◌++◌, map, drop, Option, Some, None, refl, sym, ap, ◌∙◌, append_assoc, ◌==◌}
-use Rattle.std.proofs.lemmas.Bool.{ne_eqb}
-use Rattle.std.proofs.lemmas.List.{append-nil}
-use Rattle.proof_text.specs.Numbers.{number_of, numbers_of, first_number, before_zero, with_front}
-use Rattle.proof_text.specs.Forms.{behind_zero}
-use Rattle.proof_text.specs.declared.number.Number.{Number}
+use Rattle.proof_text.proofs.Prelude.{◌≡◌, ℕ, true, false, List, [], ◌∷◌, ◌++◌, map, drop, Option, Some, None, refl, sym, ap, ◌∙◌, append_assoc, ◌==◌, ne_eqb, append-nil, number_of, numbers_of, first_number, before_zero, with_front}
+use Rattle.proof_text.proofs.Prelude.{behind_zero, Number}
 
 -- what is read behind these
 abbrev pub behind : {A B : Type 0} → List A → Option (List A × B) → Option (List A × B)

@@ -1,16 +1,6 @@
 -- More edges of a graph.
-use Rattle.std.proofs.Common.{◌≡◌, ◌⊎◌, ◌↔◌, ℕ, ◌+◌, ◌<◌, ◌≤◌, List, [], ◌∷◌, ◌++◌, length, get_or, take, sym, ap, ◌∙◌, subst, inl, inr}
-use Rattle.std.specs.List.{Contains, filter}
-use Rattle.std.proofs.lemmas.List.{take_more}
-use Rattle.list_lemmas.proofs.Bools.{same_bool}
-use Rattle.serializability.specs.Polygraph.{Edge}
-use Rattle.reach_laws.specs.Reach.{Graph}
-use Rattle.known_graph.specs.Graphs.{IsKnownGraph}
-use Rattle.known_graph.specs.Pairs.{all_pairs}
-use Rattle.known_graph.proofs.Listed.{In, In-from_Contains, Contains-from_In, In-append_left, In-append_right, In-append_cases, In-filter, In-of_filter, filter_same, In-pairs}
-use Rattle.known_graph.specs.Tests.{has_edge}
-use Rattle.known_graph.proofs.Tested.{edge_in, has_in}
-use Rattle.prune_ledger.specs.Steps.{listed, with_edges}
+use Rattle.prune_ledger.proofs.Prelude.{◌≡◌, ◌⊎◌, ◌↔◌, ℕ, ◌+◌, ◌<◌, ◌≤◌, List, [], ◌∷◌, ◌++◌, length, get_or, take, sym, ap, ◌∙◌, subst, inl, inr, Contains, filter, take_more, same_bool, Edge, Graph, IsKnownGraph, all_pairs, In}
+use Rattle.prune_ledger.proofs.Prelude.{In-from_Contains, Contains-from_In, In-append_left, In-append_right, In-append_cases, In-filter, In-of_filter, filter_same, In-pairs, has_edge, edge_in, has_in, listed, with_edges}
 
 -- ---- more edges
 -- these edges are the old ones and those of this part

@@ -1,40 +1,14 @@
 -- The end of pruning.
-use Rattle.std.proofs.Common.{◌≡◌, ◌↔◌, ℕ, zero, suc, ◌+◌, ◌<◌, ◌≤◌, Bool, true, false, cond, ◌||◌, List, [], ◌∷◌, ◌++◌, length, Some, refl, sym, ap, ◌∙◌, subst, inl, inr, arith, length-append}
-use Rattle.std.specs.Prelude.{slice_get, IfSome, IsNone, map}
-use Rattle.std.specs.Option.{option_map_or}
-use Rattle.std.specs.List.{Contains, AllByRecursion}
-use Rattle.std.proofs.lemmas.Bool.{cases_Bool, false≢true, or_cases}
-use Rattle.std.proofs.lemmas.Option.{slice_get_within, same_Some}
-use Rattle.std.proofs.Math.Bool.{or_comm}
-use Rattle.list_lemmas.proofs.Bools.{same_bool}
-use Rattle.serializability.specs.Polygraph.{Edge, Choice, Polygraph}
-use Rattle.reach_laws.specs.Reach.{Graph, IsCyclic, IsCycle}
-use Rattle.reach_laws.proofs.Walks.{reach_joined}
-use Rattle.reach_rows.specs.ReachRows.{AreRowsOf}
-use Rattle.known_graph.proofs.Listed.{In, In-from_Contains, Contains-from_In}
-use Rattle.pruning_laws.specs.declared.side.Side.{Side}
-use Rattle.pruning_laws.specs.declared.side.Side.TheVariants.{One, Two}
-use Rattle.pruning_laws.specs.Forced.{edges_of, other, Sides, IsRefuted, IsClosed, IsDead, open_from, pruned}
-use Rattle.pruning_laws.specs.Ledger.{Entry as Kept, sides_in, IsLedger}
-use Rattle.pruning_laws.proofs.Ledgers.{ledger_forced, ledger_dead}
-use Rattle.pruning_laws.proofs.Pruned.{IsAt, numbered, numbered_and, fits_pruned, pruned_fits}
+use Rattle.prune_ledger.proofs.Prelude.{◌≡◌, ◌↔◌, ℕ, zero, suc, ◌+◌, ◌<◌, ◌≤◌, Bool, true, false, cond, ◌||◌, List, [], ◌∷◌, ◌++◌, length, Some, refl, sym, ap, ◌∙◌, subst, inl, inr, arith, length-append, slice_get, IfSome, IsNone, map}
+use Rattle.prune_ledger.proofs.Prelude.{option_map_or, Contains, AllByRecursion, cases_Bool, false≢true, or_cases, slice_get_within, same_Some, or_comm, same_bool, Edge, Choice, Polygraph, Graph, IsCyclic, IsCycle, reach_joined, AreRowsOf}
+use Rattle.prune_ledger.proofs.Prelude.{In, In-from_Contains, Contains-from_In, Side, One, Two, edges_of, other, Sides, IsRefuted, IsClosed, IsDead, open_from, pruned, Entry as Kept, sides_in, IsLedger, ledger_forced, ledger_dead, IsAt}
+use Rattle.prune_ledger.proofs.Prelude.{numbered, numbered_and, fits_pruned, pruned_fits, IsLegal, IsReached, replay, Posted, State, opening_state, reopened_state, refuses, is_refused, next_of, reply_of, kept_after, edges_after, AreShown}
+use Rattle.prune_ledger.proofs.Prelude.{IsWhole, posts_of, ledger_of, Grown, entered_by, entered_in, AreRounds, posts_in, kept_by, IsReduced, IsRemainder, IsProgress, IsGraphOf, unrefused, IsLast, LedgerEntry, ChoiceState, PruneEvent}
+use Rattle.prune_ledger.proofs.Prelude.{PruneReply}
 use Rattle.pruning_laws.proofs.Same.{same_both}
 use Rattle.desk.specs.declared.history.Entry.{Entry}
-use Rattle.desk.specs.History.{IsLegal, IsReached, replay}
-use Rattle.prune_ledger.specs.Posted.{Posted}
-use Rattle.prune_ledger.specs.State.{State}
-use Rattle.prune_ledger.specs.Opening.{opening_state, reopened_state}
-use Rattle.prune_ledger.specs.Steps.{refuses, is_refused, next_of, reply_of}
-use Rattle.prune_ledger.specs.Ledger.{kept_after, edges_after, AreShown}
-use Rattle.prune_ledger.specs.Runs.{IsWhole, posts_of, ledger_of, Grown}
-use Rattle.prune_ledger.specs.Entered.{entered_by, entered_in, AreRounds}
 use Rattle.prune_ledger.specs.Entered as entered
-use Rattle.prune_ledger.specs.Pruned.{posts_in, kept_by, IsReduced, IsRemainder, IsProgress, IsGraphOf, unrefused, IsLast}
 use Rattle.prune_ledger.specs.declared.ledger.Ledger.{Ledger}
-use Rattle.prune_ledger.specs.declared.ledger.LedgerEntry.{LedgerEntry}
-use Rattle.prune_ledger.specs.declared.messages.ChoiceState.{ChoiceState}
-use Rattle.prune_ledger.specs.declared.messages.PruneEvent.{PruneEvent}
-use Rattle.prune_ledger.specs.declared.messages.PruneReply.{PruneReply}
 use Rattle.prune_ledger.proofs.Sides.{side_is, side_with}
 use Rattle.prune_ledger.proofs.Grown.{some_mark, walk_in, reaches_in, grown_opening, opens, grown_reopened, ran, kept_append, shown_append, refuted_in, posts_append}
 

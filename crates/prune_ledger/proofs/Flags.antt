@@ -1,17 +1,7 @@
 -- Flags of passed choices, and marks.
-use Rattle.std.proofs.Common.{◌≡◌, ◌⊎◌, ℕ, zero, suc, ◌+◌, ◌<◌, ◌≤◌, Bool, true, ◌||◌, List, [], ◌∷◌, ◌++◌, length, get_or, take, Some, refl, sym, ap, ◌∙◌, subst, inl, inr, arith}
-use Rattle.std.specs.Prelude.{slice_get, slice_set, map}
-use Rattle.std.specs.List.{AllByRecursion, Contains}
-use Rattle.std.proofs.lemmas.Bool.{cases_Bool}
-use Rattle.std.proofs.lemmas.List.{take_more}
-use Rattle.std.proofs.lemmas.Option.{slice_get-get_or, same_Some}
-use Rattle.serializability.specs.Polygraph.{Edge, Choice}
-use Rattle.reach_laws.proofs.Walks.{each_contained}
-use Rattle.known_graph.proofs.Listed.{In, Contains-from_In, In-append_left, In-append_right}
-use Rattle.prune_ledger.specs.Opening.{given_back}
-use Rattle.prune_ledger.specs.Rounds.{IsOpenIn}
-use Rattle.prune_ledger.specs.Pruned.{unrefused, AreOpen}
-use Rattle.prune_ledger.specs.declared.messages.ChoiceState.{ChoiceState}
+use Rattle.prune_ledger.proofs.Prelude.{◌≡◌, ◌⊎◌, ℕ, zero, suc, ◌+◌, ◌<◌, ◌≤◌, Bool, true, ◌||◌, List, [], ◌∷◌, ◌++◌, length, get_or, take, Some, refl, sym, ap, ◌∙◌, subst, inl, inr, arith, slice_get, slice_set, map, AllByRecursion}
+use Rattle.prune_ledger.proofs.Prelude.{Contains, cases_Bool, take_more, slice_get-get_or, same_Some, Edge, Choice, each_contained, In, Contains-from_In, In-append_left, In-append_right, given_back, IsOpenIn, unrefused, AreOpen}
+use Rattle.prune_ledger.proofs.Prelude.{ChoiceState}
 
 -- ---- flags
 -- each flag that is set now was set before, or is of a choice in this part

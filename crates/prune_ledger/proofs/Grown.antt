@@ -1,47 +1,17 @@
 -- What every list of steps keeps.
-use Rattle.std.proofs.Common.{◌≡◌, ◌⊎◌, ℕ, zero, suc, ◌<◌, Bool, true, false, cond, eqb, ◌&&◌, ◌||◌, not, List, [], ◌∷◌, ◌++◌, length, Option, None, Some, refl, sym, ap, ◌∙◌, subst, inl, inr, arith}
-use Rattle.std.specs.Prelude.{slice_get, slice_set, replicate, map}
-use Rattle.std.specs.Option.{option_map_or}
-use Rattle.std.specs.List.{Contains, AllByRecursion, filter}
-use Rattle.std.proofs.lemmas.Bool.{false≢true, and_parts, or_parts, or_cases, or_right, not-true, cases_eq, eqb-true}
-use Rattle.std.proofs.lemmas.List.{length-set, length-map, length-replicate}
-use Rattle.std.proofs.lemmas.Option.{slice_get_within, same_Some}
+use Rattle.prune_ledger.proofs.Prelude.{◌≡◌, ◌⊎◌, ℕ, zero, suc, ◌<◌, Bool, true, false, cond, eqb, ◌&&◌, ◌||◌, not, List, [], ◌∷◌, ◌++◌, length, Option, None, Some, refl, sym, ap, ◌∙◌, subst, inl, inr, arith, slice_get, slice_set}
+use Rattle.prune_ledger.proofs.Prelude.{replicate, map, option_map_or, Contains, AllByRecursion, filter, false≢true, and_parts, or_parts, or_cases, or_right, not-true, cases_eq, eqb-true, length-set, length-map, length-replicate}
+use Rattle.prune_ledger.proofs.Prelude.{slice_get_within, same_Some, Edge, Choice, Polygraph, Graph, Walk, Reaches, IsWalk, each_contained, reach_joined, IsKnownGraph, all_pairs, In, In-from_Contains, Contains-from_In, In-append_left}
+use Rattle.prune_ledger.proofs.Prelude.{In-append_right, In-append_cases, In-of_filter, In-of_pairs, Joins, Side, One, Two, edges_of, other, Sides, IsRefuted, IsClosed, Entry as Kept, same_side, sides_in, IsLedger, entries_in, IsLegal}
+use Rattle.prune_ledger.proofs.Prelude.{replay, get_set, Posted, State, no_mark, opening_state, given_back, reopened_state, has_edge, is_line, listed, with_edges, refuses, refusing, is_free, free_from, is_refused, side_at, is_choice}
+use Rattle.prune_ledger.proofs.Prelude.{is_against, post_reply, is_entered, refused_mark, refused, hand_out, taken, posted, next_of, reply_of, side_of, kept_side, kept_after, edges_after, IsShown, AreShown, posts_in, LedgerEntry, IsWhole}
+use Rattle.prune_ledger.proofs.Prelude.{IsOpening, KeepsForced, EachKeepsForced, posts_of, ledger_of, Grown, ChoiceState, PruneEvent, Take, Post, Pass, Release, PruneReply, Entered, AlreadyIn, BadWalk, Dead, edge_in, walk_of, same_is}
+use Rattle.prune_ledger.proofs.Prelude.{other_other}
 use Rattle.list_lemmas.proofs.Elements.{get_put}
-use Rattle.serializability.specs.Polygraph.{Edge, Choice, Polygraph}
-use Rattle.reach_laws.specs.Reach.{Graph, Walk, Reaches, IsWalk}
-use Rattle.reach_laws.proofs.Walks.{each_contained, reach_joined}
-use Rattle.known_graph.specs.Graphs.{IsKnownGraph}
-use Rattle.known_graph.specs.Pairs.{all_pairs}
-use Rattle.known_graph.proofs.Listed.{In, In-from_Contains, Contains-from_In, In-append_left, In-append_right, In-append_cases, In-of_filter, In-of_pairs}
-use Rattle.polygraph.specs.Polygraphs.{Joins}
-use Rattle.pruning_laws.specs.declared.side.Side.{Side}
-use Rattle.pruning_laws.specs.declared.side.Side.TheVariants.{One, Two}
-use Rattle.pruning_laws.specs.Forced.{edges_of, other, Sides, IsRefuted, IsClosed}
-use Rattle.pruning_laws.specs.Ledger.{Entry as Kept, same_side, sides_in, IsLedger}
-use Rattle.pruning_laws.proofs.Ledgers.{entries_in}
 use Rattle.desk.specs.declared.history.Entry.{Entry}
-use Rattle.desk.specs.History.{IsLegal, replay}
-use Rattle.desk.proofs.Tied.{get_set}
-use Rattle.prune_ledger.specs.Posted.{Posted}
-use Rattle.prune_ledger.specs.State.{State}
-use Rattle.prune_ledger.specs.Opening.{no_mark, opening_state, given_back, reopened_state}
-use Rattle.known_graph.specs.Tests.{has_edge, is_line}
-use Rattle.prune_ledger.specs.Steps.{listed, with_edges, refuses, refusing, is_free, free_from, is_refused, side_at, is_choice, is_against, post_reply, is_entered, refused_mark, refused, hand_out, taken, posted, next_of, reply_of}
-use Rattle.prune_ledger.specs.Ledger.{side_of, kept_side, kept_after, edges_after, IsShown, AreShown}
-use Rattle.prune_ledger.specs.Pruned.{posts_in}
-use Rattle.prune_ledger.specs.declared.ledger.LedgerEntry.{LedgerEntry}
-use Rattle.prune_ledger.specs.Runs.{IsWhole, IsOpening, KeepsForced, EachKeepsForced, posts_of, ledger_of, Grown}
-use Rattle.prune_ledger.specs.declared.messages.ChoiceState.{ChoiceState}
-use Rattle.prune_ledger.specs.declared.messages.PruneEvent.{PruneEvent}
-use Rattle.prune_ledger.specs.declared.messages.PruneEvent.TheVariants.{Take, Post, Pass, Release}
-use Rattle.prune_ledger.specs.declared.messages.PruneReply.{PruneReply}
-use Rattle.prune_ledger.specs.declared.messages.PruneReply.TheVariants.{Entered, AlreadyIn, BadWalk, Dead}
-use Rattle.known_graph.proofs.Tested.{edge_in, walk_of}
 use Rattle.prune_ledger.proofs.Edges.{in_listed, in_of_listed}
 use Rattle.prune_ledger.proofs.Marks.{side_joins}
 use Rattle.prune_ledger.proofs.Sides.{ChoiceAt, choice_of_edge, side_is, numbered_first, known_with, side_with, more_kept, new_chosen, new_kept, kept_cases, no_kept}
-use Rattle.pruning_laws.proofs.Ledgers.{same_is}
-use Rattle.pruning_laws.proofs.Pruned.{other_other}
 
 -- ---- replies
 pub is_entered_true : (r : PruneReply) → is_entered r ≡ true → r ≡ Entered

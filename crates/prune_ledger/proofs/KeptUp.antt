@@ -1,20 +1,7 @@
 -- Graphs that are kept up with what posts keep.
-use Rattle.std.proofs.Common.{◌≡◌, ◌⊎◌, ◌↔◌, ℕ, zero, suc, ◌+◌, ◌<◌, List, [], ◌∷◌, ◌++◌, length, get_or, take, drop, None, Some, refl, sym, ap, ◌∙◌, subst, inl, inr}
-use Rattle.std.specs.Prelude.{slice_get}
-use Rattle.std.specs.Option.{option_map_or}
-use Rattle.std.specs.List.{Contains}
-use Rattle.std.proofs.lemmas.List.{take_more}
-use Rattle.serializability.specs.Polygraph.{Edge, Choice, Polygraph}
-use Rattle.reach_laws.specs.Reach.{Graph}
-use Rattle.reach_rows.specs.ReachRows.{AreRowsOf, AddsEdge}
-use Rattle.known_graph.proofs.Listed.{In, In-from_Contains, Contains-from_In}
-use Rattle.pruning_laws.specs.Forced.{edges_of, other}
-use Rattle.pruning_laws.specs.Ledger.{Entry as Kept, sides_in}
-use Rattle.prune_ledger.specs.Posted.{Posted}
-use Rattle.prune_ledger.specs.Ledger.{side_of, kept_side, kept_after, edges_after}
-use Rattle.prune_ledger.specs.Rounds.{AddsEdges, Extends, IsOpenIn}
-use Rattle.prune_ledger.specs.Pruned.{posts_in, kept_by, IsGraphOf}
-use Rattle.prune_ledger.specs.declared.ledger.LedgerEntry.{LedgerEntry}
+use Rattle.prune_ledger.proofs.Prelude.{◌≡◌, ◌⊎◌, ◌↔◌, ℕ, zero, suc, ◌+◌, ◌<◌, List, [], ◌∷◌, ◌++◌, length, get_or, take, drop, None, Some, refl, sym, ap, ◌∙◌, subst, inl, inr, slice_get, option_map_or, Contains, take_more, Edge, Choice}
+use Rattle.prune_ledger.proofs.Prelude.{Polygraph, Graph, AreRowsOf, AddsEdge, In, In-from_Contains, Contains-from_In, edges_of, other, Entry as Kept, sides_in, Posted, side_of, kept_side, kept_after, edges_after, AddsEdges, Extends}
+use Rattle.prune_ledger.proofs.Prelude.{IsOpenIn, posts_in, kept_by, IsGraphOf, LedgerEntry}
 use Rattle.prune_ledger.proofs.Edges.{Added}
 use Rattle.prune_ledger.proofs.Grown.{kept_append, posts_append, refuted_in}
 use Rattle.prune_ledger.proofs.Sides.{side_is, known_with, more_kept, new_kept, kept_cases, no_kept}

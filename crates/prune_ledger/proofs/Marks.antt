@@ -1,25 +1,8 @@
 -- What a written mark does to the state, and to the free choices.
-use Rattle.std.proofs.Common.{◌≡◌, ◌⊎◌, ℕ, zero, suc, ◌+◌, ◌<◌, ◌≤◌, Bool, true, false, cond, ◌&&◌, ◌||◌, not, List, [], ◌∷◌, length, drop, Option, Some, refl, sym, ap, ◌∙◌, subst, inl, inr, arith}
-use Rattle.desk.proofs.Tied.{get_set}
-use Rattle.std.specs.Prelude.{slice_get, slice_set, replicate}
-use Rattle.std.specs.Option.{option_map_or}
-use Rattle.std.specs.List.{AllByRecursion, Contains}
-use Rattle.std.proofs.lemmas.Bool.{false≢true}
-use Rattle.std.proofs.lemmas.List.{length-set, length-replicate}
-use Rattle.std.proofs.Math.Bool.{and-false, or-true}
-use Rattle.std.proofs.lemmas.Option.{same_Some}
-use Rattle.serializability.specs.Polygraph.{Choice}
-use Rattle.reach_laws.specs.Reach.{Graph}
-use Rattle.reach_laws.proofs.Walks.{each_contained}
-use Rattle.pruning_laws.specs.declared.side.Side.{Side}
-use Rattle.pruning_laws.specs.declared.side.Side.TheVariants.{One, Two}
-use Rattle.pruning_laws.specs.Forced.{edges_of, other}
-use Rattle.polygraph.specs.Polygraphs.{Joins, JoinsBoth}
-use Rattle.prune_ledger.specs.State.{State}
+use Rattle.prune_ledger.proofs.Prelude.{◌≡◌, ◌⊎◌, ℕ, zero, suc, ◌+◌, ◌<◌, ◌≤◌, Bool, true, false, cond, ◌&&◌, ◌||◌, not, List, [], ◌∷◌, length, drop, Option, Some, refl, sym, ap, ◌∙◌, subst, inl, inr, arith, get_set, slice_get, slice_set}
+use Rattle.prune_ledger.proofs.Prelude.{replicate, option_map_or, AllByRecursion, Contains, false≢true, length-set, length-replicate, and-false, or-true, same_Some, Choice, Graph, each_contained, Side, One, Two, edges_of, other, Joins}
+use Rattle.prune_ledger.proofs.Prelude.{JoinsBoth, State, no_mark, refuses, refusing, is_free, free_from, with_edges, refused, hand_out, taken, ChoiceState}
 use Rattle.prune_ledger.specs.Kept.{IsPast, IsKept}
-use Rattle.prune_ledger.specs.Opening.{no_mark}
-use Rattle.prune_ledger.specs.Steps.{refuses, refusing, is_free, free_from, with_edges, refused, hand_out, taken}
-use Rattle.prune_ledger.specs.declared.messages.ChoiceState.{ChoiceState}
 
 -- ---- free choices
 abbrev NoneBefore : ℕ → List ChoiceState → Type 0

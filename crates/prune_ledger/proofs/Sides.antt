@@ -1,17 +1,7 @@
 -- The edges of kept sides.
-use Rattle.std.proofs.Common.{◌≡◌, ◌⊎◌, ℕ, zero, suc, ◌+◌, Bool, true, false, cond, eqb, ◌&&◌, List, [], ◌∷◌, ◌++◌, Option, None, Some, refl, sym, ap, subst, inl, inr, arith, eqb-true, eq-eqb}
-use Rattle.std.specs.Prelude.{slice_get}
-use Rattle.std.specs.Option.{option_map_or}
-use Rattle.std.proofs.lemmas.Bool.{false≢true, and_parts, and_from, or_cases, or_left, or_right}
-use Rattle.std.proofs.lemmas.Option.{same_Some}
-use Rattle.serializability.specs.Polygraph.{Edge, Choice, Polygraph}
-use Rattle.known_graph.proofs.Listed.{In, In-append_left, In-append_right, In-append_cases}
-use Rattle.pruning_laws.specs.declared.side.Side.{Side}
-use Rattle.pruning_laws.specs.declared.side.Side.TheVariants.{One, Two}
-use Rattle.pruning_laws.specs.Forced.{edges_of, Sides, EachNumbered, kept_from, edges_with}
-use Rattle.pruning_laws.specs.Ledger.{Entry, same_side, sides_in}
-use Rattle.pruning_laws.proofs.Ledgers.{same_is, same_itself}
-use Rattle.prune_ledger.specs.Ledger.{side_of, edges_after}
+use Rattle.prune_ledger.proofs.Prelude.{◌≡◌, ◌⊎◌, ℕ, zero, suc, ◌+◌, Bool, true, false, cond, eqb, ◌&&◌, List, [], ◌∷◌, ◌++◌, Option, None, Some, refl, sym, ap, subst, inl, inr, arith, eqb-true, eq-eqb, slice_get, option_map_or, false≢true}
+use Rattle.prune_ledger.proofs.Prelude.{and_parts, and_from, or_cases, or_left, or_right, same_Some, Edge, Choice, Polygraph, In, In-append_left, In-append_right, In-append_cases, Side, One, Two, edges_of, Sides, EachNumbered, kept_from}
+use Rattle.prune_ledger.proofs.Prelude.{edges_with, Entry, same_side, sides_in, same_is, same_itself, side_of, edges_after}
 
 -- ---- a choice by its number
 pub record ChoiceAt (choices : List Choice) (c : ℕ) : Type 0 where

@@ -1,26 +1,11 @@
 -- Calls of a round, joined.
-use Rattle.std.proofs.Common.{◌≡◌, ◌⊎◌, ℕ, zero, suc, ◌<◌, List, [], ◌∷◌, ◌++◌, length, get_or, sym, ap, ◌∙◌, subst, inl, inr, arith, append_assoc, append-nil}
-use Rattle.std.specs.Prelude.{slice_index_or, slice_get, Option, Some, None, MatchOption}
-use Rattle.std.specs.List.{Contains, AllByRecursion}
-use Rattle.std.proofs.lemmas.Option.{same_Some}
+use Rattle.prune_ledger.proofs.Prelude.{◌≡◌, ◌⊎◌, ℕ, zero, suc, ◌<◌, List, [], ◌∷◌, ◌++◌, length, get_or, sym, ap, ◌∙◌, subst, inl, inr, arith, append_assoc, append-nil, slice_index_or, slice_get, Option, Some, None, MatchOption, Contains}
+use Rattle.prune_ledger.proofs.Prelude.{AllByRecursion, same_Some, Edge, Choice, Polygraph, Side, One, Two, Reaches, IsRefuted, edges_of, Contains-here, Contains-further, each_contained, Graph, AreRowsOf, Joins, JoinsBoth, IsPolygraph}
+use Rattle.prune_ledger.proofs.Prelude.{Refutes, GoesAgainst, HasPost, EachHandled, Handled, PostedOf, Settled, Turned, IsOpenIn, Extends, PruneEvent, Take, Post, Pass, Release, PruneReply, Judge}
 use Rattle.serializability.proofs.Places.{each_from_append}
-use Rattle.serializability.specs.Polygraph.{Edge, Choice, Polygraph}
-use Rattle.pruning_laws.specs.declared.side.Side.{Side}
-use Rattle.pruning_laws.specs.declared.side.Side.TheVariants.{One, Two}
-use Rattle.reach_laws.specs.Reach.{Reaches}
-use Rattle.pruning_laws.specs.Forced.{IsRefuted, edges_of}
-use Rattle.reach_laws.proofs.Walks.{Contains-here, Contains-further, each_contained}
-use Rattle.reach_laws.specs.Reach.{Graph}
-use Rattle.reach_rows.specs.ReachRows.{AreRowsOf}
-use Rattle.polygraph.specs.Polygraphs.{Joins, JoinsBoth, IsPolygraph}
 use Rattle.prune_ledger.proofs.Grown.{reaches_in}
 use Rattle.prune_ledger.proofs.KeptUp.{open_fewer}
 use Rattle.prune_ledger.proofs.Marks.{side_joins, contained_at}
-use Rattle.prune_ledger.specs.Rounds.{Refutes, GoesAgainst, HasPost, EachHandled, Handled, PostedOf, Settled, Turned, IsOpenIn, Extends}
-use Rattle.prune_ledger.specs.declared.messages.PruneEvent.{PruneEvent}
-use Rattle.prune_ledger.specs.declared.messages.PruneEvent.TheVariants.{Take, Post, Pass, Release}
-use Rattle.prune_ledger.specs.declared.messages.PruneReply.{PruneReply}
-use Rattle.prune_ledger.specs.declared.messages.PruneReply.TheVariants.{Judge}
 
 abbrev Calls : Type 0
 Calls = List (PruneEvent × PruneReply)

@@ -1,17 +1,7 @@
 -- What comes before what in a line, by sessions and by what was read.
-use Rattle.std.proofs.Common.{◌≡◌, ◌⊎◌, ℕ, zero, suc, ◌<◌, ◌≤◌, List, [], ◌∷◌, Some, refl, sym, ap, ◌∙◌, subst, inl, inr, arith}
-use Rattle.std.specs.Prelude.{slice_get}
-use Rattle.std.specs.List.{Contains}
-use Rattle.list_lemmas.proofs.Elements.{contains_at}
-use Rattle.session_log.specs.declared.session.Op.{Op}
-use Rattle.session_log.specs.declared.session.Op.TheVariants.{Read, Write}
-use Rattle.log_definitions.specs.Serial.{Committed, Map, initial, Replays}
-use Rattle.log_definitions.proofs.Members.{each_member}
+use Rattle.round_laws.proofs.Prelude.{◌≡◌, ◌⊎◌, ℕ, zero, suc, ◌<◌, ◌≤◌, List, [], ◌∷◌, Some, refl, sym, ap, ◌∙◌, subst, inl, inr, arith, slice_get, Contains, contains_at, Op, Read, Write, Committed, Map, initial, Replays, each_member}
+use Rattle.round_laws.proofs.Prelude.{EachPair, IsLine, ops_along, NodeWith, node_with, after, Replays-append, after-append, had_or_written, place_in, one_place, by_places, Alone}
 use Rattle.log_definitions.proofs.Dropped.{met_by_write}
-use Rattle.log_laws.proofs.Lines.{EachPair, IsLine, ops_along}
-use Rattle.log_laws.proofs.Lists.{NodeWith, node_with}
-use Rattle.log_laws.proofs.Replay.{after, Replays-append, after-append, had_or_written}
-use Rattle.log_laws.proofs.Moments.{place_in, one_place, by_places, Alone}
 
 -- the one comes before the other: in its session, or since it wrote what is read there
 pub data Comes (nodes : List Committed) : Committed → Committed → Type 0 where

@@ -1,21 +1,8 @@
 -- The two rounds that are written out are rounds.
-use Rattle.std.proofs.Common.{◌≡◌, ◌≢◌, ℕ, ◌≤◌, Bool, true, eqb, eq-eqb, not, ◌&&◌, None, nat_eq, List, [], ◌∷◌, refl, sym, ap, ◌∙◌, subst, inl, inr, arith}
-use Rattle.std.specs.List.{AllByRecursion, Contains, IsDistinct}
-use Rattle.std.proofs.lemmas.Bool.{false≢true, and_parts}
-use Rattle.session_log.specs.Text.{is_write}
-use Rattle.session_log.specs.declared.session.Op.{Op}
-use Rattle.session_log.specs.declared.session.Op.TheVariants.{Read, Write}
-use Rattle.session_log.specs.declared.session.Outcome.TheVariants.{Commit, Unknown}
-use Rattle.serializability.proofs.Places.{Has, Apart}
+use Rattle.round_laws.proofs.Prelude.{◌≡◌, ◌≢◌, ℕ, ◌≤◌, Bool, true, eqb, eq-eqb, not, ◌&&◌, None, nat_eq, List, [], ◌∷◌, refl, sym, ap, ◌∙◌, subst, inl, inr, arith, AllByRecursion, Contains, IsDistinct, false≢true, and_parts, is_write, Op}
+use Rattle.round_laws.proofs.Prelude.{Read, Write, Commit, Unknown, Has, Apart, Committed, committed_in, IsSoundLog, IsLearntLog, first_or_behind, nodes_are, snapshot_reads, run_of_two, values, IsReadLast, Round, IsRound, IsHeld}
+use Rattle.round_laws.proofs.Prelude.{first_leaves, Fits, IsReadBy, AreFenced}
 use Rattle.serializability.proofs.Listed.{IsDistinct-from_Apart}
-use Rattle.log_definitions.specs.Serial.{Committed, committed_in}
-use Rattle.log_laws.specs.Logs.{IsSoundLog, IsLearntLog}
-use Rattle.log_laws.proofs.Lists.{first_or_behind}
-use Rattle.log_laws.proofs.Shifted.{nodes_are}
-use Rattle.level_laws.specs.Snapshot.{snapshot_reads}
-use Rattle.round_laws.specs.Rounds.{run_of_two, values, IsReadLast}
-use Rattle.round_laws.specs.Runs.{Round, IsRound, IsHeld, first_leaves, Fits}
-use Rattle.round_laws.specs.Fences.{IsReadBy, AreFenced}
 use Rattle.round_laws.specs.Examples.{one_txn, keeper, fence, own, x, first_round, second_round, SomeAreRounds}
 use Rattle.round_laws.proofs.Given.{learnt_of}
 use Rattle.round_laws.proofs.Fences.{fences_make_rounds, closing_leaves}

@@ -1,21 +1,8 @@
 -- The rule of fences makes rounds.
-use Rattle.std.proofs.Common.{◌≡◌, ◌≢◌, ◌⊎◌, ℕ, ◌<◌, ◌≤◌, Bool, false, eqb, eqb-true, not, List, [], ◌∷◌, ◌++◌, refl, sym, ap, ◌∙◌, subst, inl, inr, arith}
-use Rattle.std.specs.Prelude.{nat_le}
-use Rattle.std.specs.List.{Contains}
-use Rattle.std.proofs.lemmas.Bool.{cases_Bool, cases_eq, cases_order, false≢true, and_parts}
-use Rattle.std.proofs.lemmas.Slice.Eq.{bytes_eq-Decides}
-use Rattle.list_lemmas.proofs.Elements.{behind}
-use Rattle.session_log.specs.Text.{ClientSession}
-use Rattle.session_log.specs.declared.session.Op.TheVariants.{Read, Write}
-use Rattle.log_definitions.specs.Serial.{Committed, committed_in}
-use Rattle.log_laws.specs.Logs.{IsSoundLog}
-use Rattle.log_laws.proofs.Lists.{of_kept, kept, first_or_behind}
-use Rattle.log_laws.proofs.Sessions.{nodes_of, in_order}
-use Rattle.log_laws.proofs.Shifted.{nodes_are}
-use Rattle.level_laws.specs.Snapshot.{snapshot_reads}
+use Rattle.round_laws.proofs.Prelude.{◌≡◌, ◌≢◌, ◌⊎◌, ℕ, ◌<◌, ◌≤◌, Bool, false, eqb, eqb-true, not, List, [], ◌∷◌, ◌++◌, refl, sym, ap, ◌∙◌, subst, inl, inr, arith, nat_le, Contains, cases_Bool, cases_eq, cases_order, false≢true, and_parts}
+use Rattle.round_laws.proofs.Prelude.{bytes_eq-Decides, behind, ClientSession, Read, Write, Committed, committed_in, IsSoundLog, of_kept, kept, first_or_behind, nodes_of, in_order, nodes_are, snapshot_reads, Keeper, Leads, itself}
+use Rattle.round_laws.proofs.Prelude.{by_session, by_read, is_fence, bare, bare_node, IsFirst, IsLast, IsReadBy, FencesMakeRounds, ClosingLeaves}
 use Rattle.round_laws.proofs.Steps.{leads_trans}
-use Rattle.round_laws.specs.Rounds.{Keeper, Leads, itself, by_session, by_read, is_fence, bare, bare_node}
-use Rattle.round_laws.specs.Fences.{IsFirst, IsLast, IsReadBy, FencesMakeRounds, ClosingLeaves}
 use Rattle.round_laws.proofs.Joined.{placed, bare_learnt, opens_at, one_at, not_true}
 use Rattle.round_laws.proofs.Given.{apart_of, learnt_of, rest_nodes, opens_where, leads_wider, bare_set}
 

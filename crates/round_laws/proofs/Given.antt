@@ -1,29 +1,8 @@
 -- What a seam gives for the nodes of two rounds.
-use Rattle.std.proofs.Common.{◌≡◌, ◌≢◌, ℕ, ◌<◌, ◌≤◌, Bool, true, false, eqb, not, List, [], ◌∷◌, ◌++◌, map, refl, sym, ap, ◌∙◌, subst, inl, inr, arith, eq-eqb, eqb-true}
-use Rattle.std.specs.Prelude.{◌↔◌, nat_le}
-use Rattle.std.specs.List.{filter, AllByRecursion, Contains}
-use Rattle.std.specs.Str.{bytes_eq}
-use Rattle.std.proofs.lemmas.Bool.{cases_Bool, false≢true, and_parts, and_from}
-use Rattle.std.proofs.lemmas.Slice.Eq.{bytes_eq-Decides}
-use Rattle.list_lemmas.proofs.Elements.{behind, mapped}
-use Rattle.session_log.specs.Text.{ClientSession, is_write}
-use Rattle.session_log.specs.declared.session.Op.{Op}
-use Rattle.session_log.specs.declared.session.Op.TheVariants.{Read, Write}
-use Rattle.serializability.proofs.Places.{Has, Apart, Apart-from_IsDistinct}
-use Rattle.log_definitions.specs.Unknown.{ops_in}
-use Rattle.log_definitions.specs.WellFormed.{written}
-use Rattle.log_definitions.specs.Serial.{Committed, Map, initial, set, Replays}
-use Rattle.log_definitions.proofs.Chosen.{Has-written}
-use Rattle.log_definitions.proofs.Settled.{IsLearnt}
-use Rattle.log_laws.specs.Logs.{IsSoundLog, IsLearntLog}
-use Rattle.log_laws.proofs.Lists.{of_kept, kept, of_mapped, op_of_node, first_or_behind, test_le}
-use Rattle.log_laws.proofs.Replay.{after, had_or_written}
-use Rattle.log_laws.proofs.Moments.{Alone}
-use Rattle.log_laws.proofs.Sessions.{nodes_of, in_order}
-use Rattle.log_laws.proofs.Identities.{ops_of_nodes, committed_within, one_writer, all_writes}
-use Rattle.log_laws.proofs.Txns.{AreLearnt, numbers_of, split}
-use Rattle.level_laws.specs.Snapshot.{snapshot_reads, snapshot_reads_behind, is_in}
-use Rattle.round_laws.specs.Rounds.{Keeper, Leads, itself, by_session, by_read, is_fence, is_value, bare, bare_node, map_behind, values}
+use Rattle.round_laws.proofs.Prelude.{◌≡◌, ◌≢◌, ℕ, ◌<◌, ◌≤◌, Bool, true, false, eqb, not, List, [], ◌∷◌, ◌++◌, map, refl, sym, ap, ◌∙◌, subst, inl, inr, arith, eq-eqb, eqb-true, ◌↔◌, nat_le, filter, AllByRecursion, Contains, bytes_eq}
+use Rattle.round_laws.proofs.Prelude.{cases_Bool, false≢true, and_parts, and_from, bytes_eq-Decides, behind, mapped, ClientSession, is_write, Op, Read, Write, Has, Apart, Apart-from_IsDistinct, ops_in, written, Committed, Map, initial, set}
+use Rattle.round_laws.proofs.Prelude.{Replays, Has-written, IsLearnt, IsSoundLog, IsLearntLog, of_kept, kept, of_mapped, op_of_node, first_or_behind, test_le, after, had_or_written, Alone, nodes_of, in_order, ops_of_nodes, committed_within}
+use Rattle.round_laws.proofs.Prelude.{one_writer, all_writes, AreLearnt, numbers_of, split, snapshot_reads, snapshot_reads_behind, is_in, Keeper, Leads, itself, by_session, by_read, is_fence, is_value, bare, bare_node, map_behind, values}
 use Rattle.round_laws.proofs.Comes.{Comes}
 use Rattle.round_laws.proofs.Comes as comes
 use Rattle.round_laws.proofs.Joined.{placed, opens_at, bare_at, bare_nodes, one_at, not_true}

@@ -1,23 +1,9 @@
 -- The nodes of logs that are joined, and of a log whose opening has its fence alone.
-use Rattle.std.proofs.Common.{◌≡◌, ℕ, suc, ◌+◌, ◌<◌, ◌≤◌, Bool, true, false, eqb, ◌&&◌, not, cond, List, [], ◌∷◌, ◌++◌, length, map, refl, sym, ap, ◌∙◌, subst, inl, inr, arith, eq-eqb, eqb-true, ne_eqb, append-nil}
-use Rattle.std.specs.Prelude.{◌↔◌, nat_le}
-use Rattle.std.specs.List.{filter, AllByRecursion, Contains}
-use Rattle.std.proofs.lemmas.Bool.{cases_Bool, cases_order, false≢true, or_cases, or_left}
-use Rattle.std.proofs.lemmas.List.{map-append}
-use Rattle.std.proofs.lemmas.List.Elements.{Contains-append_left, Contains-append_right, Contains-append_cases}
-use Rattle.list_lemmas.proofs.Elements.{behind, mapped}
-use Rattle.session_log.specs.Text.{ClientSession, Transaction}
-use Rattle.serializability.proofs.Places.{Has, Apart, Has-from_Contains, each_from_append, each_from_map, each_from_filter}
-use Rattle.log_definitions.specs.Unknown.{is_committed}
-use Rattle.log_definitions.specs.Serial.{Committed, committed_of}
-use Rattle.log_definitions.proofs.Members.{member, each_weaker}
-use Rattle.log_definitions.proofs.Settled.{IsLearnt}
-use Rattle.log_laws.proofs.Sessions.{Firsts, node_at, nodes_from, nodes_of, all_stand, unshift}
-use Rattle.log_laws.proofs.Lists.{of_kept, kept, of_mapped, of_flat, in_flat, first_or_behind}
-use Rattle.log_laws.proofs.Moments.{place_in, one_node}
-use Rattle.log_laws.proofs.Orders.{InOrder, pair_at}
-use Rattle.log_laws.proofs.Txns.{AreLearnt, numbers_of}
-use Rattle.round_laws.specs.Rounds.{Keeper, bare_txn, bare_txns, bare, bare_node, txns_at, has_number, joined}
+use Rattle.round_laws.proofs.Prelude.{◌≡◌, ℕ, suc, ◌+◌, ◌<◌, ◌≤◌, Bool, true, false, eqb, ◌&&◌, not, cond, List, [], ◌∷◌, ◌++◌, length, map, refl, sym, ap, ◌∙◌, subst, inl, inr, arith, eq-eqb, eqb-true, ne_eqb, append-nil, ◌↔◌, nat_le}
+use Rattle.round_laws.proofs.Prelude.{filter, AllByRecursion, Contains, cases_Bool, cases_order, false≢true, or_cases, or_left, map-append, Contains-append_left, Contains-append_right, Contains-append_cases, behind, mapped, ClientSession}
+use Rattle.round_laws.proofs.Prelude.{Transaction, Has, Apart, Has-from_Contains, each_from_append, each_from_map, each_from_filter, is_committed, Committed, committed_of, member, each_weaker, IsLearnt, Firsts, node_at, nodes_from}
+use Rattle.round_laws.proofs.Prelude.{nodes_of, all_stand, unshift, of_kept, kept, of_mapped, of_flat, in_flat, first_or_behind, place_in, one_node, InOrder, pair_at, AreLearnt, numbers_of, Keeper, bare_txn, bare_txns, bare, bare_node}
+use Rattle.round_laws.proofs.Prelude.{txns_at, has_number, joined}
 
 -- ---- places of a session's nodes
 -- from 1 on, and no more than its transactions

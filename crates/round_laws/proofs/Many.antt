@@ -1,16 +1,10 @@
 -- The laws of runs of many rounds, by repetition. They hold of each kind of order that those of two hold of.
-use Rattle.std.proofs.Common.{◌≡◌, ℕ, Bool, List, [], ◌∷◌, inl, inr, subst}
-use Rattle.std.specs.List.{AllByRecursion}
-use Rattle.log_definitions.specs.Serial.{committed_in}
+use Rattle.round_laws.proofs.Prelude.{◌≡◌, ℕ, Bool, List, [], ◌∷◌, inl, inr, subst, AllByRecursion, committed_in, IsLearnt, IsSoundLog, IsLearntLog, HasOrder, HasPointOrder, Keeper, run_of_two, IsClosed, IsLeft, values, IsSeam, IsInTime}
+use Rattle.round_laws.proofs.Prelude.{BothOfRun, RunOfBoth, Round, run_of, IsRound, IsHeld, first_leaves, newest_leaves, others_leave, AreRounds, EachOfRun, RunOfEach}
 use Rattle.log_definitions.proofs.Renumbered.{Orders}
-use Rattle.log_definitions.proofs.Settled.{IsLearnt}
 use Rattle.log_definitions.proofs.OnlyTaken.{orders_from_serial, serial_from_orders}
-use Rattle.log_laws.specs.Logs.{IsSoundLog, IsLearntLog, HasOrder}
 use Rattle.log_laws.proofs.Txns.{joined as join_each}
-use Rattle.level_laws.specs.Snapshot.{HasPointOrder}
 use Rattle.level_laws.proofs.Resolved.{of_same_nodes}
-use Rattle.round_laws.specs.Rounds.{Keeper, run_of_two, IsClosed, IsLeft, values, IsSeam, IsInTime, BothOfRun, RunOfBoth}
-use Rattle.round_laws.specs.Runs.{Round, run_of, IsRound, IsHeld, first_leaves, newest_leaves, others_leave, AreRounds, EachOfRun, RunOfEach}
 use Rattle.round_laws.proofs.Serial.{pair_of, orders_of_rounds, order_of_run}
 use Rattle.round_laws.proofs.Snapshots.{points_of_rounds, points_of_run}
 use Rattle.round_laws.proofs.Steps.{closed_run, still_left, newly_left, in_time_run}

@@ -1,33 +1,12 @@
 -- The nodes of split logs: names of locks, what the two halves of a node do, and what comes before what.
-use Rattle.std.proofs.Common.{◌≡◌, ◌≢◌, ◌⊎◌, ℕ, ◌<◌, Bool, true, false, List, [], ◌∷◌, ◌++◌, map, None, refl, sym, ap, ◌∙◌, subst, inl, inr, arith}
-use Rattle.std.specs.List.{flat_map, AllByRecursion, Contains}
-use Rattle.std.specs.Str.{bytes_eq}
-use Rattle.std.proofs.lemmas.Bool.{cases_Bool, false≢true}
-use Rattle.std.proofs.lemmas.List.Concat.{flat_map-append}
-use Rattle.std.proofs.lemmas.List.Elements.{Contains-append_left, Contains-append_right, Contains-append_cases}
-use Rattle.std.proofs.lemmas.Slice.Eq.{bytes_eq-Decides}
-use Rattle.list_lemmas.proofs.Elements.{behind, mapped}
-use Rattle.session_log.specs.Text.{ClientSession, Transaction, key_of, is_write}
-use Rattle.session_log.specs.declared.session.Op.{Op}
-use Rattle.session_log.specs.declared.session.Op.TheVariants.{Read, Write}
-use Rattle.session_log.specs.declared.session.Outcome.TheVariants.{Commit}
-use Rattle.serializability.proofs.Places.{Has, Has-from_Contains}
-use Rattle.log_definitions.specs.Unknown.{txns_in, ops_in}
-use Rattle.log_definitions.specs.WellFormed.{written}
-use Rattle.log_definitions.specs.Serial.{Committed, Map, initial, set, Replays}
-use Rattle.log_definitions.proofs.Members.{member, each_member, themselves}
-use Rattle.log_definitions.proofs.Chosen.{Has-written}
-use Rattle.log_laws.proofs.Lines.{EachPair}
-use Rattle.log_laws.proofs.Lists.{of_mapped, of_flat, in_flat, first_or_behind}
-use Rattle.log_laws.proofs.Replay.{after, Replays-append, after-append, had_or_written}
-use Rattle.log_laws.proofs.Moments.{Alone}
-use Rattle.level_laws.specs.Snapshot.{snapshot_reads, snapshot_reads_behind, rest, is_in}
-use Rattle.level_laws.specs.Split.{Locks, HasWritten, AreFresh, locked_writes, take_lock, find_lock, start_ops, end_ops}
+use Rattle.round_laws.proofs.Prelude.{◌≡◌, ◌≢◌, ◌⊎◌, ℕ, ◌<◌, Bool, true, false, List, [], ◌∷◌, ◌++◌, map, None, refl, sym, ap, ◌∙◌, subst, inl, inr, arith, flat_map, AllByRecursion, Contains, bytes_eq, cases_Bool, false≢true}
+use Rattle.round_laws.proofs.Prelude.{flat_map-append, Contains-append_left, Contains-append_right, Contains-append_cases, bytes_eq-Decides, behind, mapped, ClientSession, Transaction, key_of, is_write, Op, Read, Write, Commit, Has}
+use Rattle.round_laws.proofs.Prelude.{Has-from_Contains, txns_in, ops_in, written, Committed, Map, initial, set, Replays, member, each_member, themselves, Has-written, EachPair, of_mapped, of_flat, in_flat, first_or_behind, after}
+use Rattle.round_laws.proofs.Prelude.{Replays-append, after-append, had_or_written, Alone, snapshot_reads, snapshot_reads_behind, rest, is_in, Locks, HasWritten, AreFresh, locked_writes, take_lock, find_lock, start_ops, end_ops, start_node}
+use Rattle.round_laws.proofs.Prelude.{end_node, both_nodes, Leads, itself, by_session, by_read, IsLeft}
 use Rattle.level_laws.proofs.Parts.{after_rest, written_snapshot, each_snapshot, each_rest, each_locked, locked_once, OtherKey, in_one}
 use Rattle.level_laws.proofs.Fresh.{some_are_fresh}
 use Rattle.level_laws.proofs.Named.{has_key, has_written}
-use Rattle.level_laws.proofs.Nodes.{start_node, end_node, both_nodes}
-use Rattle.round_laws.specs.Rounds.{Leads, itself, by_session, by_read, IsLeft}
 use Rattle.round_laws.proofs.Comes.{Comes, comes_trans, LeftAs}
 use Rattle.round_laws.proofs.Comes as comes
 use Rattle.round_laws.proofs.Given.{writes_replay}

@@ -1,14 +1,6 @@
 -- The operations of a run are those of its rounds.
-use Rattle.std.proofs.Common.{◌⊎◌, ℕ, eqb, cond, not, map, List, [], ◌∷◌, ◌++◌, refl, sym, subst, inl, inr, arith}
-use Rattle.std.specs.List.{filter, Contains}
-use Rattle.std.proofs.lemmas.Bool.{cases_Bool}
-use Rattle.std.proofs.lemmas.List.Elements.{Contains-append_left, Contains-append_right, Contains-append_cases}
-use Rattle.list_lemmas.proofs.Elements.{behind}
-use Rattle.session_log.specs.Text.{ClientSession, Transaction}
-use Rattle.session_log.specs.declared.session.Op.{Op}
-use Rattle.log_definitions.specs.Unknown.{txns_in, ops_in}
-use Rattle.log_laws.proofs.Lists.{of_kept, of_mapped, of_flat, in_flat, first_or_behind}
-use Rattle.round_laws.specs.Rounds.{Keeper, is_fence, bare_txn, bare_txns, bare, txns_at, has_number, joined, run_of_two}
+use Rattle.round_laws.proofs.Prelude.{◌⊎◌, ℕ, eqb, cond, not, map, List, [], ◌∷◌, ◌++◌, refl, sym, subst, inl, inr, arith, filter, Contains, cases_Bool, Contains-append_left, Contains-append_right, Contains-append_cases, behind}
+use Rattle.round_laws.proofs.Prelude.{ClientSession, Transaction, Op, txns_in, ops_in, of_kept, of_mapped, of_flat, in_flat, first_or_behind, Keeper, is_fence, bare_txn, bare_txns, bare, txns_at, has_number, joined, run_of_two}
 
 -- an operation, where it stands
 record Stands (ss : List ClientSession) (o : Op) : Type 0 where

@@ -1,19 +1,7 @@
 -- Lines of nodes of which those of the one list come before those of the other.
-use Rattle.std.proofs.Common.{◌≡◌, ℕ, ◌<◌, ◌≤◌, Bool, true, false, not, List, ◌++◌, Some, sym, ap, ◌∙◌, subst, inl, inr, arith}
-use Rattle.std.specs.Prelude.{◌↔◌, slice_get}
-use Rattle.std.specs.List.{filter, AllByRecursion, Contains}
-use Rattle.std.proofs.lemmas.Bool.{cases_Bool, cases_order, false≢true}
-use Rattle.std.proofs.lemmas.List.Concat.{flat_map-append}
-use Rattle.std.proofs.lemmas.List.Elements.{Contains-append_left, Contains-append_right, Contains-append_cases}
-use Rattle.list_lemmas.proofs.Elements.{contains_at}
-use Rattle.log_definitions.specs.Serial.{Committed, Map, Replays}
-use Rattle.log_definitions.proofs.Members.{member, each_member}
-use Rattle.log_laws.proofs.Lines.{MayPrecede, EachPair, IsLine, ops_along}
-use Rattle.log_laws.proofs.Lists.{of_kept, kept, ops_within, EachPair-filter, EachPair-append, parts}
-use Rattle.log_laws.proofs.Orders.{pair_at}
-use Rattle.log_laws.proofs.Replay.{Agrees, replays_agree, after, Replays-append}
-use Rattle.log_laws.proofs.Moments.{place_in, one_node, Alone}
-use Rattle.log_laws.proofs.Shifted.{HasLine}
+use Rattle.round_laws.proofs.Prelude.{◌≡◌, ℕ, ◌<◌, ◌≤◌, Bool, true, false, not, List, ◌++◌, Some, sym, ap, ◌∙◌, subst, inl, inr, arith, ◌↔◌, slice_get, filter, AllByRecursion, Contains, cases_Bool, cases_order, false≢true, flat_map-append}
+use Rattle.round_laws.proofs.Prelude.{Contains-append_left, Contains-append_right, Contains-append_cases, contains_at, Committed, Map, Replays, member, each_member, MayPrecede, EachPair, IsLine, ops_along, of_kept, kept, ops_within}
+use Rattle.round_laws.proofs.Prelude.{EachPair-filter, EachPair-append, parts, pair_at, Agrees, replays_agree, after, Replays-append, place_in, one_node, Alone, HasLine}
 use Rattle.round_laws.proofs.Comes.{Comes, comes_ahead, pairs_from}
 
 -- the test tells the two lists apart; the nodes of the one come before those of the other; and behind each line of the one the other

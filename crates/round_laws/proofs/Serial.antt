@@ -1,25 +1,8 @@
 -- The law of two rounds for serial orders.
-use Rattle.std.proofs.Common.{◌≡◌, ◌⊎◌, ℕ, ◌<◌, ◌≤◌, true, false, not, cond, List, [], ◌∷◌, ◌++◌, map, refl, sym, ap, ◌∙◌, subst, inl, inr, arith, append-nil}
-use Rattle.std.specs.Prelude.{◌↔◌}
-use Rattle.std.specs.List.{filter, AllByRecursion, Contains}
-use Rattle.std.proofs.lemmas.List.Elements.{Contains-append_left, Contains-append_right, Contains-append_cases}
-use Rattle.list_lemmas.proofs.Elements.{behind, mapped}
-use Rattle.session_log.specs.Moments.{is_earlier}
-use Rattle.session_log.specs.Text.{ClientSession, is_write}
-use Rattle.session_log.specs.declared.session.Op.{Op}
-use Rattle.session_log.specs.declared.session.Op.TheVariants.{Read, Write}
-use Rattle.serializability.proofs.Places.{Apart}
-use Rattle.log_definitions.specs.Unknown.{committed_ops}
-use Rattle.log_definitions.specs.Serial.{Committed, committed_in, Map, initial}
-use Rattle.log_laws.proofs.Sessions.{Firsts, nodes_of, unshift, early, early_is, late_is}
-use Rattle.log_laws.specs.Logs.{HasOrder}
-use Rattle.log_laws.proofs.Lines.{MayPrecede, ops_along}
-use Rattle.log_laws.proofs.Lists.{of_kept, of_mapped, ops_within, first_or_behind, mapped_within}
-use Rattle.log_laws.proofs.Replay.{after}
-use Rattle.log_laws.proofs.Identities.{ops_of_nodes}
-use Rattle.log_laws.proofs.Txns.{AreLearnt, numbers_of}
-use Rattle.log_laws.proofs.Shifted.{HasLine, line_where_same, line_where_order, nodes_are}
-use Rattle.round_laws.specs.Rounds.{Keeper, Leads, is_fence, bare, bare_node, run_of_two, IsLeft, values, IsSeam, IsInTime, OrdersOfRounds, OrderOfRun}
+use Rattle.round_laws.proofs.Prelude.{◌≡◌, ◌⊎◌, ℕ, ◌<◌, ◌≤◌, true, false, not, cond, List, [], ◌∷◌, ◌++◌, map, refl, sym, ap, ◌∙◌, subst, inl, inr, arith, append-nil, ◌↔◌, filter, AllByRecursion, Contains, Contains-append_left}
+use Rattle.round_laws.proofs.Prelude.{Contains-append_right, Contains-append_cases, behind, mapped, is_earlier, ClientSession, is_write, Op, Read, Write, Apart, committed_ops, Committed, committed_in, Map, initial, Firsts, nodes_of}
+use Rattle.round_laws.proofs.Prelude.{unshift, early, early_is, late_is, HasOrder, MayPrecede, ops_along, of_kept, of_mapped, ops_within, first_or_behind, mapped_within, after, ops_of_nodes, AreLearnt, numbers_of, HasLine, line_where_same}
+use Rattle.round_laws.proofs.Prelude.{line_where_order, nodes_are, Keeper, Leads, is_fence, bare, bare_node, run_of_two, IsLeft, values, IsSeam, IsInTime, OrdersOfRounds, OrderOfRun}
 use Rattle.round_laws.proofs.Comes.{Comes, by_session, itself, Carries, carried, wider, comes_trans, LeftAs}
 use Rattle.round_laws.proofs.Two.{IsAlike, Rounds, rounds_of_whole, whole_of_rounds}
 use Rattle.round_laws.proofs.Joined.{joined_nodes, first_early, placed, joined_learnt, cut_of, opens_at, bare_numbers, bare_learnt, not_true}

@@ -1,36 +1,15 @@
 -- The law of two rounds for snapshot and prefix orders: that for serial orders, of the halves of their nodes.
-use Rattle.std.proofs.Common.{◌≡◌, ◌≢◌, ◌⊎◌, ℕ, ◌+◌, ◌*◌, ◌-◌, ◌<◌, ◌≤◌, Bool, true, false, eqb, not, List, [], ◌∷◌, ◌++◌, map, refl, sym, ap, ◌∙◌, subst, inl, inr, arith, append-nil, eqb-true}
-use Rattle.std.specs.Prelude.{◌↔◌, nat_le}
-use Rattle.std.specs.List.{filter, AllByRecursion, Contains}
-use Rattle.std.proofs.lemmas.Bool.{cases_Bool, false≢true, and_parts}
-use Rattle.std.proofs.lemmas.List.Concat.{flat_map-append}
-use Rattle.std.proofs.lemmas.List.Elements.{Contains-append_left, Contains-append_right, Contains-append_cases}
-use Rattle.list_lemmas.proofs.Elements.{behind, mapped}
-use Rattle.session_log.specs.Moments.{is_earlier}
-use Rattle.session_log.specs.Text.{ClientSession, is_write}
-use Rattle.session_log.specs.declared.session.Op.{Op}
-use Rattle.session_log.specs.declared.session.Op.TheVariants.{Read, Write}
-use Rattle.serializability.proofs.Places.{Apart}
-use Rattle.log_definitions.specs.Unknown.{ops_in}
-use Rattle.log_definitions.specs.Serial.{Committed, Map, initial, Replays}
-use Rattle.log_definitions.proofs.Members.{member}
-use Rattle.log_definitions.proofs.Settled.{IsLearnt}
-use Rattle.log_laws.proofs.Sessions.{Firsts, nodes_of, unshift, early, early_is, late_is}
-use Rattle.log_laws.specs.Logs.{IsSoundLog, IsLearntLog}
-use Rattle.log_laws.proofs.Lines.{MayPrecede, IsLine, ops_along}
-use Rattle.log_laws.proofs.Lists.{of_kept, of_mapped, of_flat, op_of_node, NodeWith, node_with, first_or_behind, test_le}
-use Rattle.log_laws.proofs.Replay.{after, had_or_written}
-use Rattle.log_laws.proofs.Moments.{Alone}
-use Rattle.log_laws.proofs.Identities.{ops_of_nodes, committed_within, ordered_node}
-use Rattle.log_laws.proofs.Txns.{split as split_each, joined as join_each}
-use Rattle.log_laws.proofs.Shifted.{HasLine, line_where_same, line_where_order}
-use Rattle.level_laws.specs.Snapshot.{snapshot_reads, HasPointOrder}
-use Rattle.level_laws.specs.Split.{Locks, AreFresh, start_ops, end_ops, split}
-use Rattle.level_laws.proofs.Nodes.{start_node, end_node, both_nodes, split_nodes}
+use Rattle.round_laws.proofs.Prelude.{◌≡◌, ◌≢◌, ◌⊎◌, ℕ, ◌+◌, ◌*◌, ◌-◌, ◌<◌, ◌≤◌, Bool, true, false, eqb, not, List, [], ◌∷◌, ◌++◌, map, refl, sym, ap, ◌∙◌, subst, inl, inr, arith, append-nil, eqb-true, ◌↔◌, nat_le, filter, AllByRecursion}
+use Rattle.round_laws.proofs.Prelude.{Contains, cases_Bool, false≢true, and_parts, flat_map-append, Contains-append_left, Contains-append_right, Contains-append_cases, behind, mapped, is_earlier, ClientSession, is_write, Op, Read, Write}
+use Rattle.round_laws.proofs.Prelude.{Apart, ops_in, Committed, Map, initial, Replays, member, IsLearnt, Firsts, nodes_of, unshift, early, early_is, late_is, IsSoundLog, IsLearntLog, MayPrecede, IsLine, ops_along, of_kept, of_mapped}
+use Rattle.round_laws.proofs.Prelude.{of_flat, op_of_node, NodeWith, node_with, first_or_behind, test_le, after, had_or_written, Alone, ops_of_nodes, committed_within, ordered_node, split as split_each, HasLine, line_where_same}
+use Rattle.round_laws.proofs.Prelude.{line_where_order, snapshot_reads, HasPointOrder, Locks, AreFresh, start_ops, end_ops, start_node, end_node, both_nodes, split_nodes, Keeper, Leads, is_fence, is_value, bare_node, run_of_two, values}
+use Rattle.round_laws.proofs.Prelude.{IsInTime, BothOfRun, RunOfBoth}
+use Rattle.log_laws.proofs.Txns.{joined as join_each}
+use Rattle.level_laws.specs.Split.{split}
 use Rattle.level_laws.proofs.Parted.{by_test_learnt}
 use Rattle.level_laws.proofs.Orders.{every, snapshot_by_split, never_later}
 use Rattle.level_laws.proofs.Legal.{split_numbers}
-use Rattle.round_laws.specs.Rounds.{Keeper, Leads, is_fence, is_value, bare_node, run_of_two, values, IsInTime, BothOfRun, RunOfBoth}
 use Rattle.round_laws.proofs.Comes.{Comes, by_session, itself, Carries, carried, wider, comes_trans, LeftAs}
 use Rattle.round_laws.proofs.Two.{IsAlike, Rounds, rounds_of_whole, whole_of_rounds}
 use Rattle.round_laws.proofs.Joined.{first_early, placed, cut_of, opens_at, not_true}

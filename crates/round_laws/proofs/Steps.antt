@@ -1,21 +1,7 @@
 -- What a round leaves of what holds of the run before it.
-use Rattle.std.proofs.Common.{◌≡◌, ℕ, ◌<◌, true, false, eqb, not, List, [], ◌∷◌, ◌++◌, map, refl, sym, ap, ◌∙◌, subst, inl, inr, arith}
-use Rattle.std.specs.Prelude.{nat_le}
-use Rattle.std.specs.List.{Contains}
-use Rattle.std.proofs.lemmas.Bool.{cases_Bool, false≢true, and_parts}
-use Rattle.std.proofs.lemmas.List.Elements.{Contains-append_left, Contains-append_right, Contains-append_cases}
-use Rattle.list_lemmas.proofs.Elements.{behind, mapped}
-use Rattle.session_log.specs.Moments.{is_earlier}
-use Rattle.session_log.specs.Text.{ClientSession, is_write}
-use Rattle.session_log.specs.declared.session.Op.TheVariants.{Read, Write}
-use Rattle.log_definitions.specs.Unknown.{committed_ops}
-use Rattle.log_definitions.specs.Serial.{Committed, committed_in}
-use Rattle.log_definitions.proofs.Members.{member}
-use Rattle.log_laws.proofs.Lists.{of_kept, kept, of_mapped, op_of_node, first_or_behind, test_le}
-use Rattle.log_laws.proofs.Sessions.{nodes_of, unshift}
-use Rattle.log_laws.proofs.Identities.{ops_of_nodes}
-use Rattle.log_laws.proofs.Shifted.{nodes_are}
-use Rattle.round_laws.specs.Rounds.{Keeper, Leads, itself, by_session, by_read, bare, bare_node, run_of_two, IsClosed, IsReadLast, IsLeft, IsSeam, IsInTime}
+use Rattle.round_laws.proofs.Prelude.{◌≡◌, ℕ, ◌<◌, true, false, eqb, not, List, [], ◌∷◌, ◌++◌, map, refl, sym, ap, ◌∙◌, subst, inl, inr, arith, nat_le, Contains, cases_Bool, false≢true, and_parts, Contains-append_left}
+use Rattle.round_laws.proofs.Prelude.{Contains-append_right, Contains-append_cases, behind, mapped, is_earlier, ClientSession, is_write, Read, Write, committed_ops, Committed, committed_in, member, of_kept, kept, of_mapped, op_of_node}
+use Rattle.round_laws.proofs.Prelude.{first_or_behind, test_le, nodes_of, unshift, ops_of_nodes, nodes_are, Keeper, Leads, itself, by_session, by_read, bare, bare_node, run_of_two, IsClosed, IsReadLast, IsLeft, IsSeam, IsInTime}
 use Rattle.round_laws.proofs.Joined.{placed, cut_of, opens_at, not_true}
 use Rattle.round_laws.proofs.Given.{reads_within, Leading, leads_carried, leads_wider, learnt_of, rest_nodes, opens_where, second_nodes}
 use Rattle.round_laws.proofs.Serial.{Pair, pair_of, closing_opens}

@@ -1,28 +1,11 @@
 -- Rounds without their moments are rounds.
-use Rattle.std.proofs.Common.{◌≡◌, ℕ, eqb, ◌||◌, not, List, [], ◌∷◌, ◌++◌, map, refl, sym, ap, ◌∙◌, subst, inl, inr, arith}
-use Rattle.std.specs.List.{filter, AllByRecursion, Contains}
-use Rattle.std.proofs.lemmas.Bool.{cases_Bool}
-use Rattle.std.proofs.lemmas.List.{map-append}
-use Rattle.list_lemmas.proofs.Elements.{mapped}
-use Rattle.session_log.specs.Moments.{is_earlier}
-use Rattle.session_log.specs.Text.{ClientSession, Transaction}
-use Rattle.session_log.specs.declared.session.Op.TheVariants.{Read, Write}
-use Rattle.serializability.proofs.Places.{each_from_map}
-use Rattle.log_definitions.specs.Unknown.{txns_in, committed_ops}
-use Rattle.log_definitions.specs.Serial.{Committed, committed_in}
-use Rattle.log_definitions.proofs.Members.{each_member}
-use Rattle.log_definitions.proofs.Settled.{IsLearnt}
-use Rattle.log_laws.specs.Logs.{IsSoundLog, IsLearntLog}
-use Rattle.log_laws.proofs.Lists.{of_mapped}
-use Rattle.log_laws.proofs.Sessions.{nodes_of}
-use Rattle.level_laws.specs.Without.{without, session_without, without_moments}
-use Rattle.level_laws.proofs.Without.{txns_without, committed_ops_stay, stays_sound}
+use Rattle.round_laws.proofs.Prelude.{◌≡◌, ℕ, eqb, ◌||◌, not, List, [], ◌∷◌, ◌++◌, map, refl, sym, ap, ◌∙◌, subst, inl, inr, arith, filter, AllByRecursion, Contains, cases_Bool, map-append, mapped, is_earlier, ClientSession, Transaction}
+use Rattle.round_laws.proofs.Prelude.{Read, Write, each_from_map, txns_in, committed_ops, Committed, committed_in, each_member, IsLearnt, IsSoundLog, IsLearntLog, of_mapped, nodes_of, without, session_without, without_moments, txns_without}
+use Rattle.round_laws.proofs.Prelude.{committed_ops_stay, stays_sound, Keeper, Leads, bare_txns, bare, bare_node, txns_at, has_number, joined, run_of_two, IsClosed, IsOpened, IsReadLast, IsLeft, values, IsInTime, Round, run_of, IsRound}
+use Rattle.round_laws.proofs.Prelude.{IsHeld, first_leaves, newest_leaves, others_leave, Fits, AreRounds, AreInTime, RunAsEach, nodes_are}
 use Rattle.level_laws.proofs.Timeless.{node_without, committed_without}
-use Rattle.round_laws.specs.Rounds.{Keeper, Leads, bare_txns, bare, bare_node, txns_at, has_number, joined, run_of_two, IsClosed, IsOpened, IsReadLast, IsLeft, values, IsInTime}
-use Rattle.round_laws.specs.Runs.{Round, run_of, IsRound, IsHeld, first_leaves, newest_leaves, others_leave, Fits, AreRounds, AreInTime, RunAsEach}
 use Rattle.round_laws.proofs.Given.{Leading, leads_carried, learnt_of, bare_set}
 use Rattle.round_laws.proofs.Joined.{bare_learnt}
-use Rattle.log_laws.proofs.Shifted.{nodes_are}
 use Rattle.round_laws.proofs.Many.{IsKind, each_of_run, run_of_each}
 
 -- ---- logs joined

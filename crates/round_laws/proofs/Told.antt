@@ -1,21 +1,11 @@
 -- Logs whose unknown outcomes all count as committed, and their runs.
-use Rattle.std.proofs.Common.{◌≡◌, ◌⊎◌, ℕ, Bool, true, false, eqb, ◌||◌, cond, not, List, [], ◌∷◌, ◌++◌, map, refl, sym, ap, ◌∙◌, subst, inl, inr, arith, eqb-true, eq-eqb}
-use Rattle.std.specs.List.{filter, list_any, AllByRecursion, Contains}
-use Rattle.std.proofs.lemmas.Bool.{cases_Bool, false≢true, or_cases, or_left}
-use Rattle.std.proofs.lemmas.List.{map-append}
-use Rattle.std.proofs.lemmas.List.Elements.{Contains-append_left, Contains-append_right, Contains-append_cases}
-use Rattle.list_lemmas.proofs.Elements.{behind, mapped}
-use Rattle.session_log.specs.Text.{ClientSession, Transaction, is_write, is_commit, is_unknown as is_unknown_outcome}
-use Rattle.session_log.specs.declared.session.Op.{Op}
-use Rattle.session_log.specs.declared.session.Op.TheVariants.{Read}
+use Rattle.round_laws.proofs.Prelude.{◌≡◌, ◌⊎◌, ℕ, Bool, true, false, eqb, ◌||◌, cond, not, List, [], ◌∷◌, ◌++◌, map, refl, sym, ap, ◌∙◌, subst, inl, inr, arith, eqb-true, eq-eqb, filter, list_any, AllByRecursion, Contains, cases_Bool}
+use Rattle.round_laws.proofs.Prelude.{false≢true, or_cases, or_left, map-append, Contains-append_left, Contains-append_right, Contains-append_cases, behind, mapped, ClientSession, Transaction, is_write, is_commit, Op, Read, Commit, Abort}
+use Rattle.round_laws.proofs.Prelude.{Unknown, is_unknown, settled_as, settle, settled, taken, resolved, committed_ops, IsNeeded, IsWithin, member, each_member, themselves, any_member, of_kept, kept, of_mapped, first_or_behind, Keeper}
+use Rattle.round_laws.proofs.Prelude.{bare_txn, bare_txns, bare, txns_at, has_number, joined, run_of_two, AllTaken, BeginsWithWrites, IsSettled}
+use Rattle.session_log.specs.Text.{is_unknown as is_unknown_outcome}
 use Rattle.session_log.specs.declared.session.Outcome.{Outcome}
-use Rattle.session_log.specs.declared.session.Outcome.TheVariants.{Commit, Abort, Unknown}
-use Rattle.log_definitions.specs.Unknown.{is_unknown, settled_as, settle, settled, taken, resolved, committed_ops, IsNeeded, IsWithin}
-use Rattle.log_definitions.proofs.Members.{member, each_member, themselves, any_member}
 use Rattle.log_definitions.proofs.Taken.{Counts, EachCounted, each_of_committed, each_from_committed, taken_least, taken_closed, resolved_is}
-use Rattle.log_laws.proofs.Lists.{of_kept, kept, of_mapped, first_or_behind}
-use Rattle.round_laws.specs.Rounds.{Keeper, bare_txn, bare_txns, bare, txns_at, has_number, joined, run_of_two}
-use Rattle.round_laws.specs.Unknown.{AllTaken, BeginsWithWrites, IsSettled}
 
 -- ---- each unknown outcome counts as committed
 abbrev told_txns : List Transaction → List Transaction

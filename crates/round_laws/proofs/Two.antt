@@ -1,22 +1,7 @@
 -- The law of two rounds over lists of nodes.
-use Rattle.std.proofs.Common.{◌≡◌, ◌≢◌, ◌⊎◌, ℕ, ◌+◌, ◌-◌, Bool, true, false, List, [], ◌∷◌, ◌++◌, map, refl, sym, ap, ◌∙◌, subst, inl, inr, arith}
-use Rattle.std.specs.Prelude.{◌↔◌}
-use Rattle.std.specs.List.{AllByRecursion, Contains}
-use Rattle.std.proofs.lemmas.Bool.{false≢true}
-use Rattle.std.proofs.lemmas.List.Elements.{Contains-append_left, Contains-append_right}
-use Rattle.list_lemmas.proofs.Elements.{behind, mapped}
-use Rattle.session_log.specs.Moments.{is_earlier}
-use Rattle.session_log.specs.declared.session.Op.{Op}
-use Rattle.session_log.specs.declared.session.Op.TheVariants.{Read, Write}
-use Rattle.log_definitions.specs.Serial.{Committed, Map, initial}
-use Rattle.log_definitions.proofs.Members.{member, each_member}
-use Rattle.log_laws.proofs.Sessions.{Firsts, unshift}
-use Rattle.log_laws.proofs.Lines.{MayPrecede, EachPair, IsLine, ops_along}
-use Rattle.log_laws.proofs.Lists.{NodeWith, node_with, first_or_behind}
-use Rattle.log_laws.proofs.Replay.{Agrees, after, had_or_written}
-use Rattle.log_laws.proofs.Moments.{Alone}
-use Rattle.log_laws.proofs.Identities.{ops_unshifted}
-use Rattle.log_laws.proofs.Shifted.{HasLine, lines_unshifted}
+use Rattle.round_laws.proofs.Prelude.{◌≡◌, ◌≢◌, ◌⊎◌, ℕ, ◌+◌, ◌-◌, Bool, true, false, List, [], ◌∷◌, ◌++◌, map, refl, sym, ap, ◌∙◌, subst, inl, inr, arith, ◌↔◌, AllByRecursion, Contains, false≢true, Contains-append_left}
+use Rattle.round_laws.proofs.Prelude.{Contains-append_right, behind, mapped, is_earlier, Op, Read, Write, Committed, Map, initial, member, each_member, Firsts, unshift, MayPrecede, EachPair, IsLine, ops_along, NodeWith, node_with}
+use Rattle.round_laws.proofs.Prelude.{first_or_behind, Agrees, after, had_or_written, Alone, ops_unshifted, HasLine, lines_unshifted}
 use Rattle.round_laws.proofs.Comes.{Comes, LeftAs, left_as}
 use Rattle.round_laws.proofs.Seam.{Seam, apart_in, line_of_first, line_of_both}
 

@@ -1,16 +1,9 @@
 -- The laws of runs of rounds with unknown outcomes.
-use Rattle.std.proofs.Common.{◌≡◌, List, [], ◌∷◌, map, refl, sym, ap, ◌∙◌, subst}
-use Rattle.std.specs.List.{AllByRecursion}
-use Rattle.log_definitions.specs.Unknown.{resolved}
-use Rattle.log_definitions.proofs.Settled.{learnt_resolved}
+use Rattle.round_laws.proofs.Prelude.{◌≡◌, List, [], ◌∷◌, map, refl, sym, ap, ◌∙◌, subst, AllByRecursion, resolved, learnt_resolved, Keeper, run_of_two, Round, run_of, AllTaken, IsSettled, ResolvedRun, EachOfUnknown, RunOfUnknown}
+use Rattle.round_laws.proofs.Prelude.{UnknownAsEach, without_moments, resolved_without}
 use Rattle.log_laws.proofs.Resolved.{nodes_stay}
-use Rattle.round_laws.specs.Rounds.{Keeper, run_of_two}
-use Rattle.round_laws.specs.Runs.{Round, run_of}
-use Rattle.round_laws.specs.Unknown.{AllTaken, IsSettled, ResolvedRun, EachOfUnknown, RunOfUnknown, UnknownAsEach}
 use Rattle.round_laws.proofs.Many.{IsKind, each_of_run, run_of_each}
 use Rattle.round_laws.proofs.Timeless.{run_as_each}
-use Rattle.level_laws.specs.Without.{without_moments}
-use Rattle.level_laws.proofs.Without.{resolved_without}
 use Rattle.round_laws.proofs.Told.{run_taken, run_resolved}
 
 -- ---- the run

@@ -1,35 +1,17 @@
 -- The locks' names are new, and a log can hold them.
-use Rattle.std.proofs.Common.{◌≡◌, ℕ, zero, suc, ◌+◌, ◌≤◌, ◌<◌, ◌^◌, Bool, true, false, ◌&&◌, List, [], ◌∷◌, length, map, ◌⊎◌, ap, sym, ◌∙◌, inl, inr, arith, subst, Option, Some, None, cond}
-use Rattle.std.specs.Prelude.{replicate, nat_lt, nat_le, ◌↔◌, decimal}
-use Rattle.std.specs.List.{AllByRecursion, Contains, list_all}
-use Rattle.std.proofs.lemmas.Bool.{cases_Bool, and_from}
-use Rattle.std.proofs.lemmas.List.{length-append}
+use Rattle.splitting.proofs.Prelude.{◌≡◌, ℕ, zero, suc, ◌+◌, ◌≤◌, ◌<◌, ◌^◌, Bool, true, false, ◌&&◌, List, [], ◌∷◌, length, map, ◌⊎◌, ap, sym, ◌∙◌, inl, inr, arith, subst, Option, Some, None, cond, replicate, nat_lt, nat_le, ◌↔◌, decimal}
+use Rattle.splitting.proofs.Prelude.{AllByRecursion, Contains, list_all, cases_Bool, and_from, length-append, and_first, IsKey, is_key_byte, is_key, ClientSession, IsLegal, IsLegalOp, IsLegalTxn, key_of, Op, Read, Write, place_of, Has}
+use Rattle.splitting.proofs.Prelude.{Has-from_Contains, place_within, ops_in, txns_in, resolved, written, keys_in, first_seen, number_in, member, of_mapped, of_flat, test_le, le_true, HasSnapshotOrder, HasPrefixOrder, Locks, HasKey}
+use Rattle.splitting.proofs.Prelude.{split_writers, no_locks, leading, most_leading, longest, largest, lock_key, marks, is_long, name_in, widest, locks_of, refusal, no_room, HasRoom}
 use Rattle.std.proofs.Math.ListN.{length-replicate}
-use Rattle.list_lemmas.proofs.Bools.{and_first}
-use Rattle.session_log.specs.Key.{IsKey, is_key_byte, is_key}
-use Rattle.session_log.specs.Text.{ClientSession, IsLegal, IsLegalOp, IsLegalTxn, key_of}
-use Rattle.session_log.specs.declared.session.Op.{Op}
-use Rattle.session_log.specs.declared.session.Op.TheVariants.{Read, Write}
-use Rattle.serializability.specs.Replay.{place_of}
-use Rattle.serializability.proofs.Places.{Has, Has-from_Contains, place_within}
-use Rattle.log_definitions.specs.Unknown.{ops_in, txns_in, resolved}
-use Rattle.log_definitions.specs.WellFormed.{written, keys_in, first_seen}
-use Rattle.log_definitions.specs.Numbers.{number_in}
 use Rattle.log_definitions.proofs.Keys.{Listed, all_listed, number_below, same_number}
-use Rattle.log_definitions.proofs.Members.{member}
 use Rattle.log_definitions.proofs.Settled.{learnt_resolved, ops_resolved}
 use Rattle.log_laws.specs.Logs.{IsLog, HasOrder}
-use Rattle.log_laws.proofs.Lists.{of_mapped, of_flat, test_le}
-use Rattle.log_laws.proofs.Sessions.{le_true}
-use Rattle.level_laws.specs.Snapshot.{HasSnapshotOrder, HasPrefixOrder}
-use Rattle.level_laws.specs.Split.{Locks, HasKey, split_writers}
 use Rattle.level_laws.proofs.Legal.{split_is_log, resolved_split_is_log}
 use Rattle.level_laws.proofs.Points.{snapshot_by_writers}
 use Rattle.level_laws.proofs.Fresh.{same_behind}
-use Rattle.level_laws.specs.Prefix.{no_locks}
 use Rattle.level_laws.proofs.Prefix.{prefix_by_split, bare_split_log}
 use Rattle.level_laws.proofs.Doubled.{same_place}
-use Rattle.splitting.specs.Locks.{leading, most_leading, longest, largest, lock_key, marks, is_long, name_in, widest, locks_of, refusal, no_room, HasRoom}
 use Rattle.splitting.specs.Laws.{LocksAreFresh, SnapshotBySplitLog, SnapshotByResolvedSplit, PrefixBySplitLog}
 use Rattle.splitting.specs.declared.room.NoRoom.{NoRoom}
 use Rattle.splitting.proofs.Greatest.{within_greatest}

@@ -1,15 +1,6 @@
 -- The greatest of what operations have.
-use Rattle.std.proofs.Common.{◌≡◌, ℕ, ◌+◌, ◌≤◌, max, List, [], ◌∷◌, ◌++◌, length, map, refl, ap, ◌∙◌, inl, inr, arith}
-use Rattle.std.specs.List.{Contains}
-use Rattle.session_log.specs.declared.session.Op.{Op}
-use Rattle.log_definitions.specs.WellFormed.{written}
-use Rattle.session_log.specs.Text.{key_of}
-use Rattle.log_definitions.proofs.Scanning.{written-append}
-use Rattle.std.proofs.lemmas.List.{length-append}
-use Rattle.log_laws.proofs.Lists.{first_or_behind}
-use Rattle.splitting.specs.Locks.{greatest, wid_of, leading, most_leading, most_marks}
-use Rattle.splitting.specs.Room.{Finds}
-use Rattle.splitting.specs.declared.survey.Survey.{Survey}
+use Rattle.splitting.proofs.Prelude.{◌≡◌, ℕ, ◌+◌, ◌≤◌, max, List, [], ◌∷◌, ◌++◌, length, map, refl, ap, ◌∙◌, inl, inr, arith, Contains, Op, written, key_of, written-append, length-append, first_or_behind, greatest, wid_of, leading}
+use Rattle.splitting.proofs.Prelude.{most_leading, most_marks, Finds, Survey}
 
 pub within_greatest : {X : Type 0} (f : X → ℕ) (xs : List X) (x : X) → Contains xs x → f x ≤ greatest (map f xs)
 within_greatest f [] x c = absurd (omega (arith, c.1))

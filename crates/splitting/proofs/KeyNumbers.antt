@@ -1,20 +1,8 @@
 -- The numbers of keys, as the keys are found.
-use Rattle.std.proofs.Common.{◌≡◌, ℕ, ◌+◌, Bool, true, false, cond, ◌||◌, List, [], ◌∷◌, ◌++◌, length, map, refl, sym, ap, ◌∙◌, inl, inr, arith, subst, Option, Some, None}
-use Rattle.std.specs.List.{list_any}
-use Rattle.std.specs.Option.{is_some, unwrap_or}
-use Rattle.std.specs.Str.{bytes_eq}
-use Rattle.std.proofs.lemmas.Bool.{cases_Bool, false≢true, cond-true, cond-false, or_left, or_right}
-use Rattle.std.proofs.lemmas.List.{length-append, map-append}
+use Rattle.splitting.proofs.Prelude.{◌≡◌, ℕ, ◌+◌, Bool, true, false, cond, ◌||◌, List, [], ◌∷◌, ◌++◌, length, map, refl, sym, ap, ◌∙◌, inl, inr, arith, subst, Option, Some, None, list_any, is_some, unwrap_or, bytes_eq, cases_Bool}
+use Rattle.splitting.proofs.Prelude.{false≢true, cond-true, cond-false, or_left, or_right, length-append, map-append, bytes_eq-Decides, bytes_flip, key_of, Op, first_seen, number_in, AreNumbers, Adds, number_by, KeyNumbers}
 use Rattle.std.proofs.lemmas.List.Folds.{list_any-append}
-use Rattle.std.proofs.lemmas.Slice.Eq.{bytes_eq-Decides}
-use Rattle.list_lemmas.proofs.Comparisons.{bytes_flip}
-use Rattle.session_log.specs.Text.{key_of}
-use Rattle.session_log.specs.declared.session.Op.{Op}
-use Rattle.log_definitions.specs.WellFormed.{first_seen}
-use Rattle.log_definitions.specs.Numbers.{number_in}
 use Rattle.key_tables.specs.Parts.{held_by}
-use Rattle.splitting.specs.Names.{AreNumbers, Adds, number_by}
-use Rattle.splitting.specs.declared.numbers.KeyNumbers.{KeyNumbers}
 
 -- ---- the number of a key among those before it, and of one that is none of them
 number_in_front : (keys more : List (List ℕ)) (key : List ℕ) → list_any (bytes_eq key) keys ≡ true → number_in (keys ++ more) key ≡ number_in keys key

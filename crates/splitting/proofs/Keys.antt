@@ -1,20 +1,11 @@
 -- The keys that were written before.
-use Rattle.std.proofs.Common.{◌≡◌, ℕ, Bool, true, false, not, cond, ◌||◌, List, [], ◌∷◌, refl, sym, ap, ◌∙◌, inl, inr, arith, nat_cmp, subst}
-use Rattle.std.specs.Cmp.Lexicographic.{slice_cmp}
+use Rattle.splitting.proofs.Prelude.{◌≡◌, ℕ, Bool, true, false, not, cond, ◌||◌, List, [], ◌∷◌, refl, sym, ap, ◌∙◌, inl, inr, arith, subst, slice_cmp, bytes_eq, cases_Bool, bytes_eq-Decides, Op, Read, Write, is_in, first_writes_behind, has}
+use Rattle.splitting.proofs.Prelude.{cond_or, bytes_flip}
+use Rattle.std.proofs.Common.{nat_cmp}
 use Rattle.std.specs.BTreeSet.{BTreeSet, UpdatesBy}
-use Rattle.std.specs.Str.{bytes_eq}
-use Rattle.std.proofs.lemmas.Bool.{cases_Bool}
 use Rattle.std.proofs.lemmas.Map.Text.{is_eq-slice_cmp}
-use Rattle.std.proofs.lemmas.Slice.Eq.{bytes_eq-Decides}
 use Rattle.std.specs.declared.cmp.Ordering.{Ordering}
-use Rattle.session_log.specs.declared.session.Op.{Op}
-use Rattle.session_log.specs.declared.session.Op.TheVariants.{Read, Write}
-use Rattle.level_laws.specs.Snapshot.{is_in}
-use Rattle.level_laws.specs.Split.{first_writes_behind}
-use Rattle.splitting.specs.Halves.{has}
 use denote.Ref.{Bor}
-use Rattle.list_lemmas.proofs.Bools.{cond_or}
-use Rattle.list_lemmas.proofs.Comparisons.{bytes_flip}
 
 abbrev ref : List ℕ → Bor (List ℕ)
 ref key = record { ref_ptr = (0, 0); now = key }

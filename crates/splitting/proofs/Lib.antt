@@ -1,3 +1,4 @@
+mod Prelude
 pub mod Greatest
 pub mod Decimals
 pub mod KeyNumbers

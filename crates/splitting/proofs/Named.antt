@@ -1,16 +1,6 @@
 -- Names and room, operation by operation.
-use Rattle.std.proofs.Common.{◌≡◌, ℕ, ◌+◌, ◌≤◌, ◌<◌, List, [], ◌∷◌, ◌++◌, length, sym, ap, ◌∙◌, arith, subst, get_or, drop}
-use Rattle.std.proofs.lemmas.List.{length-append, drop_more}
-use Rattle.session_log.specs.declared.session.Op.{Op}
-use Rattle.session_log.specs.declared.session.Op.TheVariants.{Read, Write}
-use Rattle.serializability.proofs.Places.{each_of_append}
-use Rattle.log_definitions.specs.WellFormed.{written}
-use Rattle.session_log.specs.Text.{key_of}
-use Rattle.log_definitions.proofs.Scanning.{written-append}
-use Rattle.level_laws.specs.Split.{Locks}
-use Rattle.splitting.specs.Names.{name_by}
-use Rattle.splitting.specs.Room.{Fit, GiveBehind, AreNamed}
-use Rattle.splitting.specs.declared.names.Names.{Names}
+use Rattle.splitting.proofs.Prelude.{◌≡◌, ℕ, ◌+◌, ◌≤◌, ◌<◌, List, [], ◌∷◌, ◌++◌, length, sym, ap, ◌∙◌, arith, subst, get_or, drop, length-append, drop_more, Op, Read, Write, each_of_append, written, key_of, written-append, Locks, name_by}
+use Rattle.splitting.proofs.Prelude.{Fit, GiveBehind, AreNamed, Names}
 
 -- ---- room
 pub fit_read : (names : Names) (last : ℕ) (key : List ℕ) (wid : ℕ) (ops : List Op) → Fit names last (Read key wid ∷ ops) → Fit names last ops

@@ -1,14 +1,5 @@
 -- What one operation adds without locks.
-use Rattle.std.proofs.Common.{◌≡◌, ℕ, true, false, ◌||◌, List, [], ◌∷◌, ◌++◌, sym, ap, ◌∙◌, append_assoc}
-use Rattle.std.specs.List.{list_any}
-use Rattle.std.specs.Ordering.{is_eq, nat_cmp}
-use Rattle.std.specs.Cmp.Lexicographic.{slice_cmp}
-use Rattle.std.specs.Str.{bytes_eq}
-use Rattle.session_log.specs.declared.session.Op.{Op}
-use Rattle.session_log.specs.declared.session.Op.TheVariants.{Read, Write}
-use Rattle.level_laws.specs.Snapshot.{is_in, snapshot_reads_behind, rest_behind}
-use Rattle.splitting.specs.Halves.{has}
-use Rattle.splitting.specs.Sides.{AreSides}
+use Rattle.splitting.proofs.Prelude.{◌≡◌, ℕ, true, false, ◌||◌, List, [], ◌∷◌, ◌++◌, sym, ap, ◌∙◌, append_assoc, list_any, is_eq, nat_cmp, slice_cmp, bytes_eq, Op, Read, Write, is_in, snapshot_reads_behind, rest_behind, has, AreSides}
 use Rattle.splitting.specs.declared.bare.Sides.{Sides}
 
 pub no_sides : (s : Sides) → s.written.keys ≡ [] → s.reads.items ≡ [] → s.rest.items ≡ [] → (ops : List Op) → AreSides ops s ops

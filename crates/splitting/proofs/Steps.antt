@@ -1,18 +1,7 @@
 -- What one operation adds.
-use Rattle.std.proofs.Common.{◌≡◌, ℕ, true, false, ◌||◌, List, [], ◌∷◌, ◌++◌, map, refl, sym, ap, ◌∙◌, append_assoc}
-use Rattle.std.specs.List.{list_any}
-use Rattle.std.specs.Ordering.{is_eq, nat_cmp}
-use Rattle.std.specs.Cmp.Lexicographic.{slice_cmp}
-use Rattle.std.specs.Str.{bytes_eq}
-use Rattle.session_log.specs.declared.session.Op.{Op}
-use Rattle.session_log.specs.declared.session.Op.TheVariants.{Read, Write}
-use Rattle.level_laws.specs.Snapshot.{is_in, snapshot_reads_behind, rest_behind}
-use Rattle.level_laws.specs.Split.{Locks, first_writes_behind, take_lock, find_lock}
-use Rattle.splitting.specs.Names.{lock_by}
-use Rattle.splitting.specs.Room.{AreNamed}
-use Rattle.splitting.specs.Halves.{Lists, with_behind, lists_in, has, ComesTo}
+use Rattle.splitting.proofs.Prelude.{◌≡◌, ℕ, true, false, ◌||◌, List, [], ◌∷◌, ◌++◌, map, refl, sym, ap, ◌∙◌, append_assoc, list_any, is_eq, nat_cmp, slice_cmp, bytes_eq, Op, Read, Write, is_in, snapshot_reads_behind, rest_behind, Locks}
+use Rattle.splitting.proofs.Prelude.{first_writes_behind, take_lock, find_lock, lock_by, AreNamed, Lists, with_behind, lists_in, has, ComesTo, Names}
 use Rattle.splitting.specs.declared.halves.Halves.{Halves}
-use Rattle.splitting.specs.declared.names.Names.{Names}
 use Rattle.splitting.proofs.Keys.{in_already, firsts_same}
 
 pub lists : {a b c d e f g h : List Op} → a ≡ b → c ≡ d → e ≡ f → g ≡ h → let l : Lists = record { reads = a; takes = c; finds = e; rest = g } in let m : Lists = record { reads = b; takes = d; finds = f; rest = h } in l ≡ m

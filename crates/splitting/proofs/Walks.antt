@@ -1,16 +1,8 @@
 -- Steps of the loops over transactions and sessions.
-use Rattle.std.proofs.Common.{◌≡◌, ℕ, ◌+◌, ◌<◌, List, [], ◌∷◌, ◌++◌, length, map, take, get_or, refl, ap, ◌∙◌, arith}
-use Rattle.std.specs.List.{flat_map}
-use Rattle.std.proofs.lemmas.List.{length-append, map-append, append-nil}
+use Rattle.splitting.proofs.Prelude.{◌≡◌, ℕ, ◌+◌, ◌<◌, List, [], ◌∷◌, ◌++◌, length, map, take, get_or, refl, ap, ◌∙◌, arith, flat_map, length-append, map-append, append-nil, front_more, ClientSession, Op, ops_in, written, written-append}
+use Rattle.splitting.proofs.Prelude.{ops_by}
 use Rattle.std.proofs.lemmas.List.Concat.{flat_map-append}
-use Rattle.list_lemmas.proofs.Lists.{front_more}
-use Rattle.session_log.specs.Text.{ClientSession}
-use Rattle.session_log.specs.declared.session.Op.{Op}
-use Rattle.log_definitions.specs.Unknown.{ops_in}
-use Rattle.log_definitions.specs.WellFormed.{written}
-use Rattle.log_definitions.proofs.Scanning.{written-append}
 use Rattle.log_laws.proofs.Identities.{ops_in-cons}
-use Rattle.splitting.specs.Halves.{ops_by}
 
 -- ---- the front of a list with one more
 

@@ -1,23 +1,7 @@
 -- The whole log.
-use Rattle.std.proofs.Common.{◌≡◌, ℕ, ◌+◌, ◌≤◌, Bool, true, false, cond, List, [], ◌∷◌, ◌++◌, length, refl, sym, ap, ◌∙◌, inl, arith, subst, append_assoc, Option, Some, None}
-use Rattle.std.specs.Prelude.{nat_eq, nat_lt, decimal}
-use Rattle.std.specs.List.{IsDistinct}
-use Rattle.std.specs.Option.{option_map_or}
-use Rattle.std.proofs.lemmas.List.{length-append}
-use Rattle.session_log.specs.Text.{ClientSession, key_of}
-use Rattle.serializability.specs.Replay.{place_of}
-use Rattle.serializability.proofs.Places.{Has, Apart, Apart-from_IsDistinct, Apart-not_both, place_of-back, place_of-here}
-use Rattle.log_definitions.specs.Unknown.{ops_in}
-use Rattle.log_definitions.specs.WellFormed.{written, keys_in}
-use Rattle.log_definitions.specs.Numbers.{number_in}
-use Rattle.log_definitions.proofs.Members.{each_member}
-use Rattle.level_laws.specs.Split.{Locks}
-use Rattle.splitting.specs.Locks.{longest, largest, marks, is_long, name_in, widest, lock_key, locks_of, refusal, no_room, HasRoom}
-use Rattle.splitting.specs.Names.{number_by, name_by, NumbersWhere}
-use Rattle.splitting.specs.Room.{Finds, Fit, GiveBehind, AreNamed}
-use Rattle.splitting.specs.declared.numbers.KeyNumbers.{KeyNumbers}
-use Rattle.splitting.specs.declared.names.Names.{Names}
-use Rattle.splitting.specs.declared.survey.Survey.{Survey}
+use Rattle.splitting.proofs.Prelude.{◌≡◌, ℕ, ◌+◌, ◌≤◌, Bool, true, false, cond, List, [], ◌∷◌, ◌++◌, length, refl, sym, ap, ◌∙◌, inl, arith, subst, append_assoc, Option, Some, None, nat_eq, nat_lt, decimal, IsDistinct, option_map_or}
+use Rattle.splitting.proofs.Prelude.{length-append, ClientSession, key_of, place_of, Has, Apart, Apart-from_IsDistinct, Apart-not_both, place_of-back, place_of-here, ops_in, written, keys_in, number_in, each_member, Locks, longest, largest}
+use Rattle.splitting.proofs.Prelude.{marks, is_long, name_in, widest, lock_key, locks_of, refusal, no_room, HasRoom, number_by, name_by, NumbersWhere, Finds, Fit, GiveBehind, AreNamed, KeyNumbers, Names, Survey}
 use Rattle.splitting.proofs.Greatest.{base, marks_are}
 use Rattle.splitting.proofs.KeyNumbers.{number_is}
 use Rattle.splitting.proofs.Fresh.{room_of, name_within}

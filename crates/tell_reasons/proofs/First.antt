@@ -1,21 +1,11 @@
 -- The first operation that passes.
-use Rattle.std.proofs.Common.{◌≡◌, ℕ, zero, suc, ◌+◌, ◌<◌, Bool, true, false, List, [], ◌∷◌, ◌++◌, length, map, take, get_or, slice_get, Option, None, Some, MatchOption, refl, sym, ap, ◌∙◌, subst, arith, inl, inr}
-use Rattle.std.specs.Prelude.{position}
-use Rattle.std.specs.List.{flat_map, zip, AllByRecursion}
-use Rattle.std.specs.Option.{option_map, option_or}
-use Rattle.std.proofs.lemmas.Bool.{cases_Bool}
-use Rattle.std.proofs.lemmas.List.{take_all}
+use Rattle.tell_reasons.proofs.Prelude.{◌≡◌, ℕ, zero, suc, ◌+◌, ◌<◌, Bool, true, false, List, [], ◌∷◌, ◌++◌, length, map, take, get_or, slice_get, Option, None, Some, MatchOption, refl, sym, ap, ◌∙◌, subst, arith, inl, inr, position}
+use Rattle.tell_reasons.proofs.Prelude.{flat_map, zip, AllByRecursion, option_map, option_or, cases_Bool, take_all, position-Some, slice_get-get_or, ClientSession, Transaction, Op, Read, TxnRow, Table, Fits, OpOf, first_given, first_of}
+use Rattle.tell_reasons.proofs.Prelude.{first_in, first_op, IsFirst}
 use Rattle.std.proofs.lemmas.List.Concat.{flat_map-append}
-use Rattle.std.proofs.lemmas.List.Quantifiers.{position-Some}
-use Rattle.std.proofs.lemmas.Option.{slice_get-get_or}
-use Rattle.session_log.specs.Text.{ClientSession, Transaction}
-use Rattle.session_log.specs.declared.session.Op.{Op}
-use Rattle.session_log.specs.declared.session.Op.TheVariants.{Read}
 use Rattle.serializability.proofs.Places.{each_from_append}
 use Rattle.log_definitions.specs.Unknown.{txns_in, ops_in}
-use Rattle.log_lines.specs.Rows.{TxnRow, Table, Fits}
 use Rattle.reasons.proofs.Positions.{none_passes}
-use Rattle.tell_reasons.specs.Writes.{OpOf, first_given, first_of, first_in, first_op, IsFirst}
 
 -- ---- of pairs, the first that gives something; P holds of the operations of those before it
 record At {X Y Z : Type 0} (P : Op → Type 0) (ops : X → List Op) (Gives : X → Y → Z → Type 0) (xs : List X) (ys : List Y) (z : Z) : Type 0 where

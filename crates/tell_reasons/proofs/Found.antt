@@ -1,8 +1,5 @@
 -- Items of lists.
-use Rattle.std.proofs.Common.{◌≡◌, ℕ, List, length, get_or, Option, None, Some, refl, sym, Bor, ltb-true, ltb-false}
-use Rattle.std.specs.Prelude.{slice_get, is_some, nat_lt, IfSome}
-use Rattle.std.specs.Option.{option_copied}
-use Rattle.std.proofs.lemmas.Option.{slice_get_past, slice_get_read, unwrap_or-slice_get}
+use Rattle.tell_reasons.proofs.Prelude.{◌≡◌, ℕ, List, length, get_or, Option, None, Some, refl, sym, Bor, ltb-true, ltb-false, slice_get, is_some, nat_lt, IfSome, option_copied, slice_get_past, slice_get_read, unwrap_or-slice_get}
 
 -- what a slice's `get` gives
 pub got : {X : Type 0} (xs : List X) (i : ℕ) (o : Option (Bor X)) → is_some o ≡ nat_lt i (length xs) → IfSome o (λ x. x.now ≡ get_or xs i x.now) → option_copied o ≡ slice_get xs i

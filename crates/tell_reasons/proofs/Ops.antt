@@ -1,14 +1,8 @@
 -- Operations of nodes, and the events that a history keeps of them.
-use Rattle.std.proofs.Common.{◌≡◌, ℕ, ◌≤◌, List, [], length, Option, None, Some, refl, sym, ap, ◌∙◌, arith, lt-ltb, get_or}
-use Rattle.std.specs.Prelude.{slice_get, unwrap_or, nat_lt}
+use Rattle.tell_reasons.proofs.Prelude.{◌≡◌, ℕ, ◌≤◌, List, [], length, Option, None, Some, refl, sym, ap, ◌∙◌, arith, lt-ltb, get_or, slice_get, unwrap_or, nat_lt, cond-true, position-Some, slice_get_past, slice_get-get_or, ClientSession}
+use Rattle.tell_reasons.proofs.Prelude.{Op, Read, Write}
 use Rattle.std.specs.Str.{bytes_eq}
-use Rattle.std.proofs.lemmas.Bool.{cond-true}
-use Rattle.std.proofs.lemmas.List.Quantifiers.{position-Some}
-use Rattle.std.proofs.lemmas.Option.{slice_get_past, slice_get-get_or}
 use Rattle.std.proofs.lemmas.Slice.Eq.{bytes_eq-Decides}
-use Rattle.session_log.specs.Text.{ClientSession}
-use Rattle.session_log.specs.declared.session.Op.{Op}
-use Rattle.session_log.specs.declared.session.Op.TheVariants.{Read, Write}
 use Rattle.serializability.specs.declared.event.Event.TheVariants as event
 use Rattle.log_definitions.specs.WellFormed.{keys_in}
 use Rattle.log_definitions.specs.Numbers.{number_in, log_of}

@@ -1,11 +1,7 @@
 -- The rows of nodes.
-use Rattle.std.proofs.Common.{◌≡◌, ℕ, zero, suc, ◌-◌, ◌<◌, List, [], ◌∷◌, map, Option, refl, ap, ◌∙◌, arith, slice_get, Bor}
-use Rattle.std.specs.Prelude.{slice_index_or}
-use Rattle.std.specs.Option.{option_map_or}
-use Rattle.log_lines.specs.Rows.{view_place, no_row}
+use Rattle.tell_reasons.proofs.Prelude.{◌≡◌, ℕ, zero, suc, ◌-◌, ◌<◌, List, [], ◌∷◌, map, Option, refl, ap, ◌∙◌, arith, slice_get, Bor, slice_index_or, option_map_or, view_place, no_row, PlacedHistory}
 use Rattle.log_lines.specs.Placed.{row_in}
 use Rattle.log_lines.specs.declared.places.TxnPlace.{TxnPlace}
-use Rattle.log_lines.specs.declared.placed.PlacedHistory.{PlacedHistory}
 
 listed : (rows : List (Bor TxnPlace)) (i : ℕ) → option_map_or (λ p. view_place p.now) (slice_get rows i) no_row ≡ slice_index_or (map (λ (p : Bor TxnPlace). view_place p.now) rows) i no_row
 listed [] i = refl

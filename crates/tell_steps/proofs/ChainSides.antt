@@ -1,19 +1,8 @@
 -- Chains by their heads, and their edges.
-use Rattle.std.proofs.Common.{◌≡◌, ◌≢◌, ℕ, ◌<◌, Some, List, length, get_or, refl, sym, ap, ◌∙◌, subst}
-use Rattle.std.specs.Prelude.{map, slice_get}
-use Rattle.std.specs.List.{All, Contains}
-use Rattle.std.proofs.lemmas.List.Elements.{All-contains}
-use Rattle.std.proofs.lemmas.Option.{slice_get-get_or}
-use Rattle.list_lemmas.proofs.Elements.{contains_at, item}
+use Rattle.tell_steps.proofs.Prelude.{◌≡◌, ◌≢◌, ℕ, ◌<◌, Some, List, length, get_or, refl, sym, ap, ◌∙◌, subst, map, slice_get, All, Contains, All-contains, slice_get-get_or, contains_at, item, Log, Edge, each_contained, heads, readers}
+use Rattle.tell_steps.proofs.Prelude.{tail, edges_to, ChainView, chain_view, chain_from, chains_in, ChainOrder, edges_in}
 use Rattle.list_lemmas.proofs.Elements as at
-use Rattle.serializability.specs.Log.{Log}
-use Rattle.serializability.specs.Polygraph.{Edge}
-use Rattle.reach_laws.proofs.Walks.{each_contained}
-use Rattle.chain_laws.specs.Chains.{heads, readers, tail, edges_to}
-use Rattle.write_chains.specs.Views.{ChainView, chain_view, chain_from, chains_in}
 use Rattle.write_chains.specs.declared.chain.Chain.{Chain}
-use Rattle.tell_reasons.specs.declared.why.ChainOrder.{ChainOrder}
-use Rattle.tell_steps.specs.Steps.{edges_in}
 use Rattle.tell_steps.proofs.Ledgers.{get_map, to_target}
 
 -- ---- the chain of a head

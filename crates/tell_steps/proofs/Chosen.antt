@@ -1,21 +1,9 @@
 -- The orders of the choices between chains.
-use Rattle.std.proofs.Common.{◌≡◌, ℕ, ◌+◌, ◌<◌, ◌≤◌, true, List, [], ◌∷◌, ◌++◌, refl, sym, ap, ◌∙◌, subst, arith}
-use Rattle.std.specs.Prelude.{map}
-use Rattle.std.specs.List.{flat_map, AllByRecursion, All, Contains}
-use Rattle.std.proofs.lemmas.List.{map-append}
-use Rattle.std.proofs.lemmas.List.Elements.{All-from_recursion}
-use Rattle.serializability.specs.Log.{Log}
+use Rattle.tell_steps.proofs.Prelude.{◌≡◌, ℕ, ◌+◌, ◌<◌, ◌≤◌, true, List, [], ◌∷◌, ◌++◌, refl, sym, ap, ◌∙◌, subst, arith, map, flat_map, AllByRecursion, All, Contains, map-append, All-from_recursion, Log, all_keys, committed}
+use Rattle.tell_steps.proofs.Prelude.{each_from_range, each_from_map, each_from_flat_map, so_far, In-filter, In-range, Contains-from_In, heads, is_head, chain_choice, chain_choices, chain_from, chains_in, ChainOrder, turned, IsOrder}
+use Rattle.tell_steps.proofs.Prelude.{choice_of, order_to, orders_among, orders_in}
 use Rattle.serializability.specs.Pairs.{pairs_of}
-use Rattle.serializability.specs.Polygraph.{all_keys, committed}
-use Rattle.serializability.proofs.Places.{each_from_range, each_from_map, each_from_flat_map}
-use Rattle.serializability.proofs.SoFar.{so_far}
 use Rattle.serializability.proofs.EachPair.{each_pair_from}
-use Rattle.known_graph.proofs.Listed.{In-filter, In-range, Contains-from_In}
-use Rattle.chain_laws.specs.Chains.{heads, is_head, chain_choice, chain_choices}
-use Rattle.write_chains.specs.Views.{chain_from, chains_in}
-use Rattle.tell_reasons.specs.declared.why.ChainOrder.{ChainOrder}
-use Rattle.tell_steps.specs.Steps.{turned, IsOrder}
-use Rattle.tell_steps.specs.Orders.{choice_of, order_to, orders_among, orders_in}
 
 abbrev pub of_key : Log → ℕ → List ChainOrder
 of_key log x = orders_among x (chains_in log x)

@@ -1,28 +1,10 @@
 -- A step by which no told edge stands is left out.
-use Rattle.std.proofs.Common.{◌≡◌, ◌⊎◌, ℕ, zero, suc, ◌+◌, ◌-◌, ◌<◌, ◌==◌, ◌&&◌, true, false, List, [], ◌∷◌, ◌++◌, length, get_or, map, Option, None, Some, refl, sym, ap, ◌∙◌, subst, inl, inr, arith, lt-ltb, eq-eqb}
-use Rattle.std.specs.Prelude.{slice_get, IfSome}
-use Rattle.std.specs.List.{Contains, remove}
-use Rattle.std.proofs.lemmas.Bool.{false≢true, or_parts}
-use Rattle.std.proofs.lemmas.List.{length_push}
-use Rattle.std.proofs.lemmas.List.Elements.{All-nil, All-cons, All-head, All-tail, Contains-append_left, Contains-push}
-use Rattle.std.proofs.lemmas.List.Folds.{list_any_at, list_any-append}
-use Rattle.list_lemmas.proofs.Elements.{behind, contains_at}
-use Rattle.reach_laws.proofs.Walks.{Contains-here}
+use Rattle.tell_steps.proofs.Prelude.{◌≡◌, ◌⊎◌, ℕ, zero, suc, ◌+◌, ◌-◌, ◌<◌, ◌==◌, ◌&&◌, true, false, List, [], ◌∷◌, ◌++◌, length, get_or, map, Option, None, Some, refl, sym, ap, ◌∙◌, subst, inl, inr, arith, lt-ltb, eq-eqb, slice_get}
+use Rattle.tell_steps.proofs.Prelude.{IfSome, Contains, remove, false≢true, or_parts, length_push, All-nil, All-cons, All-head, All-tail, Contains-append_left, Contains-push, list_any_at, list_any-append, behind, contains_at, Contains-here}
+use Rattle.tell_steps.proofs.Prelude.{ClientSession, HaveNone, Step, ChainOrder, Why, Known, Forced, Chosen, Item, Round, IsWhy, IsLineTold, ends, goes, OneHas, Stands, LineStands, orders_of, AreBuilt, AreStepsTold, round_view, RoundStands}
+use Rattle.tell_steps.proofs.Prelude.{AllStand, IsLeafTold, AreRoundsTold, AreAllTold, is_naming, is_named}
 use Rattle.desk.proofs.Seating.{snoc_get}
-use Rattle.session_log.specs.Text.{ClientSession}
-use Rattle.reasons.specs.Given.{HaveNone}
-use Rattle.tell_proposals.specs.declared.proposal.Step.{Step}
-use Rattle.tell_reasons.specs.declared.why.ChainOrder.{ChainOrder}
-use Rattle.tell_reasons.specs.declared.why.Why.{Why}
-use Rattle.tell_reasons.specs.declared.why.Why.TheVariants.{Known, Forced, Chosen}
-use Rattle.tell_steps.specs.declared.item.Item.{Item}
 use Rattle.tell_steps.specs.declared.item.Item.TheVariants as item
-use Rattle.tell_steps.specs.declared.rounds.Round.{Round}
-use Rattle.tell_steps.specs.Steps.{IsWhy, IsLineTold, ends, goes}
-use Rattle.tell_steps.specs.Lines.{OneHas, Stands, LineStands}
-use Rattle.tell_steps.specs.Ledgers.{orders_of, AreBuilt}
-use Rattle.tell_steps.specs.Told.{AreStepsTold}
-use Rattle.tell_steps.specs.Rounds.{round_view, RoundStands, AllStand, IsLeafTold, AreRoundsTold, AreAllTold, is_naming, is_named}
 use Rattle.tell_steps.proofs.Telling.{reason_not_none}
 
 -- ---- whether a step is named

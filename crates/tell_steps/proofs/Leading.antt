@@ -1,14 +1,7 @@
 -- Which edges lead from a chain to those behind it.
-use Rattle.std.proofs.Common.{◌≡◌, ℕ, ◌<◌, true, false, Some, List, [], ◌∷◌, length, get_or, sym, ap, ◌∙◌, eqb-true, eq-eqb, arith}
-use Rattle.std.specs.Prelude.{◌==◌}
-use Rattle.std.specs.List.{Contains, list_any}
-use Rattle.std.proofs.lemmas.Bool.{false≢true}
-use Rattle.std.proofs.lemmas.List.Folds.{list_any_at}
+use Rattle.tell_steps.proofs.Prelude.{◌≡◌, ℕ, ◌<◌, true, false, Some, List, [], ◌∷◌, length, get_or, sym, ap, ◌∙◌, eqb-true, eq-eqb, arith, ◌==◌, Contains, list_any, false≢true, list_any_at, slice_get-get_or, contains_at, mapped, Edge}
+use Rattle.tell_steps.proofs.Prelude.{edges_to}
 use Rattle.std.proofs.lemmas.Map.Views.{Contains-from_any}
-use Rattle.std.proofs.lemmas.Option.{slice_get-get_or}
-use Rattle.list_lemmas.proofs.Elements.{contains_at, mapped}
-use Rattle.serializability.specs.Polygraph.{Edge}
-use Rattle.chain_laws.specs.Chains.{edges_to}
 use Rattle.tell_steps.proofs.Ledgers.{get_map}
 
 pub any_edge : (t b n : ℕ) (rs : List ℕ) → list_any (λ y. y == n) rs ≡ true → Contains (edges_to t b rs) (n, b)

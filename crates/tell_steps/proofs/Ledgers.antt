@@ -1,39 +1,20 @@
 -- What a dead ledger of the chains' polygraph keeps, and what its walks and its cycle rest on.
-use Rattle.std.proofs.Common.{◌≡◌, ◌⊎◌, ℕ, zero, suc, ◌+◌, ◌<◌, true, List, [], ◌∷◌, ◌++◌, length, get_or, Option, None, Some, refl, sym, ap, ◌∙◌, subst, inl, inr, arith, append_assoc}
-use Rattle.std.specs.Prelude.{map, slice_get, unwrap_or}
-use Rattle.std.specs.List.{AllByRecursion, Contains, flat_map}
-use Rattle.std.proofs.lemmas.List.{append-nil}
-use Rattle.std.proofs.lemmas.List.Elements.{All-contains, Contains-append_cases, Contains-append_left, Contains-push}
-use Rattle.list_lemmas.proofs.Elements.{contains_at}
-use Rattle.session_log.specs.Text.{ClientSession}
-use Rattle.serializability.specs.Log.{Log}
+use Rattle.tell_steps.proofs.Prelude.{◌≡◌, ◌⊎◌, ℕ, zero, suc, ◌+◌, ◌<◌, true, List, [], ◌∷◌, ◌++◌, length, get_or, Option, None, Some, refl, sym, ap, ◌∙◌, subst, inl, inr, arith, append_assoc, map, slice_get, unwrap_or, AllByRecursion}
+use Rattle.tell_steps.proofs.Prelude.{Contains, flat_map, append-nil, All-contains, Contains-append_cases, Contains-append_left, Contains-push, contains_at, ClientSession, Log, Edge, Choice, Polygraph, arcs, all_keys, all_nodes, committed}
+use Rattle.tell_steps.proofs.Prelude.{each_from_range, each_from_filter, each_from_map, each_from_flat_map, each_from_append, Walk, IsCycle, each_contained, In, In-from_Contains, Contains-from_In, heads, is_head, next, readers, tail}
+use Rattle.tell_steps.proofs.Prelude.{edges_to, chain_first, inner_at, inner_edges, initial_first, chain_polygraph, chain_choices, HaveNone, log_of, side_of, kept_side, kept_after, edges_after, IsShown, AreShown, posts_in, Step, ChainOrder}
+use Rattle.tell_steps.proofs.Prelude.{turned, edges_in, IsOrder, choice_of, orders_in, kept_of, kept_order, step_view, shown_by, IsBetween, OneHas, Stands, LineStands, IsRound, AreEntries, kept_by, IsStep, IsClosed, AreBuilt}
 use Rattle.serializability.specs.Reads.{IsClean}
-use Rattle.serializability.specs.Polygraph.{Edge, Choice, Polygraph, arcs, all_keys, all_nodes, committed}
-use Rattle.serializability.proofs.Places.{each_from_range, each_from_filter, each_from_map, each_from_flat_map, each_from_append}
 use Rattle.serializability.proofs.Serial.{each_from_arcs, arc_cases}
-use Rattle.reach_laws.specs.Reach.{Walk, IsCycle}
-use Rattle.reach_laws.proofs.Walks.{each_contained}
-use Rattle.known_graph.proofs.Listed.{In, In-from_Contains, Contains-from_In}
-use Rattle.chain_laws.specs.Chains.{heads, is_head, next, readers, tail, edges_to, chain_first, inner_at, inner_edges, initial_first, chain_polygraph, chain_choices}
 use Rattle.chain_laws.proofs.Walks.{next_is}
-use Rattle.reasons.specs.Given.{HaveNone}
 use Rattle.reason_laws.proofs.Found.{arc_reason, inner_reason, initial_reason}
-use Rattle.log_definitions.specs.Numbers.{log_of}
 use Rattle.pruning_laws.specs.declared.side.Side.{Side}
 use Rattle.pruning_laws.specs.declared.side.Side.TheVariants.{One, Two}
 use Rattle.pruning_laws.specs.Forced.{edges_of, other}
 use Rattle.pruning_laws.specs.Ledger.{Entry}
 use Rattle.prune_ledger.specs.Posted.{Posted}
-use Rattle.prune_ledger.specs.Ledger.{side_of, kept_side, kept_after, edges_after, IsShown, AreShown}
-use Rattle.prune_ledger.specs.Pruned.{posts_in}
 use Rattle.prune_ledger.specs.declared.ledger.LedgerEntry.{LedgerEntry}
 use Rattle.prune_ledger.proofs.Sides.{side_is, choice_of_edge, kept_cases, no_kept}
-use Rattle.tell_proposals.specs.declared.proposal.Step.{Step}
-use Rattle.tell_reasons.specs.declared.why.ChainOrder.{ChainOrder}
-use Rattle.tell_steps.specs.Steps.{turned, edges_in, IsOrder}
-use Rattle.tell_steps.specs.Orders.{choice_of, orders_in, kept_of, kept_order, step_view, shown_by}
-use Rattle.tell_steps.specs.Lines.{IsBetween, OneHas, Stands, LineStands, IsRound}
-use Rattle.tell_steps.specs.Ledgers.{AreEntries, kept_by, IsStep, IsClosed, AreBuilt}
 use Rattle.tell_steps.specs.Ledgers as needed
 use Rattle.tell_steps.proofs.Chosen.{choices_are, all_orders, turned_order}
 

@@ -1,29 +1,14 @@
 -- How lines and steps are told.
-use Rattle.std.proofs.Common.{◌≡◌, ℕ, suc, ◌+◌, ◌-◌, ◌<◌, true, List, [], ◌∷◌, ◌++◌, length, get_or, take, drop, Option, Some, None, refl, sym, ap, ◌∙◌, subst, arith}
-use Rattle.std.specs.Prelude.{Vec, IfNone, reverse}
+use Rattle.tell_steps.proofs.Prelude.{◌≡◌, ℕ, suc, ◌+◌, ◌-◌, ◌<◌, true, List, [], ◌∷◌, ◌++◌, length, get_or, take, drop, Option, Some, None, refl, sym, ap, ◌∙◌, subst, arith, Vec, IfNone, reverse, Global, drop_more, drop_all, length_push}
+use Rattle.tell_steps.proofs.Prelude.{take_all, take_more, get_or_push, reverse-append, All-nil, All-cons, ClientSession, log_of, IsReason, HaveNone, goes_on, without_runs, ChainOrder, Why, Item, Round, IsOrder, IsWhy, IsLineTold, ends}
+use Rattle.tell_steps.proofs.Prelude.{goes, HasEnds, IsBetween, Stands, LineStands, IsRound, IsClosed, IsRoundTold, round_view, RoundStands, AllStand, cycle_round}
 use Rattle.std.specs.Option.{option_map}
-use Rattle.std.specs.declared.alloc.Global.{Global}
-use Rattle.std.proofs.lemmas.List.{drop_more, drop_all, length_push, take_all, take_more, get_or_push, reverse-append}
-use Rattle.std.proofs.lemmas.List.Elements.{All-nil, All-cons}
-use Rattle.session_log.specs.Text.{ClientSession}
-use Rattle.log_definitions.specs.Numbers.{log_of}
 use Rattle.reason_laws.specs.Reasons.{IsNode}
 use Rattle.reason_laws.proofs.Numbers.{node_from}
-use Rattle.reasons.specs.Given.{IsReason, HaveNone}
-use Rattle.reasons.specs.Runs.{goes_on, without_runs}
 use Rattle.reasons.specs.declared.reason.Reason.{Reason}
 use Rattle.reasons.specs.declared.reason.Reason.TheVariants as reason
 use Rattle.reasons.proofs.Sessions.{ends_of_session, runs_some, runs_each, runs_ends}
-use Rattle.tell_reasons.specs.declared.why.ChainOrder.{ChainOrder}
-use Rattle.tell_reasons.specs.declared.why.Why.{Why}
-use Rattle.tell_steps.specs.declared.item.Item.{Item}
 use Rattle.tell_steps.specs.declared.item.Item.TheVariants as item
-use Rattle.tell_steps.specs.declared.rounds.Round.{Round}
-use Rattle.tell_steps.specs.Steps.{IsOrder, IsWhy, IsLineTold, ends, goes}
-use Rattle.tell_steps.specs.Lines.{HasEnds, IsBetween, Stands, LineStands, IsRound}
-use Rattle.tell_steps.specs.Ledgers.{IsClosed}
-use Rattle.tell_steps.specs.Told.{IsRoundTold}
-use Rattle.tell_steps.specs.Rounds.{round_view, RoundStands, AllStand, cycle_round}
 
 -- where there is none, and the one thing follows, so does the other
 pub none_then : {X : Type 0} (o : Option X) (P Q : Type 0) → (P → Q) → IfNone o P → IfNone o Q

@@ -1,36 +1,16 @@
 -- How a tree is visited, depth first, and that its leaves are told, up to the greatest number.
-use Rattle.std.proofs.Common.{◌≡◌, ℕ, zero, suc, ◌+◌, ◌-◌, ◌*◌, ◌^◌, ◌<◌, ◌≤◌, Bool, cond, eqb, List, [], ◌∷◌, length, map, min, Option, None, Some, refl, sym, ap, ◌∙◌, subst, inl, inr, arith, ◌++◌, get_or, append_assoc}
-use Rattle.std.specs.Prelude.{slice_get, is_some, count_by, reverse}
-use Rattle.std.specs.Option.{option_map_or}
+use Rattle.tell_trees.proofs.Prelude.{◌≡◌, ℕ, zero, suc, ◌+◌, ◌-◌, ◌*◌, ◌^◌, ◌<◌, ◌≤◌, Bool, cond, eqb, List, [], ◌∷◌, length, map, min, Option, None, Some, refl, sym, ap, ◌∙◌, subst, inl, inr, arith, ◌++◌, get_or, append_assoc, slice_get}
+use Rattle.tell_trees.proofs.Prelude.{is_some, count_by, reverse, option_map_or, same_Some, slice_get_within, slice_get-get_or, same_item, some_at, Polygraph, Side, One, Two, Growth, Leaf, Inner, TreeNode, IsChild, IsRefutationTree}
+use Rattle.tell_trees.proofs.Prelude.{ClientSession, without_runs, ChainOrder, Round, RoundView, round_view, Waiting, order_at, told_leaves, leaves_round, cycle_in, leaf_count, IsGrown, IsVisited, IsTreeOver, round_at, All, sum_by}
+use Rattle.tell_trees.proofs.Prelude.{reverse-append, map-append, All-push, All-pop}
 use Rattle.std.proofs.lemmas.Bool.{cases_eq}
 use Rattle.std.proofs.lemmas.Bool.Decides.{nat_tests}
 use Rattle.std.proofs.lemmas.List.Sums.{sum_by-cons, sum_by_push}
 use Rattle.std.proofs.lemmas.Nat.{pow_pos, pow_below}
 use Rattle.std.proofs.Math.Pow.{add-lt-pow}
-use Rattle.std.proofs.lemmas.Option.{same_Some, slice_get_within, slice_get-get_or}
-use Rattle.list_lemmas.proofs.Elements.{same_item, some_at}
-use Rattle.serializability.specs.Polygraph.{Polygraph}
-use Rattle.pruning_laws.specs.declared.side.Side.{Side}
-use Rattle.pruning_laws.specs.declared.side.Side.TheVariants.{One, Two}
 use Rattle.cube_laws.specs.declared.tree.CubeDecision.{CubeDecision}
-use Rattle.cube_laws.specs.declared.tree.Growth.{Growth}
-use Rattle.cube_laws.specs.declared.tree.Growth.TheVariants.{Leaf, Inner}
-use Rattle.cube_laws.specs.declared.tree.TreeNode.{TreeNode}
-use Rattle.cube_laws.specs.Trees.{IsChild, IsRefutationTree}
-use Rattle.session_log.specs.Text.{ClientSession}
-use Rattle.reasons.specs.Runs.{without_runs}
-use Rattle.tell_reasons.specs.declared.why.ChainOrder.{ChainOrder}
-use Rattle.tell_steps.specs.declared.rounds.Round.{Round}
-use Rattle.tell_steps.specs.Rounds.{RoundView, round_view}
-use Rattle.tell_trees.specs.declared.visits.Waiting.{Waiting}
 use Rattle.tell_trees.specs.declared.TheConstants.{MAX_LEAVES}
-use Rattle.tell_trees.specs.Orders.{order_at}
-use Rattle.tell_trees.specs.Trees.{told_leaves, leaves_round}
-use Rattle.tell_trees.specs.Visits.{cycle_in, leaf_count, IsGrown, IsVisited, IsTreeOver, round_at}
 use Rattle.tell_trees.specs.Visits as visited
-use Rattle.std.specs.List.{All, sum_by}
-use Rattle.std.proofs.lemmas.List.{reverse-append, map-append}
-use Rattle.std.proofs.lemmas.List.Elements.{All-push, All-pop}
 
 -- the sum over the children
 abbrev pub over_children : Growth → (ℕ → ℕ) → ℕ

@@ -1,15 +1,13 @@
 -- The orders that a ledger leaves open and that the cubes of a tree's nodes decide, and what the edges of a leaf's cycle rest on.
-use Rattle.std.proofs.Common.{◌≡◌, ℕ, ◌+◌, Bool, true, false, cond, eqb, ◌&&◌, ◌||◌, List, [], ◌∷◌, map, refl, sym, ap, ◌∙◌, subst, length, inl, inr, arith}
+use Rattle.tell_trees.proofs.Prelude.{◌≡◌, ℕ, ◌+◌, Bool, true, false, cond, eqb, ◌&&◌, ◌||◌, List, [], ◌∷◌, map, refl, sym, ap, ◌∙◌, subst, length, inl, inr, arith, All, AllByRecursion, list_any, Contains, All-nil, All-cons, All-head}
+use Rattle.tell_trees.proofs.Prelude.{All-tail, All-from_recursion, ClientSession, Choice, Edge, Polygraph, One, Two, log_of, ChainOrder, IsOrder, edges_in, AreOrdersOf, names_choice, unsettled_from, no_order, sided, order_at, slice_get}
+use Rattle.tell_trees.proofs.Prelude.{slice_index, slice_index_or, get_or_from_slice_get, slice_get_within, behind, Side, TreeNode, cube_below, cube_of, IsChild, IsRefutationTree, Round, RoundView, round_view, RoundStands, AllStand}
+use Rattle.tell_trees.proofs.Prelude.{AreEntries, kept_by, AreVisits, IsVisited}
 use Rattle.std.proofs.Math.Bool.{or_assoc, or_comm, or-false}
-use Rattle.std.specs.List.{All, AllByRecursion, list_any, Contains}
-use Rattle.std.proofs.lemmas.List.Elements.{All-nil, All-cons, All-head, All-tail, All-from_recursion}
 use Rattle.list_lemmas.proofs.Bools.{either_way}
-use Rattle.session_log.specs.Text.{ClientSession}
 use Rattle.serializability.specs.Log.{Log}
 use Rattle.serializability.specs.Reads.{IsClean}
 use Rattle.serializability.proofs.Places.{each_from_append, each_of_map}
-use Rattle.serializability.specs.Polygraph.{Choice, Edge, Polygraph}
-use Rattle.pruning_laws.specs.declared.side.Side.TheVariants.{One, Two}
 use Rattle.pruning_laws.specs.Forced.{open_from, edges_of}
 use Rattle.pruning_laws.specs.Ledger.{Entry, same_side, sides_in}
 use Rattle.prune_ledger.specs.Ledger.{kept_side, kept_after, side_of, edges_after}
@@ -17,33 +15,18 @@ use Rattle.prune_ledger.specs.Pruned.{posts_in, Remainder}
 use Rattle.prune_ledger.specs.Pruned as pruned
 use Rattle.prune_ledger.specs.declared.ledger.LedgerEntry.{LedgerEntry}
 use Rattle.chain_laws.specs.Chains.{chain_choices}
-use Rattle.log_definitions.specs.Numbers.{log_of}
 use Rattle.reduction.specs.Outcome.{IsOpenHistory}
 use Rattle.cube_machine.proofs.Flags.{some_side}
-use Rattle.tell_reasons.specs.declared.why.ChainOrder.{ChainOrder}
 use Rattle.tell_steps.specs.Orders.{choice_of}
-use Rattle.tell_steps.specs.Steps.{IsOrder, edges_in}
-use Rattle.tell_trees.specs.Orders.{AreOrdersOf, names_choice, unsettled_from, no_order, sided, order_at}
-use Rattle.std.specs.Prelude.{slice_get, slice_index, slice_index_or}
-use Rattle.std.proofs.lemmas.Option.{get_or_from_slice_get, slice_get_within}
-use Rattle.list_lemmas.proofs.Elements.{behind}
-use Rattle.pruning_laws.specs.declared.side.Side.{Side}
 use Rattle.known_graph.proofs.Listed.{In, In-from_Contains, Contains-from_In}
 use Rattle.known_graph.proofs.Tested.{walk_of}
 use Rattle.prune_ledger.proofs.Sides.{side_is, choice_of_edge, kept_cases, no_kept}
 use Rattle.cube_laws.specs.Cubes.{Cube}
-use Rattle.cube_laws.specs.declared.tree.TreeNode.{TreeNode}
-use Rattle.cube_laws.specs.Trees.{cube_below, cube_of, IsChild, IsRefutationTree}
 use Rattle.cube_laws.proofs.Lists.{some_map, map_length}
 use Rattle.cube_laws.proofs.Upward.{cube_under, cube_top}
-use Rattle.tell_steps.specs.declared.rounds.Round.{Round}
-use Rattle.tell_steps.specs.Rounds.{RoundView, round_view, RoundStands, AllStand}
-use Rattle.tell_steps.specs.Ledgers.{AreEntries, kept_by}
 use Rattle.tell_steps.proofs.Chosen.{turned_order}
 use Rattle.tell_steps.proofs.Ledgers.{order_leads, Rests, AllRest, all_rest, round_stands}
 use Rattle.tell_steps.proofs.Telling.{runs_stand, runs_round}
-use Rattle.tell_trees.specs.Trees.{AreVisits}
-use Rattle.tell_trees.specs.Visits.{IsVisited}
 use Rattle.tell_trees.specs.Visits as visited
 
 -- ---- a side is kept where an entry speaks of its choice

@@ -1,27 +1,20 @@
 -- What the tests of a tree's nodes say, and that no order fits where there is a refutation tree.
-use Rattle.std.proofs.Common.{◌≡◌, ◌⊎◌, ℕ, zero, suc, ◌+◌, ◌<◌, ◌≤◌, Bool, true, false, cond, eqb, ◌&&◌, not, List, [], ◌∷◌, length, Option, Some, None, refl, sym, ap, ◌∙◌, subst, inl, inr, arith}
-use Rattle.std.specs.Prelude.{slice_get, nat_lt, is_none}
+use Rattle.tree_checks.proofs.Prelude.{◌≡◌, ◌⊎◌, ℕ, zero, suc, ◌+◌, ◌<◌, ◌≤◌, Bool, true, false, cond, eqb, ◌&&◌, not, List, [], ◌∷◌, length, Option, Some, None, refl, sym, ap, ◌∙◌, subst, inl, inr, arith, slice_get, nat_lt, is_none}
+use Rattle.tree_checks.proofs.Prelude.{false≢true, and_parts, and_from, or_cases, or_left, or_right, not-true, ltb-true, lt-ltb, eqb-true, eq-eqb, ne_eqb, not_from_false, Choice, Polygraph, KeepsOne, Fits, is_decided, CubeDecision}
+use Rattle.tree_checks.proofs.Prelude.{TreeNode, cube_below, cube_of, IsChild, IsSplit, IsBelow, IsRoot, IsRefutationTree, decides_side, is_child, has_child, is_below, is_root, is_grown, is_sound, cube_under, cube_top}
 use Rattle.std.specs.Option.{option_map_or}
-use Rattle.std.proofs.lemmas.Bool.{false≢true, and_parts, and_from, or_cases, or_left, or_right, not-true, ltb-true, lt-ltb, eqb-true, eq-eqb, ne_eqb, not_from_false}
 use Rattle.std.proofs.lemmas.Option.{same_Some}
-use Rattle.serializability.specs.Polygraph.{Choice, Polygraph, KeepsOne, Fits}
 use Rattle.pruning_laws.specs.declared.side.Side.{Side}
 use Rattle.pruning_laws.specs.declared.side.Side.TheVariants.{One, Two}
 use Rattle.pruning_laws.specs.Ledger.{same_side}
-use Rattle.cube_laws.specs.Cubes.{is_decided}
 use Rattle.cube_laws.proofs.Nodes.{get_below, each_at}
 use Rattle.cube_laws.proofs.Alive.{no_cycle}
 use Rattle.cube_laws.proofs.Fits.{KeepsCube, cube_opening, cube_split}
 use Rattle.pruning_laws.proofs.Ledgers.{same_is, same_itself}
-use Rattle.cube_laws.specs.declared.tree.CubeDecision.{CubeDecision}
 use Rattle.cube_laws.specs.declared.tree.Growth.{Growth}
 use Rattle.cube_laws.specs.declared.tree.Growth.TheVariants.{Leaf, Inner}
-use Rattle.cube_laws.specs.declared.tree.TreeNode.{TreeNode}
-use Rattle.cube_laws.specs.Trees.{cube_below, cube_of, IsChild, IsSplit, IsBelow, IsRoot, IsRefutationTree}
-use Rattle.tree_checks.specs.Checks.{decides_side, is_child, has_child, is_below, is_root, is_grown, is_sound}
 use Rattle.cube_laws.proofs.Lists.{within}
 use Rattle.cube_laws.proofs.Growths.{first_is, second_is}
-use Rattle.cube_laws.proofs.Upward.{cube_under, cube_top}
 
 lt_from : (a b : ℕ) → a < b → nat_lt a b ≡ true
 lt_from a b lt = lt-ltb a b lt

@@ -1,19 +1,9 @@
 -- What the cube of a node decides, and which edges are under it: by what it decides itself, and by its parent's cube.
-use Rattle.std.proofs.Common.{◌≡◌, ◌⊎◌, ℕ, ◌<◌, ◌≤◌, true, false, ◌||◌, List, [], Option, Some, None, refl, sym, ap, ◌∙◌, inl, inr}
-use Rattle.std.specs.Prelude.{slice_get}
-use Rattle.std.proofs.lemmas.Bool.{or_left}
-use Rattle.serializability.specs.Polygraph.{Edge, Polygraph}
-use Rattle.known_graph.specs.Tests.{has_edge}
+use Rattle.tree_checks.proofs.Prelude.{◌≡◌, ◌⊎◌, ℕ, ◌<◌, ◌≤◌, true, false, ◌||◌, List, [], Option, Some, None, refl, sym, ap, ◌∙◌, inl, inr, slice_get, or_left, Edge, Polygraph, has_edge, Cube, is_decided, edges_under, side_in, cube_edges}
+use Rattle.tree_checks.proofs.Prelude.{CubeDecision, TreeNode, cube_below, cube_of, cube_under, cube_top, cube_past, decides, adds}
 use Rattle.known_graph.proofs.Bools.{or_second}
 use Rattle.known_graph.proofs.Rows.{edge_append}
-use Rattle.cube_laws.specs.Cubes.{Cube, is_decided, edges_under}
-use Rattle.cube_machine.specs.Sides.{side_in, cube_edges}
 use Rattle.cube_machine.proofs.Edges.{under_is}
-use Rattle.cube_laws.specs.declared.tree.CubeDecision.{CubeDecision}
-use Rattle.cube_laws.specs.declared.tree.TreeNode.{TreeNode}
-use Rattle.cube_laws.specs.Trees.{cube_below, cube_of}
-use Rattle.cube_laws.proofs.Upward.{cube_under, cube_top, cube_past}
-use Rattle.tree_checks.specs.Checks.{decides, adds}
 
 -- ---- what a cube decides, on the way up
 decided_below : (cube : Cube) (d : Option CubeDecision) (c : ℕ) → is_decided (cube_below cube d) c ≡ (decides d c || is_decided cube c)

@@ -1,2 +1,3 @@
+mod Prelude
 pub mod Inherited
 pub mod Checked

@@ -1,6 +1,4 @@
-use Rattle.std.proofs.Common.{◌∙◌, sym}
-use Rattle.refutation.proofs.Units.{refuted_before}
-use Rattle.proof_checks.specs.Checked.{given_to}
+use Rattle.proof_checks.proofs.Prelude.{◌∙◌, sym, refuted_before, given_to}
 use Rattle.proof_checks.proofs.Checks.{no_empty_clause}
 use Rattle.proof_checks.proofs.Passed.{empty_stands}
 use Rattle.proof_checks.proofs.check_proof.Goals as goal

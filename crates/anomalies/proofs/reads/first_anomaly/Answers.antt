@@ -1,7 +1,4 @@
-use Rattle.std.proofs.Common.{◌<◌, ◌+◌, ℕ, List, [], sym, ap, ◌∙◌, arith, length}
-use Rattle.std.proofs.lemmas.List.{with_items_is}
-use Rattle.serializability.specs.Anomalies.{Place, anomaly_at, places_from}
-use Rattle.log_definitions.specs.Numbers.{log_of}
+use Rattle.anomalies.proofs.Prelude.{◌<◌, ◌+◌, ℕ, List, [], sym, ap, ◌∙◌, arith, length, with_items_is, Place, anomaly_at, places_from, log_of}
 use Rattle.anomalies.proofs.Marks.{below_next}
 use Rattle.anomalies.proofs.Scan.{passed, stopped, first_from-one}
 use Rattle.anomalies.proofs.reads.first_anomaly.Goals as goal

@@ -1,7 +1,4 @@
-use Rattle.std.proofs.Common.{◌≡◌, ◌+◌, [], length}
-use Rattle.serializability.specs.Anomalies.{anomaly_at, places_from}
-use Rattle.log_definitions.specs.Numbers.{log_of}
-use Rattle.anomalies.specs.Usage.{AreBelow}
+use Rattle.anomalies.proofs.Prelude.{◌≡◌, ◌+◌, [], length, anomaly_at, places_from, log_of, AreBelow}
 use Rattle.anomalies.proofs.Scan.{first_from}
 use Rattle.anomalies.proofs.reads.first_anomaly.Given as goal
 

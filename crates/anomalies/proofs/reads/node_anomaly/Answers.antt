@@ -1,7 +1,5 @@
-use Rattle.std.proofs.Common.{◌<◌, length, refl, sym, ap, ◌∙◌, arith}
+use Rattle.anomalies.proofs.Prelude.{◌<◌, length, refl, sym, ap, ◌∙◌, arith, anomaly_at, log_of}
 use Rattle.serializability.specs.declared.event.Event.TheVariants as event
-use Rattle.serializability.specs.Anomalies.{anomaly_at}
-use Rattle.log_definitions.specs.Numbers.{log_of}
 use Rattle.anomalies.proofs.Marks.{marked_none}
 use Rattle.anomalies.proofs.Scan.{first_behind, first_behind-all}
 use Rattle.anomalies.proofs.Sound.{sound}

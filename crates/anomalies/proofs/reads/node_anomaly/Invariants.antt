@@ -1,7 +1,4 @@
-use Rattle.std.proofs.Common.{◌≡◌, take}
-use Rattle.serializability.specs.Anomalies.{anomaly_at}
-use Rattle.log_definitions.specs.Numbers.{log_of}
-use Rattle.anomalies.specs.Usage.{AreMarked}
+use Rattle.anomalies.proofs.Prelude.{◌≡◌, take, anomaly_at, log_of, AreMarked}
 use Rattle.anomalies.proofs.Scan.{first_behind}
 use Rattle.anomalies.proofs.reads.node_anomaly.Given as goal
 

@@ -1,6 +1,4 @@
-use Rattle.std.proofs.Common.{ap, ◌∙◌}
-use Rattle.std.specs.Option.{option_or}
-use Rattle.log_definitions.specs.Numbers.{log_of}
+use Rattle.anomalies.proofs.Prelude.{ap, ◌∙◌, option_or, log_of}
 use Rattle.anomalies.proofs.Usages.{first_read, further_read}
 use Rattle.anomalies.proofs.reads.read_anomaly.Goals as goal
 

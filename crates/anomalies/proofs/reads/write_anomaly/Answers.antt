@@ -1,5 +1,4 @@
-use Rattle.std.proofs.Common.{sym, ◌∙◌}
-use Rattle.std.proofs.lemmas.Bool.{eqb-true, eqb-false}
+use Rattle.anomalies.proofs.Prelude.{sym, ◌∙◌, eqb-true, eqb-false}
 use Rattle.anomalies.proofs.Sound.{sound}
 use Rattle.anomalies.proofs.Named.{zero_read, unwritten_read, other_key_read, aborted_read, future_read, final_read, intermediate_read}
 use Rattle.anomalies.proofs.reads.write_anomaly.Goals as goal

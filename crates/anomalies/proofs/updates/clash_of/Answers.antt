@@ -1,7 +1,5 @@
-use Rattle.std.proofs.Common.{◌<◌, length, sym, arith}
-use Rattle.log_definitions.specs.Numbers.{log_of}
+use Rattle.anomalies.proofs.Prelude.{◌<◌, length, sym, arith, log_of, source_within}
 use Rattle.anomalies.proofs.Clashes.{entry_is, clash_new, clash_known}
-use Rattle.serializability.proofs.Sources.{source_within}
 use Rattle.anomalies.proofs.updates.clash_of.Goals as goal
 
 pub bounds-updaters-get : goal.bounds-updaters-get

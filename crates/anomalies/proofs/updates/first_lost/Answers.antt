@@ -1,8 +1,4 @@
-use Rattle.std.proofs.Common.{◌<◌, ◌+◌, Some, length, refl, sym, ap, ◌∙◌, arith}
-use Rattle.std.proofs.lemmas.List.{with_items_is}
-use Rattle.serializability.specs.declared.anomaly.Anomaly.{Anomaly}
-use Rattle.log_definitions.specs.Numbers.{log_of}
-use Rattle.anomalies.specs.Updates.{lost_updates_of, lost_by}
+use Rattle.anomalies.proofs.Prelude.{◌<◌, ◌+◌, Some, length, refl, sym, ap, ◌∙◌, arith, with_items_is, Anomaly, log_of, lost_updates_of, lost_by}
 use Rattle.anomalies.proofs.Clashes.{below_written}
 use Rattle.anomalies.proofs.Scan.{passed, stopped, first_from-zero}
 use Rattle.anomalies.proofs.updates.first_lost.Goals as goal

@@ -1,7 +1,4 @@
-use Rattle.std.proofs.Common.{◌≡◌, ◌+◌, Some, length}
-use Rattle.serializability.specs.declared.anomaly.Anomaly.{Anomaly}
-use Rattle.log_definitions.specs.Numbers.{log_of}
-use Rattle.anomalies.specs.Updates.{AreOfKeysBelow, lost_updates_of}
+use Rattle.anomalies.proofs.Prelude.{◌≡◌, ◌+◌, Some, length, Anomaly, log_of, AreOfKeysBelow, lost_updates_of}
 use Rattle.anomalies.proofs.Scan.{first_from}
 use Rattle.anomalies.proofs.updates.first_lost.Given as goal
 

@@ -1,8 +1,4 @@
-use Rattle.std.proofs.Common.{◌≡◌, ◌+◌, ◌++◌, ◌∷◌, ℕ, List, Option, [], take, sym, ap, ◌∙◌, subst}
-use Rattle.std.proofs.lemmas.List.{take_more, take_all}
-use Rattle.log_definitions.specs.Numbers.{log_of}
-use Rattle.anomalies.specs.declared.updates.Clash.{Clash}
-use Rattle.anomalies.specs.Updates.{AreFirst, IsLeastClash, lesser}
+use Rattle.anomalies.proofs.Prelude.{◌≡◌, ◌+◌, ◌++◌, ◌∷◌, ℕ, List, Option, [], take, sym, ap, ◌∙◌, subst, take_more, take_all, log_of, Clash, AreFirst, IsLeastClash, lesser}
 use Rattle.anomalies.proofs.Clashes.{least_further, least_is_first}
 use Rattle.anomalies.proofs.updates.least_clash.Goals as goal
 

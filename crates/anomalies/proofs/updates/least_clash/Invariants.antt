@@ -1,6 +1,4 @@
-use Rattle.std.proofs.Common.{◌+◌, take}
-use Rattle.log_definitions.specs.Numbers.{log_of}
-use Rattle.anomalies.specs.Updates.{AreFirst, AreOfKeysBelow, IsLeastClash}
+use Rattle.anomalies.proofs.Prelude.{◌+◌, take, log_of, AreFirst, AreOfKeysBelow, IsLeastClash}
 use Rattle.anomalies.proofs.updates.least_clash.Given as goal
 
 -- the entries and the least clash are those of the writers so far

@@ -1,14 +1,6 @@
-use Rattle.std.proofs.Common.{◌≡◌, map, refl, sym, ap, ◌∙◌, subst}
-use Rattle.std.specs.List.{AllByRecursion}
-use Rattle.session_log.specs.Text.{IsLegal, view}
-use Rattle.log_laws.specs.Logs.{IsSoundLog, IsLog}
+use Rattle.audit_command.proofs.Prelude.{◌≡◌, map, refl, sym, ap, ◌∙◌, subst, AllByRecursion, IsLegal, view, IsSoundLog, IsLog, resolved_is_log, first_line, version_of, resolved, without_moments, legal_without, sound_without, log_without}
+use Rattle.audit_command.proofs.Prelude.{resolved_without, seen, IsAnswer, IsWeaker, IsLower, AreTotals, IsOrderFile, order_asked}
 use Rattle.long_log_definitions.proofs.Texts.{sound_where_long}
-use Rattle.log_laws.proofs.Resolved.{resolved_is_log}
-use Rattle.session_log.specs.Version.{first_line, version_of}
-use Rattle.log_definitions.specs.Unknown.{resolved}
-use Rattle.level_laws.specs.Without.{without_moments}
-use Rattle.level_laws.proofs.Without.{legal_without, sound_without, log_without, resolved_without}
-use Rattle.audit_command.specs.Audited.{seen, IsAnswer, IsWeaker, IsLower, AreTotals, IsOrderFile, order_asked}
 use Rattle.audit_command.proofs.Resolved.{seen_legal, seen_sound}
 use Rattle.audit_command.proofs.command.audit_sessions.Goals as goal
 

@@ -1,7 +1,4 @@
-use Rattle.std.proofs.Common.{◌<◌, ◌∷◌, [], ◌++◌, sym, ap, length, length-append, subst, append_assoc, append-nil, ◌∙◌, arith}
-use Rattle.session_log.proofs.Adding.{all_more}
-use Rattle.audit_command.specs.Audited.{IsPartTold, AreToldParts}
-use Rattle.audit_command.specs.Distinct.{AreDistinct, AreLeastFirst, holds_one}
+use Rattle.audit_command.proofs.Prelude.{◌<◌, ◌∷◌, [], ◌++◌, sym, ap, length, length-append, subst, append_assoc, append-nil, ◌∙◌, arith, all_more, IsPartTold, AreToldParts, AreDistinct, AreLeastFirst, holds_one}
 use Rattle.audit_command.proofs.Doubles.{one_more, some_told, empty, without_one}
 use Rattle.audit_command.proofs.distinct.without_doubles.Goals as goal
 

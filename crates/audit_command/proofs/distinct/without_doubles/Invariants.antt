@@ -1,8 +1,4 @@
-use Rattle.std.proofs.Common.{◌≡◌, ℕ, ◌≤◌, ◌<◌, ◌++◌, List, length}
-use Rattle.session_log.specs.Text.{ClientSession}
-use Rattle.audit_command.specs.declared.options.AuditOptions.{AuditOptions}
-use Rattle.audit_command.specs.Audited.{AreToldParts}
-use Rattle.audit_command.specs.Distinct.{AreDistinct, AreLeastFirst}
+use Rattle.audit_command.proofs.Prelude.{◌≡◌, ℕ, ◌≤◌, ◌<◌, ◌++◌, List, length, ClientSession, AuditOptions, AreToldParts, AreDistinct, AreLeastFirst}
 use Rattle.audit_command.proofs.distinct.without_doubles.Given as goal
 
 abbrev pub invariant-loop-part : goal.invariant-loop-part

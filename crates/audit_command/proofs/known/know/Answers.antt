@@ -1,9 +1,6 @@
-use Rattle.std.proofs.Common.{◌≡◌, length, map, ap, ◌∙◌, subst, arith}
-use Rattle.session_log.specs.Text.{view}
+use Rattle.audit_command.proofs.Prelude.{◌≡◌, length, map, ap, ◌∙◌, subst, arith, view, txns_in, IsResolved}
 use Rattle.serializability.proofs.Places.{length_mapped}
-use Rattle.log_definitions.specs.Unknown.{txns_in}
 use Rattle.session_history.specs.Counted.{IsTally}
-use Rattle.audit_command.specs.Resolved.{IsResolved}
 use Rattle.audit_command.proofs.Resolved.{log_of_known, verdict_part}
 use Rattle.audit_command.proofs.known.know.Goals as goal
 

@@ -1,11 +1,4 @@
-use Rattle.std.proofs.Common.{map, Some, refl, sym, subst}
-use Rattle.std.specs.Prelude.{IfSome}
-use Rattle.session_log.specs.Text.{view}
-use Rattle.judging.specs.Judges.{IsVerdict}
-use Rattle.judging.specs.Made.{IsMade}
-use Rattle.judging.proofs.Resolved.{known}
-use Rattle.audit_command.specs.Audited.{at_level, refuted_of, IsRefutedWhere}
-use Rattle.audit_command.specs.Resolved.{IsResolved, IsPartOf}
+use Rattle.audit_command.proofs.Prelude.{map, Some, refl, sym, subst, IfSome, view, IsVerdict, IsMade, known, at_level, refuted_of, IsRefutedWhere, IsResolved, IsPartOf}
 use Rattle.audit_command.proofs.Resolved.{verdict_part}
 use Rattle.audit_command.proofs.Lowest.{refuted_where, part_where}
 use Rattle.audit_command.proofs.lower.judge_level.Goals as goal

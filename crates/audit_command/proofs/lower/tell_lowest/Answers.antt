@@ -1,7 +1,4 @@
-use Rattle.std.proofs.Common.{ap, ◌∙◌, subst}
-use Rattle.session_log.specs.Version.{first_line}
-use Rattle.judging.specs.Made.{IsToldPart}
-use Rattle.audit_command.specs.Audited.{IsPartTold, IsWeakest, asked_at, unless_shown}
+use Rattle.audit_command.proofs.Prelude.{ap, ◌∙◌, subst, first_line, IsToldPart, IsPartTold, IsWeakest, asked_at, unless_shown}
 use Rattle.audit_command.proofs.Lowest.{lowest_some}
 use Rattle.audit_command.proofs.lower.tell_lowest.Goals as goal
 

@@ -1,7 +1,4 @@
-use Rattle.std.proofs.Common.{◌≡◌, ◌+◌, ◌++◌, map, drop, length}
-use Rattle.std.specs.List.{flat_map}
-use Rattle.session_log.specs.Text.{view, view_txn, txn_lines}
-use Rattle.audit_command.specs.Places.{told_from, chosen_by}
+use Rattle.audit_command.proofs.Prelude.{◌≡◌, ◌+◌, ◌++◌, map, drop, length, flat_map, view, view_txn, txn_lines, told_from, chosen_by}
 use Rattle.audit_command.proofs.places.add_session.Given as goal
 
 abbrev pub invariant-loop-i : goal.invariant-loop-i

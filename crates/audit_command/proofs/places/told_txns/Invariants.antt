@@ -1,7 +1,4 @@
-use Rattle.std.proofs.Common.{◌≡◌, ◌++◌, map, drop}
-use Rattle.session_log.specs.Text.{view}
-use Rattle.session_log.specs.Version.{first_line}
-use Rattle.audit_command.specs.Places.{told_in, told_by, chosen_by}
+use Rattle.audit_command.proofs.Prelude.{◌≡◌, ◌++◌, map, drop, view, first_line, told_in, told_by, chosen_by}
 use Rattle.audit_command.proofs.places.told_txns.Given as goal
 
 abbrev pub invariant-loop-i : goal.invariant-loop-i

@@ -1,7 +1,5 @@
-use Rattle.std.proofs.Common.{[], ◌∷◌, ◌++◌, sym, ap, subst, append_assoc, ◌∙◌, String, string_bytes}
+use Rattle.audit_command.proofs.Prelude.{[], ◌∷◌, ◌++◌, sym, ap, subst, append_assoc, ◌∙◌, String, string_bytes, all_more, AreLines, IsLine}
 use Rattle.std.specs.declared.alloc.Global.{Global}
-use Rattle.session_log.proofs.Adding.{all_more}
-use Rattle.audit_command.specs.Printed.{AreLines, IsLine}
 use Rattle.audit_command.proofs.Parts.{all_front}
 use Rattle.audit_command.proofs.printed.only_lines.Goals as goal
 

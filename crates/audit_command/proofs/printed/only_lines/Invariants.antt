@@ -1,5 +1,4 @@
-use Rattle.std.proofs.Common.{◌≡◌, ◌++◌}
-use Rattle.audit_command.specs.Printed.{AreLines}
+use Rattle.audit_command.proofs.Prelude.{◌≡◌, ◌++◌, AreLines}
 use Rattle.audit_command.proofs.printed.only_lines.Given as goal
 
 abbrev pub invariant-loop-text : goal.invariant-loop-text

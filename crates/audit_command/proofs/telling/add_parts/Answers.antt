@@ -1,11 +1,4 @@
-use Rattle.std.proofs.Common.{◌∷◌, [], map, length, length-append, sym, ap, subst, arith}
-use Rattle.std.specs.List.{AllByRecursion}
-use Rattle.session_log.specs.Text.{view}
-use Rattle.session_log.specs.Version.{first_line}
-use Rattle.session_log.proofs.Adding.{all_more}
-use Rattle.judging.specs.Made.{IsToldPart}
-use Rattle.audit_command.specs.Audited.{IsPartTold, AreToldParts}
-use Rattle.audit_command.specs.Resolved.{IsPartOf}
+use Rattle.audit_command.proofs.Prelude.{◌∷◌, [], map, length, length-append, sym, ap, subst, arith, AllByRecursion, view, first_line, all_more, IsToldPart, IsPartTold, AreToldParts, IsPartOf}
 use Rattle.audit_command.proofs.Parts.{all_front}
 use Rattle.audit_command.proofs.telling.add_parts.Goals as goal
 

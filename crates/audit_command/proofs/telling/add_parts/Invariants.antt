@@ -1,11 +1,4 @@
-use Rattle.std.proofs.Common.{◌≡◌, ◌+◌, ◌≤◌, List, map, length}
-use Rattle.std.specs.List.{AllByRecursion}
-use Rattle.session_log.specs.Text.{ClientSession, view}
-use Rattle.session_log.specs.Version.{first_line}
-use Rattle.log_definitions.specs.Unknown.{resolved}
-use Rattle.judging.specs.Made.{IsToldPart}
-use Rattle.audit_command.specs.Audited.{AreToldParts}
-use Rattle.audit_command.specs.Resolved.{IsPartOf}
+use Rattle.audit_command.proofs.Prelude.{◌≡◌, ◌+◌, ◌≤◌, List, map, length, AllByRecursion, ClientSession, view, first_line, resolved, IsToldPart, AreToldParts, IsPartOf}
 use Rattle.audit_command.proofs.telling.add_parts.Given as goal
 
 abbrev pub invariant-parts : goal.invariant-parts

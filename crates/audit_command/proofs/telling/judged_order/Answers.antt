@@ -1,7 +1,4 @@
-use Rattle.std.proofs.Common.{map, subst}
-use Rattle.std.proofs.lemmas.Result.{IfOk-weaker}
-use Rattle.session_log.specs.Text.{view}
-use Rattle.judging.specs.Levels.{IsLogAt}
+use Rattle.audit_command.proofs.Prelude.{map, subst, IfOk-weaker, view, IsLogAt}
 use Rattle.audit_command.proofs.Points.{own_text, points_order}
 use Rattle.audit_command.proofs.Resolved.{never_without_room}
 use Rattle.audit_command.proofs.telling.judged_order.Goals as goal

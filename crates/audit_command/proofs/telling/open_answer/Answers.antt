@@ -1,5 +1,4 @@
-use Rattle.std.proofs.Common.{inr}
-use Rattle.session_log.specs.Version.{first_line}
+use Rattle.audit_command.proofs.Prelude.{inr, first_line}
 use Rattle.audit_command.proofs.telling.open_answer.Goals as goal
 
 pub returns-then-committed-options : goal.returns-then-committed-options

@@ -1,8 +1,4 @@
-use Rattle.std.proofs.Common.{rules, length, arith}
-use Rattle.std.proofs.lemmas.Result.{on_ok_weaker}
-use Rattle.std.proofs.lemmas.List.Sorted.{IsNonDecreasingBy-from_sort_by_key}
-use Rattle.audit_command.specs.Audited.{IsPartTold}
-use Rattle.audit_report.specs.declared.told.ToldPart.{ToldPart}
+use Rattle.audit_command.proofs.Prelude.{rules, length, arith, on_ok_weaker, IsNonDecreasingBy-from_sort_by_key, IsPartTold, ToldPart}
 use Rattle.audit_command.proofs.Parts.{all_permuted}
 use Rattle.audit_command.proofs.telling.put_least_first.Goals as goal
 

@@ -1,5 +1,4 @@
-use Rattle.std.proofs.Common.{inl}
-use Rattle.session_log.specs.Version.{first_line}
+use Rattle.audit_command.proofs.Prelude.{inl, first_line}
 use Rattle.audit_command.proofs.telling.serial_answer.Goals as goal
 
 pub returns-then-committed-options : goal.returns-then-committed-options

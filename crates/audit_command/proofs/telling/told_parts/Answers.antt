@@ -1,7 +1,4 @@
-use Rattle.std.proofs.Common.{◌∷◌, [], ◌++◌, map, sym, ap, ◌∙◌, subst, arith, length}
-use Rattle.session_log.specs.Text.{view}
-use Rattle.session_log.specs.Version.{first_line}
-use Rattle.audit_command.specs.Audited.{AreToldParts}
+use Rattle.audit_command.proofs.Prelude.{◌∷◌, [], ◌++◌, map, sym, ap, ◌∙◌, subst, arith, length, view, first_line, AreToldParts}
 use Rattle.audit_command.proofs.Resolved.{all_told_of}
 use Rattle.audit_command.proofs.telling.told_parts.Goals as goal
 

@@ -1,6 +1,4 @@
-use Rattle.std.proofs.Common.{◌≡◌, ◌≤◌, map, take, count_by}
-use Rattle.session_log.specs.Text.{view_txn}
-use Rattle.log_definitions.specs.Unknown.{is_committed}
+use Rattle.audit_command.proofs.Prelude.{◌≡◌, ◌≤◌, map, take, count_by, view_txn, is_committed}
 use Rattle.audit_command.proofs.totals.nodes_among.Given as goal
 
 abbrev pub invariant-loop-txn : goal.invariant-loop-txn

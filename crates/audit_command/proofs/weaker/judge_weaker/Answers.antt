@@ -1,10 +1,5 @@
-use Rattle.std.proofs.Common.{map, inl, inr, sym, ap, ◌∙◌, subst}
-use Rattle.std.proofs.lemmas.Bool.{cases_Bool}
-use Rattle.session_log.specs.Text.{view}
-use Rattle.log_laws.specs.Logs.{IsLog}
-use Rattle.level_laws.specs.Without.{without_moments}
-use Rattle.level_laws.proofs.Without.{legal_without, sound_without, log_without, resolved_without}
-use Rattle.audit_command.specs.Audited.{asks_strict, asks_plain, at_snapshot, states_moments, IsWordWhere}
+use Rattle.audit_command.proofs.Prelude.{map, inl, inr, sym, ap, ◌∙◌, subst, cases_Bool, view, IsLog, without_moments, legal_without, sound_without, log_without, resolved_without, asks_strict, asks_plain, at_snapshot, states_moments}
+use Rattle.audit_command.proofs.Prelude.{IsWordWhere}
 use Rattle.audit_command.proofs.WeakerLevels.{plain_where_kept}
 use Rattle.audit_command.proofs.weaker.judge_weaker.Goals as goal
 

@@ -1,6 +1,4 @@
-use Rattle.std.proofs.Common.{◌≡◌, map, drop}
-use Rattle.session_log.specs.Text.{view}
-use Rattle.audit_command.specs.Audited.{one_states}
+use Rattle.audit_command.proofs.Prelude.{◌≡◌, map, drop, view, one_states}
 use Rattle.audit_command.proofs.weaker.one_states.Given as goal
 
 abbrev pub invariant-loop-session : goal.invariant-loop-session

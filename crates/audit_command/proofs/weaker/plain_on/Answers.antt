@@ -1,11 +1,4 @@
-use Rattle.std.proofs.Common.{map, Some, refl, sym, subst}
-use Rattle.session_log.specs.Text.{view}
-use Rattle.session_log.specs.Version.{first_line}
-use Rattle.judging.specs.Judges.{IsVerdict}
-use Rattle.judging.specs.Made.{IsMade}
-use Rattle.judging.proofs.Resolved.{known}
-use Rattle.audit_command.specs.Audited.{at_snapshot, IsShownBy}
-use Rattle.audit_command.specs.Resolved.{IsResolved}
+use Rattle.audit_command.proofs.Prelude.{map, Some, refl, sym, subst, view, first_line, IsVerdict, IsMade, known, at_snapshot, IsShownBy, IsResolved}
 use Rattle.audit_command.proofs.Resolved.{verdict_part}
 use Rattle.audit_command.proofs.weaker.plain_on.Goals as goal
 

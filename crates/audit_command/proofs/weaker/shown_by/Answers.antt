@@ -1,13 +1,5 @@
-use Rattle.std.proofs.Common.{Some, sym, ap, ◌∙◌, subst}
-use Rattle.session_log.specs.Version.{first_line}
-use Rattle.judging.specs.Judges.{IsVerdict}
-use Rattle.judging.specs.Made.{IsMade, IsToldPart}
+use Rattle.audit_command.proofs.Prelude.{Some, sym, ap, ◌∙◌, subst, first_line, IsVerdict, IsMade, IsToldPart, resolved, Verdict, NotSerializable, AuditOptions, at_snapshot, verdict_word, unless_told, IsPartTold, IsShown, IsShownBy}
 use Rattle.judging.specs.declared.level.Level.TheVariants.{Snapshot}
-use Rattle.log_definitions.specs.Unknown.{resolved}
-use Rattle.judging.specs.declared.judged.Verdict.{Verdict}
-use Rattle.judging.specs.declared.judged.Verdict.TheVariants.{NotSerializable}
-use Rattle.audit_command.specs.declared.options.AuditOptions.{AuditOptions}
-use Rattle.audit_command.specs.Audited.{at_snapshot, verdict_word, unless_told, IsPartTold, IsShown, IsShownBy}
 use Rattle.audit_command.proofs.weaker.shown_by.Goals as goal
 
 pub returns-in-NotSerializable : goal.returns-in-NotSerializable

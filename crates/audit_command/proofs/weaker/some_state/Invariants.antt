@@ -1,6 +1,4 @@
-use Rattle.std.proofs.Common.{◌≡◌, map, drop}
-use Rattle.session_log.specs.Text.{view_txn}
-use Rattle.audit_command.specs.Audited.{some_state}
+use Rattle.audit_command.proofs.Prelude.{◌≡◌, map, drop, view_txn, some_state}
 use Rattle.audit_command.proofs.weaker.some_state.Given as goal
 
 abbrev pub invariant-loop-txn : goal.invariant-loop-txn

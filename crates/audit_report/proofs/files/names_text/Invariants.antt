@@ -1,5 +1,4 @@
-use Rattle.std.proofs.Common.{◌≡◌, ◌++◌, drop}
-use Rattle.audit_report.specs.Orders.{names_text}
+use Rattle.audit_report.proofs.Prelude.{◌≡◌, ◌++◌, drop, names_text}
 use Rattle.audit_report.proofs.files.names_text.Given as goal
 
 abbrev pub invariant-loop-number : goal.invariant-loop-number

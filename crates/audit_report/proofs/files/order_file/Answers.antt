@@ -1,7 +1,4 @@
-use Rattle.std.proofs.Common.{map, ap, ◌∙◌}
-use Rattle.std.proofs.lemmas.Result.{IfOk-weaker}
-use Rattle.session_log.specs.Text.{view}
-use Rattle.audit_report.specs.Orders.{names_text}
+use Rattle.audit_report.proofs.Prelude.{map, ap, ◌∙◌, IfOk-weaker, view, names_text}
 use Rattle.audit_report.proofs.Names.{text_of_order}
 use Rattle.audit_report.proofs.files.order_file.Goals as goal
 

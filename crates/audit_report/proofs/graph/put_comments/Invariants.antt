@@ -1,5 +1,4 @@
-use Rattle.std.proofs.Common.{◌≡◌, ◌++◌, drop}
-use Rattle.std.specs.List.{flat_map}
+use Rattle.audit_report.proofs.Prelude.{◌≡◌, ◌++◌, drop, flat_map}
 use Rattle.audit_report.specs.Graph.{comment}
 use Rattle.audit_report.proofs.graph.put_comments.Given as goal
 

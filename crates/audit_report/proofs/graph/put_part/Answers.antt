@@ -1,7 +1,4 @@
-use Rattle.std.proofs.Common.{◌++◌, ap, ◌∙◌}
-use Rattle.std.proofs.lemmas.Result.{on_ok_weaker}
-use Rattle.list_lemmas.proofs.Lists.{appended_twice}
-use Rattle.audit_report.specs.Report.{listed}
+use Rattle.audit_report.proofs.Prelude.{◌++◌, ap, ◌∙◌, on_ok_weaker, appended_twice, listed}
 use Rattle.audit_report.proofs.graph.put_part.Goals as goal
 
 pub returns : goal.returns

@@ -1,5 +1,4 @@
-use Rattle.std.proofs.Common.{◌≡◌, ◌++◌, drop}
-use Rattle.audit_report.specs.Report.{lines_of}
+use Rattle.audit_report.proofs.Prelude.{◌≡◌, ◌++◌, drop, lines_of}
 use Rattle.audit_report.proofs.lines.put_lines.Given as goal
 
 abbrev pub invariant-loop-line : goal.invariant-loop-line

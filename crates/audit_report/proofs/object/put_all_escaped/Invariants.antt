@@ -1,5 +1,4 @@
-use Rattle.std.proofs.Common.{◌≡◌, ◌++◌, drop}
-use Rattle.audit_report.specs.Objects.{escaped}
+use Rattle.audit_report.proofs.Prelude.{◌≡◌, ◌++◌, drop, escaped}
 use Rattle.audit_report.proofs.object.put_all_escaped.Given as goal
 
 abbrev pub invariant-loop-byte : goal.invariant-loop-byte

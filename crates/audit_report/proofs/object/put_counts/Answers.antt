@@ -1,5 +1,4 @@
-use Rattle.list_lemmas.proofs.Lists.{appended_twice}
-use Rattle.audit_report.specs.Objects.{count_values}
+use Rattle.audit_report.proofs.Prelude.{appended_twice, count_values}
 use Rattle.audit_report.proofs.object.put_counts.Goals as goal
 
 pub returns : goal.returns

@@ -1,7 +1,4 @@
-use Rattle.std.proofs.Common.{◌++◌, codes}
-use Rattle.std.proofs.lemmas.Result.{on_ok_weaker}
-use Rattle.list_lemmas.proofs.Lists.{appended_twice}
-use Rattle.audit_report.specs.Objects.{lines_value, explanation_value}
+use Rattle.audit_report.proofs.Prelude.{◌++◌, codes, on_ok_weaker, appended_twice, lines_value, explanation_value}
 use Rattle.audit_report.proofs.object.put_explanation.Goals as goal
 
 pub returns : goal.returns

@@ -1,6 +1,4 @@
-use Rattle.std.proofs.Common.{◌≡◌, ◌++◌, drop}
-use Rattle.std.specs.List.{flat_map}
-use Rattle.audit_report.specs.Objects.{line_byte}
+use Rattle.audit_report.proofs.Prelude.{◌≡◌, ◌++◌, drop, flat_map, line_byte}
 use Rattle.audit_report.proofs.object.put_line_bytes.Given as goal
 
 abbrev pub invariant-loop-byte : goal.invariant-loop-byte

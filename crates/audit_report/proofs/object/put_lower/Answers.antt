@@ -1,6 +1,4 @@
-use Rattle.std.proofs.lemmas.Result.{on_ok_weaker}
-use Rattle.list_lemmas.proofs.Lists.{appended_twice}
-use Rattle.audit_report.specs.Objects.{lower_values}
+use Rattle.audit_report.proofs.Prelude.{on_ok_weaker, appended_twice, lower_values}
 use Rattle.audit_report.proofs.object.put_lower.Goals as goal
 
 pub returns : goal.returns

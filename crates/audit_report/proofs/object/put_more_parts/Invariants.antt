@@ -1,5 +1,4 @@
-use Rattle.std.proofs.Common.{◌≡◌, ◌++◌, drop}
-use Rattle.audit_report.specs.Objects.{behind_comma, part_object}
+use Rattle.audit_report.proofs.Prelude.{◌≡◌, ◌++◌, drop, behind_comma, part_object}
 use Rattle.audit_report.proofs.object.put_more_parts.Given as goal
 
 abbrev pub invariant-loop-part : goal.invariant-loop-part

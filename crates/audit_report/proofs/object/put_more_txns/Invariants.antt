@@ -1,5 +1,4 @@
-use Rattle.std.proofs.Common.{◌≡◌, ◌++◌, drop}
-use Rattle.audit_report.specs.Objects.{behind_comma, txn_object}
+use Rattle.audit_report.proofs.Prelude.{◌≡◌, ◌++◌, drop, behind_comma, txn_object}
 use Rattle.audit_report.proofs.object.put_more_txns.Given as goal
 
 abbrev pub invariant-loop-txn : goal.invariant-loop-txn

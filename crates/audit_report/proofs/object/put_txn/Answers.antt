@@ -1,4 +1,4 @@
-use Rattle.list_lemmas.proofs.Lists.{appended_twice}
+use Rattle.audit_report.proofs.Prelude.{appended_twice}
 use Rattle.audit_report.proofs.object.put_txn.Goals as goal
 
 pub returns : goal.returns

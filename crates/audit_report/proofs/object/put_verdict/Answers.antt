@@ -1,7 +1,4 @@
-use Rattle.std.proofs.Common.{◌++◌, ap, ◌∙◌, codes}
-use Rattle.list_lemmas.proofs.Lists.{appended_twice}
-use Rattle.audit_report.specs.Words.{verdict_text}
-use Rattle.audit_report.specs.Objects.{verdict_value}
+use Rattle.audit_report.proofs.Prelude.{◌++◌, ap, ◌∙◌, codes, appended_twice, verdict_text, verdict_value}
 use Rattle.audit_report.proofs.object.put_verdict.Goals as goal
 
 pub returns : goal.returns

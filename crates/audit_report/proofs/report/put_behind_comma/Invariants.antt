@@ -1,4 +1,4 @@
-use Rattle.std.proofs.Common.{◌≡◌, ◌++◌, drop}
+use Rattle.audit_report.proofs.Prelude.{◌≡◌, ◌++◌, drop}
 use Rattle.audit_report.specs.Report.{behind_comma}
 use Rattle.audit_report.proofs.report.put_behind_comma.Given as goal
 

@@ -1,6 +1,4 @@
-use Rattle.std.proofs.Common.{◌++◌, ap, ◌∙◌}
-use Rattle.list_lemmas.proofs.Lists.{appended_twice}
-use Rattle.audit_report.specs.Report.{counts_text, lowest_part}
+use Rattle.audit_report.proofs.Prelude.{◌++◌, ap, ◌∙◌, appended_twice, counts_text, lowest_part}
 use Rattle.audit_report.proofs.report.put_behind_first.Goals as goal
 
 pub returns : goal.returns

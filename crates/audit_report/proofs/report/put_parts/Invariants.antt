@@ -1,5 +1,4 @@
-use Rattle.std.proofs.Common.{◌≡◌, ◌++◌, drop}
-use Rattle.audit_report.specs.Report.{parts_text}
+use Rattle.audit_report.proofs.Prelude.{◌≡◌, ◌++◌, drop, parts_text}
 use Rattle.audit_report.proofs.report.put_parts.Given as goal
 
 abbrev pub invariant-loop-part : goal.invariant-loop-part

@@ -1,5 +1,4 @@
-use Rattle.list_lemmas.proofs.Lists.{appended_twice}
-use Rattle.audit_report.specs.Report.{too_few}
+use Rattle.audit_report.proofs.Prelude.{appended_twice, too_few}
 use Rattle.audit_report.proofs.report.put_too_few.Goals as goal
 
 pub returns : goal.returns

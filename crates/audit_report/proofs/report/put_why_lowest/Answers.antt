@@ -1,5 +1,4 @@
-use Rattle.std.proofs.lemmas.Result.{on_ok_weaker}
-use Rattle.list_lemmas.proofs.Lists.{appended_twice}
+use Rattle.audit_report.proofs.Prelude.{on_ok_weaker, appended_twice}
 use Rattle.audit_report.proofs.report.put_why_lowest.Goals as goal
 
 pub returns : goal.returns

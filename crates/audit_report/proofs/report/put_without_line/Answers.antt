@@ -1,8 +1,4 @@
-use Rattle.std.proofs.Common.{[], ◌∷◌, ◌++◌}
-use Rattle.std.specs.Prelude.{codes}
-use Rattle.std.proofs.lemmas.Result.{on_ok_weaker}
-use Rattle.list_lemmas.proofs.Lists.{appended_twice}
-use Rattle.audit_report.specs.Words.{word_text}
+use Rattle.audit_report.proofs.Prelude.{[], ◌∷◌, ◌++◌, codes, on_ok_weaker, appended_twice, word_text}
 use Rattle.audit_report.proofs.report.put_without_line.Goals as goal
 
 pub returns : goal.returns

@@ -1,6 +1,5 @@
-use Rattle.std.proofs.Common.{◌∙◌, ◌+◌, length, sym, ap}
+use Rattle.branch_search.proofs.Prelude.{◌∙◌, ◌+◌, length, sym, ap, numbered_push, fresh_number}
 use Rattle.branch_search.proofs.Places.{next_at, seen_more, same_length}
-use Rattle.desk.proofs.Numbered.{numbered_push, fresh_number}
 use Rattle.branch_search.proofs.crew.jobs_of.Goals as goal
 
 pub loop-seat-preserved : goal.loop-seat-preserved

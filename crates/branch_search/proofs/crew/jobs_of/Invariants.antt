@@ -1,4 +1,4 @@
-use Rattle.std.proofs.Common.{◌≡◌, ◌++◌, length}
+use Rattle.branch_search.proofs.Prelude.{◌≡◌, ◌++◌, length}
 use Rattle.desk.specs.Seats.{AreNumbered}
 use Rattle.branch_search.proofs.crew.jobs_of.Given as goal
 

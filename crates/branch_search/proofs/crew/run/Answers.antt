@@ -1,5 +1,4 @@
-use Rattle.std.proofs.Common.{length, ap, arith}
-use Rattle.desk.proofs.Numbered.{closes, numbered_as}
+use Rattle.branch_search.proofs.Prelude.{length, ap, arith, closes, numbered_as}
 use Rattle.branch_search.proofs.crew.run.Goals as goal
 
 pub unwrap-closed-requires : goal.unwrap-closed-requires

@@ -1,6 +1,4 @@
-use Rattle.std.proofs.Common.{◌∙◌, sym, ap, None}
-use Rattle.std.specs.Prelude.{slice_index_or}
-use Rattle.std.proofs.lemmas.Result.{IfOk-weaker}
+use Rattle.branch_search.proofs.Prelude.{◌∙◌, sym, ap, None, slice_index_or, IfOk-weaker}
 use Rattle.branch_search.proofs.Grown.{grown_open, grown_none, grown_closed}
 use Rattle.branch_search.proofs.growing.grow.Goals as goal
 

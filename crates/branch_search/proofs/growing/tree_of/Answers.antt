@@ -1,8 +1,4 @@
-use Rattle.std.proofs.Common.{◌∙◌, length, sym, ap, subst, arith, length-set}
-use Rattle.desk.specs.History.{replay}
-use Rattle.cube_laws.specs.State.{opening_state}
-use Rattle.cube_laws.specs.Steps.{next_of}
-use Rattle.cube_laws.specs.Trees.{IsRefutationTree}
+use Rattle.branch_search.proofs.Prelude.{◌∙◌, length, sym, ap, subst, arith, length-set, replay, opening_state, next_of, IsRefutationTree}
 use Rattle.branch_search.proofs.Planted.{Standing, standing_step, standing_last}
 use Rattle.branch_search.proofs.growing.tree_of.Goals as goal
 

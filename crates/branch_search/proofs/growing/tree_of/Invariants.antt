@@ -1,8 +1,4 @@
-use Rattle.std.proofs.Common.{◌≡◌, ℕ, length}
-use Rattle.serializability.specs.Polygraph.{Polygraph}
-use Rattle.desk.specs.History.{IsLegal, replay}
-use Rattle.cube_laws.specs.State.{opening_state}
-use Rattle.cube_laws.specs.Steps.{next_of, reply_of}
+use Rattle.branch_search.proofs.Prelude.{◌≡◌, ℕ, length, Polygraph, IsLegal, replay, opening_state, next_of, reply_of}
 use Rattle.branch_search.proofs.Planted.{Standing}
 use Rattle.branch_search.proofs.growing.tree_of.Given as goal
 

@@ -1,8 +1,4 @@
-use Rattle.std.proofs.Common.{◌∙◌, sym, subst}
-use Rattle.std.proofs.lemmas.Option.{same_Some}
-use Rattle.desk.specs.History.{IsLegal}
-use Rattle.cube_laws.specs.State.{opening_state}
-use Rattle.cube_laws.specs.Steps.{next_of, reply_of}
+use Rattle.branch_search.proofs.Prelude.{◌∙◌, sym, subst, same_Some, IsLegal, opening_state, next_of, reply_of}
 use Rattle.branch_search.proofs.Ends.{spent_at}
 use Rattle.branch_search.proofs.reading.read_answer.Goals as goal
 

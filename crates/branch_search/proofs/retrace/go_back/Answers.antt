@@ -1,5 +1,4 @@
-use Rattle.std.proofs.Common.{Some, sym, ap, ◌∙◌}
-use Rattle.branch_search.specs.Views.{place_in}
+use Rattle.branch_search.proofs.Prelude.{Some, sym, ap, ◌∙◌, place_in}
 use Rattle.branch_search.proofs.Retraced.{view_kept, view_unkept}
 use Rattle.branch_search.proofs.retrace.go_back.Goals as goal
 

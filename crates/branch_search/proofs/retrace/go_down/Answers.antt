@@ -1,4 +1,4 @@
-use Rattle.std.proofs.Common.{◌∙◌}
+use Rattle.branch_search.proofs.Prelude.{◌∙◌}
 use Rattle.branch_search.proofs.retrace.go_down.Goals as goal
 
 pub returns-in_ok-keep-clause-views : goal.returns-in_ok-keep-clause-views

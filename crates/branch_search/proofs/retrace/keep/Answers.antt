@@ -1,4 +1,4 @@
-use Rattle.std.proofs.Common.{◌∙◌}
+use Rattle.branch_search.proofs.Prelude.{◌∙◌}
 use Rattle.branch_search.proofs.retrace.keep.Goals as goal
 
 pub returns-clause-views : goal.returns-clause-views

@@ -1,5 +1,4 @@
-use Rattle.std.proofs.Common.{sym, ap, ◌∙◌}
-use Rattle.branch_search.specs.Views.{view_after}
+use Rattle.branch_search.proofs.Prelude.{sym, ap, ◌∙◌, view_after}
 use Rattle.branch_search.proofs.Retraced.{step_taken, kept_on, kept_more}
 use Rattle.branch_search.proofs.retrace.replay.Goals as goal
 

@@ -1,6 +1,4 @@
-use Rattle.std.proofs.Common.{◌≡◌, length}
-use Rattle.std.specs.List.{All}
-use Rattle.branch_search.specs.Views.{view_after}
+use Rattle.branch_search.proofs.Prelude.{◌≡◌, length, All, view_after}
 use Rattle.branch_search.proofs.Retraced.{AreKept}
 use Rattle.branch_search.proofs.retrace.replay.Given as goal
 

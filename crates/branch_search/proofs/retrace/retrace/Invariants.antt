@@ -1,6 +1,4 @@
-use Rattle.std.proofs.Common.{◌≡◌}
-use Rattle.std.specs.List.{All}
-use Rattle.branch_search.specs.Views.{end_of}
+use Rattle.branch_search.proofs.Prelude.{◌≡◌, All, end_of}
 use Rattle.branch_search.proofs.retrace.retrace.Given as goal
 
 abbrev pub invariant-loop : goal.invariant-loop

@@ -1,8 +1,4 @@
-use Rattle.std.proofs.Common.{◌∙◌, ap}
-use Rattle.std.proofs.lemmas.Result.{IfOk-weaker}
-use Rattle.serializability.specs.Polygraph.{Polygraph}
-use Rattle.cube_laws.specs.State.{opening_state}
-use Rattle.branch_search.specs.Answers.{IsReadFrom, EndsRun}
+use Rattle.branch_search.proofs.Prelude.{◌∙◌, ap, IfOk-weaker, Polygraph, opening_state, IsReadFrom, EndsRun}
 use Rattle.branch_search.proofs.Ends.{ends_run}
 use Rattle.branch_search.proofs.searching.search.Goals as goal
 

@@ -1,6 +1,4 @@
-use Rattle.std.proofs.Common.{◌≡◌, ◌<◌, IfSome, length, inl, inr, sym, ap, ◌∙◌, subst}
-use Rattle.branch_search.specs.declared.worker.Request.TheVariants.{Any}
-use Rattle.branch_search.specs.Requests.{first_child, request_after}
+use Rattle.branch_search.proofs.Prelude.{◌≡◌, ◌<◌, IfSome, length, inl, inr, sym, ap, ◌∙◌, subst, Any, first_child, request_after}
 use Rattle.branch_search.proofs.Asked.{split_within, asked_after}
 use Rattle.branch_search.proofs.worker.settle.Goals as goal
 

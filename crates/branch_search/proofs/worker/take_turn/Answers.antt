@@ -1,6 +1,4 @@
-use Rattle.std.proofs.Common.{◌≡◌, inl, inr, refl, sym, ap, ◌∙◌}
-use Rattle.branch_search.specs.declared.worker.Request.TheVariants.{Any}
-use Rattle.branch_search.specs.Requests.{request_after}
+use Rattle.branch_search.proofs.Prelude.{◌≡◌, inl, inr, refl, sym, ap, ◌∙◌, Any, request_after}
 use Rattle.branch_search.proofs.Asked.{asked_after, ok_always}
 use Rattle.branch_search.proofs.worker.take_turn.Goals as goal
 

@@ -1,4 +1,4 @@
-use Rattle.std.proofs.Common.{◌/◌, arith}
+use Rattle.branching.proofs.Prelude.{◌/◌, arith}
 use Rattle.branching.proofs.NextBits.{none_past, found_first, none_first, past_first, found_later, none_more, none_all}
 use Rattle.branching.proofs.bits.next_set.Goals as goal
 

@@ -1,4 +1,4 @@
-use Rattle.std.proofs.Common.{◌*◌, ◌≤◌}
+use Rattle.branching.proofs.Prelude.{◌*◌, ◌≤◌}
 use Rattle.branching.proofs.NextBits.{ClearTo}
 use Rattle.branching.proofs.bits.next_set.Given as goal
 

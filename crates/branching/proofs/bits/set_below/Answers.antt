@@ -1,5 +1,4 @@
-use Rattle.std.proofs.Common.{◌∙◌, arith}
-use Rattle.known_graph.specs.Bits.{row_len}
+use Rattle.branching.proofs.Prelude.{◌∙◌, arith, row_len}
 use Rattle.branching.proofs.NextBits.{full_more, bits_below}
 use Rattle.branching.proofs.bits.set_below.Goals as goal
 

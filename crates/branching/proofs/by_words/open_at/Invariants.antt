@@ -1,7 +1,4 @@
-use Rattle.std.proofs.Common.{◌≡◌, ◌-◌}
-use Rattle.std.specs.Prelude.{slice_get}
-use Rattle.branching.specs.Picks.{open_choices}
-use Rattle.branching.specs.Opens.{open_past}
+use Rattle.branching.proofs.Prelude.{◌≡◌, ◌-◌, slice_get, open_choices, open_past}
 use Rattle.branching.proofs.by_words.open_at.Given as goal
 
 abbrev pub invariant-loop-passed : goal.invariant-loop-passed

@@ -1,5 +1,4 @@
-use Rattle.std.proofs.Common.{ℕ, ◌<◌, ◌≤◌}
-use Rattle.std.specs.Prelude.{slice_index}
+use Rattle.branching.proofs.Prelude.{ℕ, ◌<◌, ◌≤◌, slice_index}
 use Rattle.branching.proofs.counts.bounds_of.Given as goal
 
 abbrev pub invariant-loop-count : goal.invariant-loop-count

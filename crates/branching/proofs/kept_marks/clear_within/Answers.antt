@@ -1,7 +1,4 @@
-use Rattle.std.proofs.Common.{◌≤◌, ◌/◌, length, false, not, ◌&&◌, sym, ap, ◌∙◌, arith, subst, inl, inr}
-use Rattle.std.proofs.lemmas.Bool.{cases_eq, ne_eqb, eq-eqb}
-use Rattle.known_graph.specs.Bits.{bit_of}
-use Rattle.known_graph.proofs.Words.{bit_of-past}
+use Rattle.branching.proofs.Prelude.{◌≤◌, ◌/◌, length, false, not, ◌&&◌, sym, ap, ◌∙◌, arith, subst, inl, inr, cases_eq, ne_eqb, eq-eqb, bit_of, bit_of-past}
 use Rattle.branching.proofs.kept_marks.clear_within.Goals as goal
 
 pub returns-else-number-words-clause-bits : goal.returns-else-number-words-clause-bits

@@ -1,5 +1,4 @@
-use Rattle.std.proofs.Common.{take}
-use Rattle.branching.specs.Marked.{Keeps, MarksBehind}
+use Rattle.branching.proofs.Prelude.{take, Keeps, MarksBehind}
 use Rattle.branching.proofs.marks.mark_behind.Given as goal
 
 abbrev pub invariant-loop-entry : goal.invariant-loop-entry

@@ -1,7 +1,4 @@
-use Rattle.std.proofs.Common.{◌<◌, length, refl, subst, arith, List}
-use Rattle.std.proofs.lemmas.Option.{slice_get_read}
-use Rattle.side_edges.specs.declared.SideEdge.{SideEdge}
-use Rattle.branching.specs.Marked.{MarksTarget}
+use Rattle.branching.proofs.Prelude.{◌<◌, length, refl, subst, arith, List, slice_get_read, SideEdge, MarksTarget}
 use Rattle.branching.proofs.Marked.{keeps_then, below_more, all_marked, none_to_mark}
 use Rattle.branching.proofs.marks.mark_refuted.Goals as goal
 

@@ -1,4 +1,4 @@
-use Rattle.branching.specs.Marked.{Keeps}
+use Rattle.branching.proofs.Prelude.{Keeps}
 use Rattle.branching.proofs.Marked.{MarksBelow}
 use Rattle.branching.proofs.marks.mark_refuted.Given as goal
 

@@ -1,8 +1,5 @@
-use Rattle.std.proofs.Common.{◌≡◌, sym, subst}
-use Rattle.std.specs.List.{All}
+use Rattle.branching.proofs.Prelude.{◌≡◌, sym, subst, All, Ranked, unreached}
 use Rattle.std.proofs.lemmas.List.Elements.{All-push}
-use Rattle.branching.specs.declared.order.Ranked.{Ranked}
-use Rattle.branching.specs.Orders.{unreached}
 use Rattle.branching.proofs.Ordered.{listed_more}
 use Rattle.branching.proofs.order.all_ranked.Goals as goal
 

@@ -1,6 +1,4 @@
-use Rattle.std.proofs.Common.{◌≡◌, ◌-◌, map}
-use Rattle.std.specs.List.{All, range_with_len}
-use Rattle.branching.specs.Orders.{unreached}
+use Rattle.branching.proofs.Prelude.{◌≡◌, ◌-◌, map, All, range_with_len, unreached}
 use Rattle.branching.proofs.order.all_ranked.Given as goal
 
 abbrev pub invariant-loop-number : goal.invariant-loop-number

@@ -1,8 +1,5 @@
-use Rattle.std.proofs.Common.{◌≡◌, ◌∙◌, ap, map, rules}
-use Rattle.std.proofs.lemmas.List.Sorted.{IsNonDecreasingBy-from_sort_by_key, All-permutation}
+use Rattle.branching.proofs.Prelude.{◌≡◌, ◌∙◌, ap, map, rules, IsNonDecreasingBy-from_sort_by_key, All-permutation, Ranked, unreached}
 use Rattle.std.proofs.lemmas.Result.{IfOk-weaker}
-use Rattle.branching.specs.declared.order.Ranked.{Ranked}
-use Rattle.branching.specs.Orders.{unreached}
 use Rattle.branching.proofs.Ordered.{ordered}
 use Rattle.branching.proofs.order.order_by_reach.Goals as goal
 

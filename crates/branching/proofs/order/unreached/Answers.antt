@@ -1,6 +1,4 @@
-use Rattle.std.proofs.Common.{◌≡◌, ℕ, ◌+◌, ◌<◌, Bool, not, sym, ap, ◌∙◌, arith}
-use Rattle.known_graph.specs.Tests.{has_edge}
-use Rattle.known_graph.proofs.Tested.{known_is}
+use Rattle.branching.proofs.Prelude.{◌≡◌, ℕ, ◌+◌, ◌<◌, Bool, not, sym, ap, ◌∙◌, arith, has_edge, known_is}
 use Rattle.serializability.proofs.CountedNodes.{counted_yes, counted_no, counted_all}
 use Rattle.branching.proofs.order.unreached.Goals as goal
 use Rattle.branching.proofs.order.unreached.Goals.{then-not-reaches, else-not-reaches}

@@ -1,6 +1,4 @@
-use Rattle.std.proofs.Common.{◌≡◌, ◌+◌, ◌≤◌, not, take}
-use Rattle.std.specs.List.{count_by, range_with_len}
-use Rattle.known_graph.specs.Tests.{has_edge}
+use Rattle.branching.proofs.Prelude.{◌≡◌, ◌+◌, ◌≤◌, not, take, count_by, range_with_len, has_edge}
 use Rattle.branching.proofs.order.unreached.Given as goal
 
 abbrev pub invariant-loop-number : goal.invariant-loop-number

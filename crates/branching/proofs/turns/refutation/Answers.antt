@@ -1,5 +1,4 @@
-use Rattle.std.proofs.Common.{List, sym, subst}
-use Rattle.reach_laws.specs.Reach.{IsCycle}
+use Rattle.branching.proofs.Prelude.{List, sym, subst, IsCycle}
 use Rattle.branching.proofs.Views.{cyclic_in_graph}
 use Rattle.branching.proofs.Turned.{refute_answered}
 use Rattle.branching.proofs.turns.refutation.Goals as goal

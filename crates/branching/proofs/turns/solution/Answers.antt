@@ -1,5 +1,4 @@
-use Rattle.std.proofs.Common.{List, sym, subst}
-use Rattle.branching.specs.Orders.{IsOrderByReach}
+use Rattle.branching.proofs.Prelude.{List, sym, subst, IsOrderByReach}
 use Rattle.branching.proofs.Turned.{solve_answered, last_of}
 use Rattle.branching.proofs.turns.solution.Goals as goal
 

@@ -1,7 +1,4 @@
-use Rattle.std.proofs.Common.{List, length, sym, ap, ◌∙◌}
-use Rattle.std.proofs.lemmas.Bool.{false≢true}
-use Rattle.serializability.specs.Polygraph.{Choice, Polygraph}
-use Rattle.branching.specs.View.{graph_in}
+use Rattle.branching.proofs.Prelude.{List, length, sym, ap, ◌∙◌, false≢true, Choice, Polygraph, graph_in}
 use Rattle.branching.proofs.Turned.{split_answered, all_decided, depth_of_closed}
 use Rattle.branching.proofs.turns.turn.Goals as goal
 

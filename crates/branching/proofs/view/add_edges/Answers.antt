@@ -1,8 +1,4 @@
-use Rattle.std.proofs.Common.{◌≡◌, ◌⊎◌, ◌↔◌, ◌+◌, sym, ◌∙◌, subst}
-use Rattle.std.specs.List.{Contains}
-use Rattle.std.proofs.lemmas.List.{take_all}
-use Rattle.serializability.specs.Polygraph.{Edge}
-use Rattle.prune_ledger.proofs.Edges.{added_step}
+use Rattle.branching.proofs.Prelude.{◌≡◌, ◌⊎◌, ◌↔◌, ◌+◌, sym, ◌∙◌, subst, Contains, take_all, Edge, added_step}
 use Rattle.prune_ledger.proofs.KeptUp.{adds_from_added, added_rows}
 use Rattle.branching.proofs.view.add_edges.Goals as goal
 

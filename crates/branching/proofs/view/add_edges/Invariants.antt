@@ -1,9 +1,4 @@
-use Rattle.std.proofs.Common.{◌≡◌, ◌+◌, ℕ, List, Option, length, take}
-use Rattle.serializability.specs.Polygraph.{Choice}
-use Rattle.pruning_laws.specs.declared.side.Side.{Side}
-use Rattle.reach_rows.specs.ReachRows.{AreRowsOf}
-use Rattle.prune_ledger.proofs.Edges.{Added}
-use Rattle.branching.specs.Markings.{AreMarks, HaveLists}
+use Rattle.branching.proofs.Prelude.{◌≡◌, ◌+◌, ℕ, List, Option, length, take, Choice, Side, AreRowsOf, Added, AreMarks, HaveLists}
 use Rattle.branching.proofs.view.add_edges.Given as goal
 
 abbrev pub invariant-loop-edge : goal.invariant-loop-edge

@@ -1,9 +1,5 @@
-use Rattle.std.proofs.Common.{◌≡◌, List, None, length, map, replicate, ap, ◌∙◌, subst}
-use Rattle.serializability.specs.Polygraph.{Choice, Polygraph}
+use Rattle.branching.proofs.Prelude.{◌≡◌, List, None, length, map, replicate, ap, ◌∙◌, subst, Choice, Polygraph, IsPolygraph, size_of, Graph}
 use Rattle.known_graph.specs.Graphs.{IsKnownGraph}
-use Rattle.polygraph.specs.Polygraphs.{IsPolygraph}
-use Rattle.branching.specs.Picks.{size_of}
-use Rattle.reach_laws.specs.Reach.{Graph}
 use Rattle.branching.proofs.Markings.{blank_is_right}
 use Rattle.polygraph.proofs.Kept.{graph_in as graph_of}
 use Rattle.branching.proofs.Views.{held_opened, rows_opened, sided_opened}

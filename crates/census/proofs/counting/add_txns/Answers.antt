@@ -1,9 +1,4 @@
-use Rattle.std.proofs.Common.{◌++◌, ◌∷◌, [], List, map, take, sym, ap, ◌∙◌, append_assoc}
-use Rattle.std.proofs.lemmas.List.{take_all, map-append}
-use Rattle.list_lemmas.proofs.Lists.{append_none, mapped_front}
-use Rattle.session_log.specs.Text.{view_txn}
-use Rattle.session_log.specs.declared.session.Txn.{Txn}
-use Rattle.census.specs.Tables.{view_ref}
+use Rattle.census.proofs.Prelude.{◌++◌, ◌∷◌, [], List, map, take, sym, ap, ◌∙◌, append_assoc, take_all, map-append, append_none, mapped_front, view_txn, Txn, view_ref}
 use Rattle.census.proofs.counting.add_txns.Goals as goal
 
 pub loop-txn-init : goal.loop-txn-init

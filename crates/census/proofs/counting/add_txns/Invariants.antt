@@ -1,6 +1,4 @@
-use Rattle.std.proofs.Common.{◌≡◌, ◌++◌, map, take}
-use Rattle.session_log.specs.Text.{view_txn}
-use Rattle.census.specs.Tables.{view_ref}
+use Rattle.census.proofs.Prelude.{◌≡◌, ◌++◌, map, take, view_txn, view_ref}
 use Rattle.census.proofs.counting.add_txns.Given as goal
 
 abbrev pub invariant-loop-txn : goal.invariant-loop-txn

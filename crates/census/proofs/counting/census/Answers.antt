@@ -1,12 +1,6 @@
-use Rattle.std.proofs.Common.{◌≡◌, ℕ, List, map, length, refl, ap, ◌∙◌, subst, arith}
+use Rattle.census.proofs.Prelude.{◌≡◌, ℕ, List, map, length, refl, ap, ◌∙◌, subst, arith, Transaction, view, txns_in, view_ref, view_fault, KnowsLog, count_in, committed_in, faults_of, AreWorst}
 use Rattle.std.proofs.Math.Path.{fun_ext}
-use Rattle.session_log.specs.Text.{Transaction, view}
 use Rattle.serializability.specs.declared.anomaly.ReadAnomaly.TheVariants as anomaly
-use Rattle.log_definitions.specs.Unknown.{txns_in}
-use Rattle.census.specs.Tables.{view_ref, view_fault, KnowsLog}
-use Rattle.census.specs.Counts.{count_in}
-use Rattle.census.specs.Reads.{committed_in}
-use Rattle.census.specs.Worst.{faults_of, AreWorst}
 use Rattle.census.proofs.Counted.{all_counted}
 use Rattle.census.proofs.Totals.{kinds, lost_are}
 use Rattle.census.proofs.counting.census.Goals as goal

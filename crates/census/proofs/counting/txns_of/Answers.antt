@@ -1,13 +1,5 @@
-use Rattle.std.proofs.Common.{◌++◌, ◌∷◌, [], List, map, take, sym, ap, ◌∙◌}
-use Rattle.std.specs.List.{flat_map}
-use Rattle.std.proofs.lemmas.List.{take_all}
-use Rattle.std.proofs.lemmas.List.Concat.{flat_map-append}
-use Rattle.list_lemmas.proofs.Lists.{append_none, mapped_front}
-use Rattle.session_log.specs.Text.{ClientSession, Transaction, view, view_txn}
+use Rattle.census.proofs.Prelude.{◌++◌, ◌∷◌, [], List, map, take, sym, ap, ◌∙◌, flat_map, take_all, flat_map-append, append_none, mapped_front, ClientSession, Transaction, view, view_txn, Txn, txns_in, view_ref}
 use Rattle.session_log.specs.declared.session.Session.{Session}
-use Rattle.session_log.specs.declared.session.Txn.{Txn}
-use Rattle.log_definitions.specs.Unknown.{txns_in}
-use Rattle.census.specs.Tables.{view_ref}
 use Rattle.census.proofs.counting.txns_of.Goals as goal
 
 pub loop-session-preserved : goal.loop-session-preserved

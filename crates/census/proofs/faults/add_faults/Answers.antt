@@ -1,14 +1,4 @@
-use Rattle.std.proofs.Common.{◌≡◌, ◌++◌, ℕ, List, [], ◌∷◌, map, take, sym, ap, ◌∙◌, Option, ◌||◌, ◌+◌}
-use Rattle.std.specs.Prelude.{drop}
-use Rattle.std.proofs.lemmas.List.{drop_all}
-use Rattle.list_lemmas.proofs.Lists.{append_none}
-use Rattle.session_log.specs.Text.{key_of}
-use Rattle.session_log.specs.declared.session.Op.{Op}
-use Rattle.serializability.specs.declared.anomaly.ReadAnomaly.{ReadAnomaly}
-use Rattle.census.specs.Reads.{faults_behind, with_key, writes_as}
-use Rattle.census.specs.States.{state_of}
-use Rattle.census.specs.Versions.{has_version}
-use Rattle.census.specs.Tables.{view_fault}
+use Rattle.census.proofs.Prelude.{◌≡◌, ◌++◌, ℕ, List, [], ◌∷◌, map, take, sym, ap, ◌∙◌, Option, ◌||◌, ◌+◌, drop, drop_all, append_none, key_of, Op, ReadAnomaly, faults_behind, with_key, writes_as, state_of, has_version, view_fault}
 use Rattle.census.proofs.Along.{one_more}
 use Rattle.census.proofs.Reading.{fault_same}
 use Rattle.census.proofs.Missing.{told_more, cut_at}

@@ -1,10 +1,4 @@
-use Rattle.std.proofs.Common.{◌≡◌, ◌++◌, ℕ, List, [], map, take}
-use Rattle.std.specs.Prelude.{drop}
-use Rattle.session_log.specs.Text.{ClientSession}
-use Rattle.log_definitions.specs.Unknown.{txns_in}
-use Rattle.census.specs.Reads.{faults_behind}
-use Rattle.census.specs.States.{state_of, state_in}
-use Rattle.census.specs.Tables.{view_fault, KnowsWrites}
+use Rattle.census.proofs.Prelude.{◌≡◌, ◌++◌, ℕ, List, [], map, take, drop, ClientSession, txns_in, faults_behind, state_of, state_in, view_fault, KnowsWrites}
 use Rattle.census.proofs.faults.add_faults.Given as goal
 
 abbrev pub invariant-loop-op : goal.invariant-loop-op

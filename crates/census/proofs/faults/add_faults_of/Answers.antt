@@ -1,9 +1,4 @@
-use Rattle.std.proofs.Common.{◌++◌, ◌∷◌, [], List, cond, map, sym, ap, ◌∙◌}
-use Rattle.list_lemmas.proofs.Lists.{append_none}
-use Rattle.session_log.specs.Text.{view_txn}
-use Rattle.session_log.specs.declared.session.Op.{Op}
-use Rattle.census.specs.Reads.{faults_behind, faults_of_txns}
-use Rattle.census.specs.Tables.{view_fault}
+use Rattle.census.proofs.Prelude.{◌++◌, ◌∷◌, [], List, cond, map, sym, ap, ◌∙◌, append_none, view_txn, Op, faults_behind, faults_of_txns, view_fault}
 use Rattle.census.proofs.faults.add_faults_of.Goals as goal
 
 pub returns-then-not-is_committed : goal.returns-then-not-is_committed

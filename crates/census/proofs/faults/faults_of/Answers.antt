@@ -1,10 +1,4 @@
-use Rattle.std.proofs.Common.{List, map, ap, ◌∙◌}
-use Rattle.std.specs.List.{filter}
-use Rattle.std.proofs.lemmas.List.{take_all}
-use Rattle.session_log.specs.Text.{Transaction}
-use Rattle.log_definitions.specs.Unknown.{is_committed}
-use Rattle.census.specs.Reads.{faults_in, faults_of_txns}
-use Rattle.census.specs.Tables.{view_ref}
+use Rattle.census.proofs.Prelude.{List, map, ap, ◌∙◌, filter, take_all, Transaction, is_committed, faults_in, faults_of_txns, view_ref}
 use Rattle.census.proofs.Missing.{Faults}
 use Rattle.census.proofs.faults.faults_of.Goals as goal
 

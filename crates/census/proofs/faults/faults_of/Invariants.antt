@@ -1,9 +1,4 @@
-use Rattle.std.proofs.Common.{◌≡◌, List, map, take}
-use Rattle.std.specs.List.{filter}
-use Rattle.session_log.specs.Text.{ClientSession}
-use Rattle.log_definitions.specs.Unknown.{is_committed, txns_in}
-use Rattle.census.specs.Reads.{faults_of_txns}
-use Rattle.census.specs.Tables.{view_ref, view_fault, KnowsWrites}
+use Rattle.census.proofs.Prelude.{◌≡◌, List, map, take, filter, ClientSession, is_committed, txns_in, faults_of_txns, view_ref, view_fault, KnowsWrites}
 use Rattle.census.proofs.faults.faults_of.Given as goal
 
 abbrev pub invariant-loop-txn : goal.invariant-loop-txn

@@ -1,9 +1,4 @@
-use Rattle.std.proofs.Common.{◌≡◌, ℕ, ◌+◌, List, map, take}
-use Rattle.std.specs.Prelude.{count_by}
-use Rattle.session_log.specs.Text.{Transaction}
-use Rattle.census.specs.Counts.{count_in}
-use Rattle.census.specs.Tables.{view_ref, KnowsUpdates}
-use Rattle.census.specs.Worst.{loses_at}
+use Rattle.census.proofs.Prelude.{◌≡◌, ℕ, ◌+◌, List, map, take, count_by, Transaction, count_in, view_ref, KnowsUpdates, loses_at}
 use Rattle.census.proofs.lost.add_all_lost_keys.Given as goal
 
 abbrev pub invariant-loop-txn : goal.invariant-loop-txn

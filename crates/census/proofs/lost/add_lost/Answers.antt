@@ -1,12 +1,4 @@
-use Rattle.std.proofs.Common.{◌++◌, List, true, false, map, refl, sym, ap, ◌∙◌, subst}
-use Rattle.std.specs.List.{list_any}
-use Rattle.std.proofs.lemmas.List.{map-append}
-use Rattle.list_lemmas.proofs.Lists.{append_none}
-use Rattle.session_log.specs.Text.{view_txn}
-use Rattle.session_log.specs.declared.session.Op.{Op}
-use Rattle.log_definitions.specs.Unknown.{is_committed}
-use Rattle.census.specs.Updates.{is_lost}
-use Rattle.census.specs.Tables.{view_ref, loses_among, AreBehind}
+use Rattle.census.proofs.Prelude.{◌++◌, List, true, false, map, refl, sym, ap, ◌∙◌, subst, list_any, map-append, append_none, view_txn, Op, is_committed, is_lost, view_ref, loses_among, AreBehind}
 use Rattle.census.proofs.Knowing.{loses_same}
 use Rattle.census.proofs.Totals.{kept_one}
 use Rattle.census.proofs.lost.add_lost.Goals as goal

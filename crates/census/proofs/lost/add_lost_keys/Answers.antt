@@ -1,14 +1,4 @@
-use Rattle.std.proofs.Common.{◌≡◌, ◌+◌, ◌∷◌, [], List, cond, ap, sym, subst, ◌∙◌, arith}
-use Rattle.std.specs.List.Sorted.{IsStrictlySortedBy}
-use Rattle.std.specs.Map.{keys_of}
-use Rattle.std.specs.Map.Iter.{deref_pair}
-use Rattle.std.proofs.lemmas.Map.Iter.{rest_all, rest_more}
-use Rattle.std.proofs.lemmas.Map.Keys.{sorted_tail}
-use Rattle.session_log.specs.Text.{view_txn}
-use Rattle.session_log.specs.declared.session.Op.{Op}
-use Rattle.census.specs.Counts.{count_in}
-use Rattle.census.specs.Tables.{AreBehind}
-use Rattle.census.specs.Worst.{loses_at}
+use Rattle.census.proofs.Prelude.{◌≡◌, ◌+◌, ◌∷◌, [], List, cond, ap, sym, subst, ◌∙◌, arith, IsStrictlySortedBy, keys_of, deref_pair, rest_all, rest_more, sorted_tail, view_txn, Op, count_in, AreBehind, loses_at}
 use Rattle.census.proofs.Held.{ref_cmp}
 use Rattle.census.proofs.Counted.{lost_at, lost_is, lost_more, Done}
 use Rattle.census.proofs.lost.add_lost_keys.Goals as goal

@@ -1,7 +1,4 @@
-use Rattle.std.proofs.Common.{◌≡◌, ℕ, ◌+◌, List}
-use Rattle.std.specs.List.Sorted.{IsStrictlySortedBy}
-use Rattle.std.specs.Map.{keys_of}
-use Rattle.census.specs.Counts.{count_in}
+use Rattle.census.proofs.Prelude.{◌≡◌, ℕ, ◌+◌, List, IsStrictlySortedBy, keys_of, count_in}
 use Rattle.census.proofs.Held.{ref_cmp}
 use Rattle.census.proofs.Counted.{lost_at}
 use Rattle.census.proofs.lost.add_lost_keys.Given as goal

@@ -1,6 +1,4 @@
-use Rattle.std.proofs.Common.{◌≡◌, false, take}
-use Rattle.std.specs.List.{list_any}
-use Rattle.census.specs.Tables.{loses_among}
+use Rattle.census.proofs.Prelude.{◌≡◌, false, take, list_any, loses_among}
 use Rattle.census.proofs.lost.is_any_lost.Given as goal
 
 abbrev pub invariant-loop-op : goal.invariant-loop-op

@@ -1,6 +1,4 @@
-use Rattle.std.proofs.Common.{ap, ◌∙◌}
-use Rattle.std.proofs.lemmas.List.{take_all}
-use Rattle.census.specs.States.{state_of, state_in}
+use Rattle.census.proofs.Prelude.{ap, ◌∙◌, take_all, state_of, state_in}
 use Rattle.census.proofs.Along.{one_more}
 use Rattle.census.proofs.states.states_of.Goals as goal
 

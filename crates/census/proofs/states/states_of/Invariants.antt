@@ -1,5 +1,4 @@
-use Rattle.std.proofs.Common.{◌≡◌, ℕ, List, take}
-use Rattle.census.specs.States.{state_of, state_in}
+use Rattle.census.proofs.Prelude.{◌≡◌, ℕ, List, take, state_of, state_in}
 use Rattle.census.proofs.states.states_of.Given as goal
 
 abbrev pub invariant-loop-op : goal.invariant-loop-op

@@ -1,5 +1,4 @@
-use Rattle.std.proofs.Common.{◌≡◌, ◌++◌, take}
-use Rattle.std.specs.List.{flat_map}
+use Rattle.census.proofs.Prelude.{◌≡◌, ◌++◌, take, flat_map}
 use Rattle.census.specs.Text.{key_line}
 use Rattle.census.proofs.text.put_keys.Given as goal
 

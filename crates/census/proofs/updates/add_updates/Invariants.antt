@@ -1,7 +1,4 @@
-use Rattle.std.proofs.Common.{◌≡◌, ℕ, ◌||◌, List, take}
-use Rattle.std.specs.List.{list_any}
-use Rattle.census.specs.Versions.{has_version}
-use Rattle.census.specs.Tables.{at_read, updates_by}
+use Rattle.census.proofs.Prelude.{◌≡◌, ℕ, ◌||◌, List, take, list_any, has_version, at_read, updates_by}
 use Rattle.census.proofs.updates.add_updates.Given as goal
 
 abbrev pub invariant-loop-op : goal.invariant-loop-op

@@ -1,7 +1,4 @@
-use Rattle.std.proofs.Common.{◌≡◌, ◌≤◌, ℕ, List, take, ap, subst, ◌∙◌}
-use Rattle.std.specs.Prelude.{insert}
-use Rattle.census.specs.declared.numbers.KeyFaults.{KeyFaults}
-use Rattle.census.specs.Counts.{place_in}
+use Rattle.census.proofs.Prelude.{◌≡◌, ◌≤◌, ℕ, List, take, ap, subst, ◌∙◌, insert, KeyFaults, place_in}
 use Rattle.census.proofs.Ranks.{left_out}
 use Rattle.census.proofs.worst.add_line.Goals as goal
 use Rattle.census.proofs.worst.add_line.Goals.{then-place-lt-MOST_KEYS+in_ok-key+in_ok-insert, else-place-lt-MOST_KEYS}

@@ -1,15 +1,5 @@
-use Rattle.std.proofs.Common.{◌≡◌, ◌++◌, List, [], ◌∷◌, map, sym, ap, subst, ◌∙◌, append_assoc, append-nil}
-use Rattle.std.specs.List.Sorted.{IsStrictlySortedBy}
-use Rattle.std.specs.Map.{keys_of}
-use Rattle.std.specs.Map.Iter.{deref_pair}
-use Rattle.std.specs.BTreeMap.{get_by}
-use Rattle.std.specs.Prelude.{Some}
-use Rattle.std.proofs.lemmas.List.{map-append}
-use Rattle.std.proofs.lemmas.List.Elements.{recursion_from_All}
-use Rattle.std.proofs.lemmas.Map.Iter.{rest_all, rest_more}
-use Rattle.census.specs.States.{entry_cmp}
-use Rattle.census.specs.Counts.{with_line}
-use Rattle.census.specs.declared.numbers.KeyFaults.{KeyFaults}
+use Rattle.census.proofs.Prelude.{◌≡◌, ◌++◌, List, [], ◌∷◌, map, sym, ap, subst, ◌∙◌, append_assoc, append-nil, IsStrictlySortedBy, keys_of, deref_pair, get_by, Some, map-append, recursion_from_All, rest_all, rest_more, entry_cmp}
+use Rattle.census.proofs.Prelude.{with_line, KeyFaults}
 use Rattle.census.proofs.Held.{ref_cmp}
 use Rattle.census.proofs.Lines.{line_of, named_before, worst_are, Entry}
 use Rattle.census.proofs.Ranks.{top_more, AreTop}

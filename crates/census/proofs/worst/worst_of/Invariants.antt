@@ -1,4 +1,4 @@
-use Rattle.std.proofs.Common.{◌≡◌, ◌++◌, List, map}
+use Rattle.census.proofs.Prelude.{◌≡◌, ◌++◌, List, map}
 use Rattle.census.proofs.Lines.{Entry, line_of}
 use Rattle.census.proofs.Ranks.{AreTop}
 use Rattle.census.proofs.worst.worst_of.Given as goal

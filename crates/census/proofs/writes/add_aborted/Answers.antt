@@ -1,6 +1,4 @@
-use Rattle.std.specs.Prelude.{not}
-use Rattle.census.specs.Reads.{writes_as}
-use Rattle.census.specs.Versions.{has_version}
+use Rattle.census.proofs.Prelude.{not, writes_as, has_version}
 use Rattle.census.proofs.Truth.{left_out, let_in, not_true, not_false}
 use Rattle.census.proofs.writes.add_aborted.Goals as goal
 

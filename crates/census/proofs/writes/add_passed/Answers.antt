@@ -1,6 +1,4 @@
-use Rattle.std.proofs.Common.{◌||◌, ap, ◌∙◌}
-use Rattle.census.specs.Reads.{passes_over}
-use Rattle.census.specs.Versions.{has_version}
+use Rattle.census.proofs.Prelude.{◌||◌, ap, ◌∙◌, passes_over, has_version}
 use Rattle.census.proofs.Truth.{left_out, let_in}
 use Rattle.census.proofs.Behind.{passed_are}
 use Rattle.census.proofs.writes.add_passed.Goals as goal

@@ -1,9 +1,4 @@
-use Rattle.std.proofs.Common.{◌||◌, List, ap, ◌∙◌}
-use Rattle.std.specs.List.{list_any}
-use Rattle.std.proofs.lemmas.List.{take_all}
-use Rattle.session_log.specs.declared.session.Op.{Op}
-use Rattle.census.specs.Versions.{has_version}
-use Rattle.census.specs.Tables.{at_write, is_passed}
+use Rattle.census.proofs.Prelude.{◌||◌, List, ap, ◌∙◌, list_any, take_all, Op, has_version, at_write, is_passed}
 use Rattle.census.proofs.Truth.{grown, or_none}
 use Rattle.census.proofs.writes.add_passes.Goals as goal
 

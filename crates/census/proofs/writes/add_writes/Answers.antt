@@ -1,10 +1,4 @@
-use Rattle.std.proofs.Common.{◌||◌, List, ap, ◌∙◌}
-use Rattle.std.specs.List.{list_any}
-use Rattle.std.proofs.lemmas.List.{take_all}
-use Rattle.session_log.specs.declared.session.Op.{Op}
-use Rattle.session_log.specs.declared.session.Op.TheVariants.{Read}
-use Rattle.log_definitions.specs.Unknown.{reads_write}
-use Rattle.census.specs.Versions.{has_version}
+use Rattle.census.proofs.Prelude.{◌||◌, List, ap, ◌∙◌, list_any, take_all, Op, Read, reads_write, has_version}
 use Rattle.census.proofs.Truth.{grown, or_none}
 use Rattle.census.proofs.writes.add_writes.Goals as goal
 

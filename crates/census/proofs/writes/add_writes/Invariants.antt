@@ -1,8 +1,4 @@
-use Rattle.std.proofs.Common.{◌≡◌, ℕ, ◌||◌, List, take}
-use Rattle.std.specs.List.{list_any}
-use Rattle.session_log.specs.declared.session.Op.TheVariants.{Read}
-use Rattle.log_definitions.specs.Unknown.{reads_write}
-use Rattle.census.specs.Versions.{has_version}
+use Rattle.census.proofs.Prelude.{◌≡◌, ℕ, ◌||◌, List, take, list_any, Read, reads_write, has_version}
 use Rattle.census.proofs.writes.add_writes.Given as goal
 
 abbrev pub invariant-loop-op : goal.invariant-loop-op

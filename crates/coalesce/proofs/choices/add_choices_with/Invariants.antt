@@ -1,7 +1,4 @@
-use Rattle.std.proofs.Common.{◌≡◌, ◌++◌, take}
-use Rattle.std.specs.Prelude.{map}
-use Rattle.write_chains.specs.Views.{chain_view}
-use Rattle.coalesce.specs.Between.{between}
+use Rattle.coalesce.proofs.Prelude.{◌≡◌, ◌++◌, take, map, chain_view, between}
 use Rattle.coalesce.proofs.choices.add_choices_with.Given as goal
 
 abbrev pub invariant-loop-other : goal.invariant-loop-other

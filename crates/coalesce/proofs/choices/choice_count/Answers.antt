@@ -1,10 +1,5 @@
-use Rattle.std.proofs.Common.{◌≡◌, ◌+◌, ◌<◌, length, ap, arith}
-use Rattle.std.specs.Prelude.{map}
-use Rattle.std.proofs.lemmas.List.{length-map}
-use Rattle.log_definitions.specs.Numbers.{log_of}
-use Rattle.write_chains.specs.Views.{chain_view}
+use Rattle.coalesce.proofs.Prelude.{◌≡◌, ◌+◌, ◌<◌, length, ap, arith, map, length-map, log_of, chain_view, so_far}
 use Rattle.coalesce.proofs.Steps.{so_far_length, so_far_le}
-use Rattle.serializability.proofs.SoFar.{so_far}
 use Rattle.coalesce.proofs.Between.{of_key, key_number, triangle, triangle_more, triangle_le}
 use Rattle.coalesce.proofs.choices.choice_count.Goals as goal
 

@@ -1,6 +1,4 @@
-use Rattle.std.proofs.Common.{◌≡◌, ◌≤◌, ◌+◌, length}
-use Rattle.log_definitions.specs.Numbers.{log_of}
-use Rattle.serializability.proofs.SoFar.{so_far}
+use Rattle.coalesce.proofs.Prelude.{◌≡◌, ◌≤◌, ◌+◌, length, log_of, so_far}
 use Rattle.coalesce.proofs.Between.{of_key, triangle}
 use Rattle.coalesce.proofs.choices.choice_count.Given as goal
 

@@ -1,9 +1,4 @@
-use Rattle.std.proofs.Common.{◌++◌, ◌∙◌, ap, sym}
-use Rattle.std.specs.Prelude.{map}
-use Rattle.log_definitions.specs.Numbers.{log_of}
-use Rattle.write_chains.specs.Views.{chain_view}
-use Rattle.coalesce.specs.Between.{among}
-use Rattle.serializability.proofs.SoFar.{so_far, so_far_more}
+use Rattle.coalesce.proofs.Prelude.{◌++◌, ◌∙◌, ap, sym, map, log_of, chain_view, among, so_far, so_far_more}
 use Rattle.coalesce.proofs.Between.{of_key, among_key}
 use Rattle.coalesce.proofs.choices.choices_of.Goals as goal
 

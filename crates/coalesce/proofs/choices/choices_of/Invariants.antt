@@ -1,6 +1,4 @@
-use Rattle.std.proofs.Common.{◌≡◌}
-use Rattle.log_definitions.specs.Numbers.{log_of}
-use Rattle.serializability.proofs.SoFar.{so_far}
+use Rattle.coalesce.proofs.Prelude.{◌≡◌, log_of, so_far}
 use Rattle.coalesce.proofs.Between.{of_key}
 use Rattle.coalesce.proofs.choices.choices_of.Given as goal
 

@@ -1,7 +1,6 @@
-use Rattle.std.proofs.Common.{◌∙◌, ℕ, rules, tests}
+use Rattle.coalesce.proofs.Prelude.{◌∙◌, ℕ, rules, tests, Edge}
 use Rattle.std.proofs.lemmas.Iterator.{items_from_collect, YieldsList-from_slice, YieldsList-from_map}
 use Rattle.std.proofs.lemmas.Iterator.Consumers.{YieldsList-at}
-use Rattle.serializability.specs.Polygraph.{Edge}
 use Rattle.coalesce.proofs.choices.edges_from_each.Goals as goal
 
 pub returns : goal.returns

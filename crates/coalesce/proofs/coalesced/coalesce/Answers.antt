@@ -1,10 +1,5 @@
-use Rattle.std.proofs.Common.{◌≡◌, ◌++◌, ◌∙◌, ap, sym, subst}
-use Rattle.std.specs.List.{AllByRecursion}
-use Rattle.log_definitions.specs.Numbers.{log_of}
+use Rattle.coalesce.proofs.Prelude.{◌≡◌, ◌++◌, ◌∙◌, ap, sym, subst, AllByRecursion, log_of, chain_choices, inner_edges, initial_first, JoinsBoth, IsWith}
 use Rattle.serializability.specs.Polygraph as spec
-use Rattle.chain_laws.specs.Chains.{chain_choices, inner_edges, initial_first}
-use Rattle.polygraph.specs.Polygraphs.{JoinsBoth}
-use Rattle.coalesce.specs.Added.{IsWith}
 use Rattle.coalesce.proofs.Joined.{choices_joined}
 use Rattle.coalesce.proofs.Sets.{whole_known, same_orders}
 use Rattle.coalesce.proofs.coalesced.coalesce.Goals as goal

@@ -1,8 +1,5 @@
-use Rattle.std.proofs.Common.{◌≡◌, ◌+◌, ◌++◌, [], ◌∷◌, ◌∙◌, sym, ap, take, arith}
-use Rattle.std.proofs.lemmas.List.{take_more}
-use Rattle.serializability.specs.Polygraph.{Edge}
+use Rattle.coalesce.proofs.Prelude.{◌≡◌, ◌+◌, ◌++◌, [], ◌∷◌, ◌∙◌, sym, ap, take, arith, take_more, Edge, Joins}
 use Rattle.reach_laws.proofs.Walks.{each_contained}
-use Rattle.polygraph.specs.Polygraphs.{Joins}
 use Rattle.coalesce.proofs.Sets.{with_next}
 use Rattle.coalesce.proofs.known.add_edges.Goals as goal
 

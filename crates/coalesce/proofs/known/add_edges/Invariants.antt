@@ -1,5 +1,4 @@
-use Rattle.std.proofs.Common.{◌≡◌, take}
-use Rattle.coalesce.specs.Added.{IsWith}
+use Rattle.coalesce.proofs.Prelude.{◌≡◌, take, IsWith}
 use Rattle.coalesce.proofs.known.add_edges.Given as goal
 
 abbrev pub invariant-loop-edge : goal.invariant-loop-edge

@@ -1,11 +1,5 @@
-use Rattle.std.proofs.Common.{ℕ, ◌+◌, ◌∙◌, take, subst, arith}
-use Rattle.std.specs.Prelude.{map}
-use Rattle.std.proofs.lemmas.List.{take_all}
+use Rattle.coalesce.proofs.Prelude.{ℕ, ◌+◌, ◌∙◌, take, subst, arith, map, take_all, Edge, Joins, each_item, IsWith}
 use Rattle.list_lemmas.proofs.Lists.{mapped_front}
-use Rattle.serializability.specs.Polygraph.{Edge}
-use Rattle.polygraph.specs.Polygraphs.{Joins}
-use Rattle.polygraph.proofs.Each.{each_item}
-use Rattle.coalesce.specs.Added.{IsWith}
 use Rattle.coalesce.proofs.Sets.{with_next}
 use Rattle.coalesce.proofs.known.add_edges_to.Goals as goal
 

@@ -1,6 +1,4 @@
-use Rattle.std.proofs.Common.{◌≡◌, take}
-use Rattle.std.specs.Prelude.{map}
-use Rattle.coalesce.specs.Added.{IsWith}
+use Rattle.coalesce.proofs.Prelude.{◌≡◌, take, map, IsWith}
 use Rattle.coalesce.proofs.known.add_edges_to.Given as goal
 
 abbrev pub invariant-loop-source : goal.invariant-loop-source

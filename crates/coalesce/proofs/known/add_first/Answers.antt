@@ -1,10 +1,4 @@
-use Rattle.std.proofs.Common.{◌+◌, ◌∙◌, take, sym, subst}
-use Rattle.std.specs.Prelude.{map}
-use Rattle.std.specs.List.{flat_map, AllByRecursion}
-use Rattle.write_chains.specs.Views.{chain_view}
-use Rattle.polygraph.specs.Polygraphs.{Joins}
-use Rattle.polygraph.proofs.Each.{each_item}
-use Rattle.coalesce.specs.Between.{before}
+use Rattle.coalesce.proofs.Prelude.{◌+◌, ◌∙◌, take, sym, subst, map, flat_map, AllByRecursion, chain_view, Joins, each_item, before}
 use Rattle.coalesce.proofs.Steps.{flat_more}
 use Rattle.coalesce.proofs.Sets.{with_piece}
 use Rattle.coalesce.proofs.known.add_first.Goals as goal

@@ -1,9 +1,4 @@
-use Rattle.std.proofs.Common.{◌≡◌, take}
-use Rattle.std.specs.Prelude.{map}
-use Rattle.std.specs.List.{flat_map}
-use Rattle.write_chains.specs.Views.{chain_view}
-use Rattle.coalesce.specs.Added.{IsWith}
-use Rattle.coalesce.specs.Between.{before}
+use Rattle.coalesce.proofs.Prelude.{◌≡◌, take, map, flat_map, chain_view, IsWith, before}
 use Rattle.coalesce.proofs.known.add_first.Given as goal
 
 abbrev pub invariant-loop-other : goal.invariant-loop-other

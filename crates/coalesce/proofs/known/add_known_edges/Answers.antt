@@ -1,13 +1,5 @@
-use Rattle.std.proofs.Common.{◌+◌, ◌++◌, ◌∙◌, ap, sym, subst, append_assoc}
-use Rattle.std.specs.Prelude.{map}
-use Rattle.std.specs.List.{flat_map, AllByRecursion}
-use Rattle.log_definitions.specs.Numbers.{log_of}
-use Rattle.chain_laws.specs.Chains.{inner_edges}
-use Rattle.write_chains.specs.Views.{chain_view}
-use Rattle.polygraph.specs.Polygraphs.{Joins}
-use Rattle.coalesce.specs.Between.{before}
+use Rattle.coalesce.proofs.Prelude.{◌+◌, ◌++◌, ◌∙◌, ap, sym, subst, append_assoc, map, flat_map, AllByRecursion, log_of, inner_edges, chain_view, Joins, before, so_far, so_far_more}
 use Rattle.coalesce.proofs.Joined.{inner_joined}
-use Rattle.serializability.proofs.SoFar.{so_far, so_far_more}
 use Rattle.coalesce.proofs.Between.{first_of_key, first_key, first_key_joined}
 use Rattle.coalesce.proofs.Sets.{with_piece}
 use Rattle.coalesce.proofs.known.add_known_edges.Goals as goal

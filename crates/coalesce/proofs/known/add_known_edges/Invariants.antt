@@ -1,8 +1,4 @@
-use Rattle.std.proofs.Common.{◌≡◌, ◌++◌}
-use Rattle.log_definitions.specs.Numbers.{log_of}
-use Rattle.chain_laws.specs.Chains.{inner_edges}
-use Rattle.coalesce.specs.Added.{IsWith}
-use Rattle.serializability.proofs.SoFar.{so_far}
+use Rattle.coalesce.proofs.Prelude.{◌≡◌, ◌++◌, log_of, inner_edges, IsWith, so_far}
 use Rattle.coalesce.proofs.Between.{first_of_key}
 use Rattle.coalesce.proofs.known.add_known_edges.Given as goal
 

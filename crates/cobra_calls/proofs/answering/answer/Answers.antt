@@ -1,5 +1,4 @@
-use Rattle.std.proofs.Common.{refl}
-use Rattle.cobra_calls.specs.Worlds.{by_answer, by_ending}
+use Rattle.cobra_calls.proofs.Prelude.{refl, by_answer, by_ending}
 use Rattle.cobra_calls.proofs.answering.answer.Goals as goal
 
 pub returns-in-Ok : goal.returns-in-Ok

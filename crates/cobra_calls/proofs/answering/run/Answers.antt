@@ -1,6 +1,4 @@
-use Rattle.std.proofs.Common.{refl, sym, subst, ◌∙◌}
-use Rattle.std.proofs.lemmas.Result.{err_from_is_err_and}
-use Rattle.cobra_calls.specs.Worlds.{by_output, IsLogRead, IsNamedRead}
+use Rattle.cobra_calls.proofs.Prelude.{refl, sym, subst, ◌∙◌, err_from_is_err_and, by_output, IsLogRead, IsNamedRead}
 use Rattle.cobra_calls.proofs.Left.{ended_by_command, answered_so}
 use Rattle.cobra_calls.proofs.answering.run.Goals as goal
 

@@ -1,19 +1,12 @@
-use Rattle.std.proofs.Common.{◌≡◌, ℕ, List, Option, refl, sym, subst, inl, inr, ◌∙◌}
+use Rattle.cobra_calls.proofs.Prelude.{◌≡◌, ℕ, List, Option, refl, sym, subst, inl, inr, ◌∙◌, Disk, Request, Ending, log_name, Asks, IsRefusalTold, IsAuditEnding, by_memory, err_from_is_err_and, TellsFront, IsHandedOn, twice_line, by_names}
+use Rattle.cobra_calls.proofs.Prelude.{cut_refusal, cut_report, cut_files, IsUnusableLine}
 use Rattle.std.specs.declared.time.Instant.{Instant}
 use Rattle.audit_command.specs.declared.options.AuditOptions.{AuditOptions}
 use Rattle.audit_command.specs.declared.outcome.Refusal.{Refusal}
 use Rattle.audit_command.specs.declared.outcome.Refusal.TheVariants as refusal
-use Rattle.cobra_calls.specs.Files.{Disk}
-use Rattle.cobra_words.specs.declared.request.Request.{Request}
 use Rattle.cobra_words.specs.declared.request.AuditWords.{AuditWords}
-use Rattle.cobra_calls.specs.declared.ending.Ending.{Ending}
-use Rattle.cobra_calls.specs.Calls.{log_name}
-use Rattle.cobra_calls.specs.Audits.{Asks, IsRefusalTold, IsAuditEnding, by_memory}
-use Rattle.std.proofs.lemmas.Result.{err_from_is_err_and}
 use Rattle.audit_command.specs.Audited.{IsRefused}
-use Rattle.cobra_calls.specs.Handed.{TellsFront}
-use Rattle.cobra_calls.specs.Audits.{IsHandedOn, twice_line, by_names, by_log, cut_refusal, cut_report, cut_files}
-use Rattle.cobra_calls.specs.Endings.{IsUnusableLine}
+use Rattle.cobra_calls.specs.Audits.{by_log}
 use Rattle.cobra_calls.proofs.Failures.{by_line}
 use Rattle.cobra_calls.proofs.audits.audit_log.Goals as goal
 

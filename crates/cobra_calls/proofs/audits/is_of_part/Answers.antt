@@ -1,4 +1,4 @@
-use Rattle.std.proofs.Common.{◌≡◌, rules, ◌∙◌}
+use Rattle.cobra_calls.proofs.Prelude.{◌≡◌, rules, ◌∙◌}
 use Rattle.cobra_calls.proofs.Apart.{stands_first, stands_second}
 use Rattle.cobra_calls.proofs.audits.is_of_part.Goals as goal
 

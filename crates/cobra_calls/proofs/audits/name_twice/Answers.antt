@@ -1,6 +1,5 @@
-use Rattle.std.proofs.Common.{◌≡◌, ◌≢◌, rules, refl}
+use Rattle.cobra_calls.proofs.Prelude.{◌≡◌, ◌≢◌, rules, refl, part_names, order_names}
 use Rattle.cobra_calls.proofs.Apart.{twice_log, twice_same, twice_order, apart_order}
-use Rattle.cobra_calls.specs.Audits.{part_names, order_names}
 use Rattle.cobra_calls.proofs.audits.name_twice.Goals as goal
 
 pub returns-then-is_of_part-clause-twice : goal.returns-then-is_of_part-clause-twice

@@ -1,7 +1,5 @@
-use Rattle.std.proofs.Common.{◌++◌}
-use Rattle.std.proofs.lemmas.Result.{IfErr-weaker, on_ok_weaker}
+use Rattle.cobra_calls.proofs.Prelude.{◌++◌, IfErr-weaker, on_ok_weaker, part_files, order_files, IsUnwritten}
 use Rattle.cobra_calls.proofs.Cuts.{adds_both, cut_before, cut_behind}
-use Rattle.cobra_calls.specs.Audits.{part_files, order_files, IsUnwritten}
 use Rattle.cobra_calls.proofs.audits.put_files.Goals as goal
 
 pub returns-in-Err-clause-unwritten : goal.returns-in-Err-clause-unwritten

@@ -1,7 +1,4 @@
-use Rattle.std.proofs.Common.{[], ◌∷◌, subst, refl}
-use Rattle.std.proofs.lemmas.Result.{IfErr-weaker, on_ok_weaker}
-use Rattle.cobra_calls.specs.Files.{File, Adds, FailsAt}
-use Rattle.cobra_calls.specs.Audits.{IsUnwritten}
+use Rattle.cobra_calls.proofs.Prelude.{[], ◌∷◌, subst, refl, IfErr-weaker, on_ok_weaker, File, Adds, FailsAt, IsUnwritten}
 use Rattle.cobra_calls.proofs.Cuts.{file_is, adds_both, cut_at, cut_behind}
 use Rattle.cobra_calls.proofs.audits.put_part.Goals as goal
 

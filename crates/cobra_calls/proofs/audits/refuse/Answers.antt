@@ -1,5 +1,4 @@
-use Rattle.std.proofs.Common.{sym, ◌∙◌}
-use Rattle.cobra_calls.specs.Endings.{IsRefusedBy}
+use Rattle.cobra_calls.proofs.Prelude.{sym, ◌∙◌, IsRefusedBy}
 use Rattle.cobra_calls.proofs.Failures.{by_line}
 use Rattle.cobra_calls.proofs.audits.refuse.Goals as goal
 

@@ -1,5 +1,4 @@
-use Rattle.std.proofs.Common.{◌∷◌, ◌++◌, subst}
-use Rattle.cobra_calls.specs.Audits.{part_names, order_names, StandsTwice, twice_line}
+use Rattle.cobra_calls.proofs.Prelude.{◌∷◌, ◌++◌, subst, part_names, order_names, StandsTwice, twice_line}
 use Rattle.cobra_calls.proofs.Usage.{usage_of}
 use Rattle.cobra_calls.proofs.audits.refuse_same_files.Goals as goal
 

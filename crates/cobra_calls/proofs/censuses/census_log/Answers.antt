@@ -1,5 +1,4 @@
-use Rattle.std.proofs.Common.{subst, ◌∙◌}
-use Rattle.cobra_calls.specs.Censuses.{IsCensusEnding}
+use Rattle.cobra_calls.proofs.Prelude.{subst, ◌∙◌, IsCensusEnding}
 use Rattle.cobra_calls.proofs.censuses.census_log.Goals as goal
 
 pub returns-in-Err-clause-ended : goal.returns-in-Err-clause-ended

@@ -1,7 +1,6 @@
-use Rattle.std.proofs.Common.{refl, subst, sym}
-use Rattle.cobra_calls.specs.Endings.{IsRefusedBy}
+use Rattle.cobra_calls.proofs.Prelude.{refl, subst, sym, IsRefusedBy, by_device}
 use Rattle.census_command.specs.Told.{IsUntold}
-use Rattle.cobra_calls.specs.Censuses.{by_log, by_device}
+use Rattle.cobra_calls.specs.Censuses.{by_log}
 use Rattle.cobra_calls.proofs.Failures.{by_line}
 use Rattle.cobra_calls.proofs.censuses.ending_of.Goals as goal
 

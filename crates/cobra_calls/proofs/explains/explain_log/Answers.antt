@@ -1,5 +1,4 @@
-use Rattle.std.proofs.Common.{subst}
-use Rattle.cobra_calls.specs.Explains.{IsExplainEnding}
+use Rattle.cobra_calls.proofs.Prelude.{subst, IsExplainEnding}
 use Rattle.cobra_calls.proofs.explains.explain_log.Goals as goal
 
 pub returns-in-Err-clause-ended : goal.returns-in-Err-clause-ended

@@ -1,15 +1,7 @@
-use Rattle.std.proofs.Common.{◌≡◌, Err, Some, refl, sym, ap, subst, ◌∙◌}
-use Rattle.session_log.specs.Version.{version_of}
-use Rattle.cobra_answers.specs.Answers.{IsRefused}
+use Rattle.cobra_calls.proofs.Prelude.{◌≡◌, Err, Some, refl, sym, ap, subst, ◌∙◌, version_of, IsRefused, Fault, IsUndecided, IsExplanation, Stop, failures_by, said_fault, IsExplainEnding}
 use Rattle.cobra_answers.specs.Failures.{failures_after}
-use Rattle.cobra_answers.specs.declared.fault.Fault.{Fault}
 use Rattle.cobra_answers.specs.declared.stop.Stop.TheVariants as stop
-use Rattle.cobra_cli.specs.Checked.{IsUndecided}
-use Rattle.cobra_cli.specs.Explained.{IsExplanation}
-use Rattle.cobra_calls.specs.declared.ending.Ending.TheVariants.{Stop}
-use Rattle.cobra_calls.specs.Endings.{failures_by}
 use Rattle.cobra_calls.specs.Explains as explains
-use Rattle.cobra_calls.specs.Explains.{said_fault, IsExplainEnding}
 use Rattle.cobra_calls.proofs.Saying.{said_is, said_behind, unsaid_behind}
 use Rattle.cobra_calls.proofs.explains.refuse.Goals as goal
 

@@ -1,5 +1,4 @@
-use Rattle.std.proofs.Common.{sym, subst}
-use Rattle.cobra_calls.specs.Worlds.{IsLogUnread}
+use Rattle.cobra_calls.proofs.Prelude.{sym, subst, IsLogUnread}
 use Rattle.cobra_calls.proofs.reading.read_log.Goals as goal
 
 pub returns-in-Err-clause-unread : goal.returns-in-Err-clause-unread

@@ -1,5 +1,4 @@
-use Rattle.std.proofs.Common.{sym, subst}
-use Rattle.cobra_calls.specs.Endings.{IsUnread}
+use Rattle.cobra_calls.proofs.Prelude.{sym, subst, IsUnread}
 use Rattle.cobra_calls.proofs.reading.read_named.Goals as goal
 
 pub returns-in-Err-clause-unread : goal.returns-in-Err-clause-unread

@@ -1,7 +1,6 @@
-use Rattle.std.proofs.Common.{◌≡◌, refl, subst, sym}
-use Rattle.cobra_calls.specs.Endings.{IsRefusedBy}
+use Rattle.cobra_calls.proofs.Prelude.{◌≡◌, refl, subst, sym, IsRefusedBy, no_room_line, by_locks}
 use Rattle.split_command.specs.Told.{IsUntold}
-use Rattle.cobra_calls.specs.Splits.{no_room_line, by_log, by_locks, by_device}
+use Rattle.cobra_calls.specs.Splits.{by_log, by_device}
 use Rattle.cobra_calls.proofs.Failures.{by_line}
 use Rattle.cobra_calls.proofs.Usage.{usage_of}
 use Rattle.cobra_calls.proofs.splits.ending_of.Goals as goal

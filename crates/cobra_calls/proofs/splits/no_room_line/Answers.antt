@@ -1,5 +1,4 @@
-use Rattle.std.proofs.Common.{◌≡◌, IfOk, string_bytes, sym, subst}
-use Rattle.cobra_calls.specs.Splits.{no_room_line}
+use Rattle.cobra_calls.proofs.Prelude.{◌≡◌, IfOk, string_bytes, sym, subst, no_room_line}
 use Rattle.cobra_calls.proofs.splits.no_room_line.Goals as goal
 
 pub returns-in-Identities : goal.returns-in-Identities

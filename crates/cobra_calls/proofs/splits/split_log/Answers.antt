@@ -1,5 +1,4 @@
-use Rattle.std.proofs.Common.{subst, ◌∙◌}
-use Rattle.cobra_calls.specs.Splits.{IsSplitEnding}
+use Rattle.cobra_calls.proofs.Prelude.{subst, ◌∙◌, IsSplitEnding}
 use Rattle.cobra_calls.proofs.splits.split_log.Goals as goal
 
 pub returns-in-Err-clause-ended : goal.returns-in-Err-clause-ended

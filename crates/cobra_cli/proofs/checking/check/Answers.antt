@@ -1,9 +1,5 @@
-use Rattle.std.proofs.lemmas.Result.{err_from_is_err_and}
-use Rattle.cobra_answers.specs.Answers.{by_log, by_command}
-use Rattle.cobra_answers.specs.Refusals.{poly_refusal}
+use Rattle.cobra_cli.proofs.Prelude.{err_from_is_err_and, by_log, by_command, poly_refusal, told_all, cut_all, keeps, IsVerdict, IsUndecided}
 use Rattle.cobra_answers.specs.declared.fault.Fault.TheVariants as fault
-use Rattle.cobra_answers.proofs.Telling.{told_all, cut_all, keeps}
-use Rattle.cobra_cli.specs.Checked.{IsVerdict, IsUndecided}
 use Rattle.cobra_cli.proofs.Answering.{verdict_so, decided_so, undecided_so}
 use Rattle.cobra_cli.proofs.checking.check.Goals as goal
 

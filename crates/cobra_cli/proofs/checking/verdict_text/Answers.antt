@@ -1,4 +1,4 @@
-use Rattle.log_definitions.proofs.Nodes.{nodes_of_serial}
+use Rattle.cobra_cli.proofs.Prelude.{nodes_of_serial}
 use Rattle.cobra_cli.proofs.checking.verdict_text.Goals as goal
 
 pub serial_text-requires : goal.serial_text-requires

@@ -1,11 +1,6 @@
-use Rattle.std.proofs.Common.{subst}
+use Rattle.cobra_cli.proofs.Prelude.{subst, IsAnswer, cnf_of, belongs_so, Unknown, unsatisfiable, unknown, unchecked_text, unknown_text}
 use Rattle.dimacs.specs.declared.answer.SolverAnswer.{SolverAnswer}
 use Rattle.dimacs.specs.declared.status.Status.TheVariants as claim
-use Rattle.dimacs.specs.Answer.{IsAnswer}
-use Rattle.order_cnf.specs.Data.{cnf_of}
-use Rattle.cobra_formulas.proofs.Made.{belongs_so}
-use Rattle.cobra_answers.specs.declared.status.Status.TheVariants.{Unknown}
-use Rattle.cobra_cli.specs.Commands.{unsatisfiable, unknown, unchecked_text, unknown_text}
 use Rattle.cobra_cli.proofs.Answering.{answer_to, decoding_is}
 use Rattle.cobra_cli.proofs.decoding.decode_answer.Goals as goal
 

@@ -1,9 +1,4 @@
-use Rattle.std.proofs.Common.{ap, length, ◌∙◌}
-use Rattle.log_definitions.proofs.Nodes.{nodes_of_serial}
-use Rattle.dimacs.specs.Answer.{items_of}
-use Rattle.order_cnf.specs.Data.{cnf_of}
-use Rattle.cobra_formulas.proofs.Made.{serial_of}
-use Rattle.cobra_cli.specs.Commands.{model}
+use Rattle.cobra_cli.proofs.Prelude.{ap, length, ◌∙◌, nodes_of_serial, items_of, cnf_of, serial_of, model}
 use Rattle.cobra_cli.proofs.Answering.{assignment_long, order_text_of}
 use Rattle.cobra_cli.proofs.decoding.order_reply.Goals as goal
 

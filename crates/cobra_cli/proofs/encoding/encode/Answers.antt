@@ -1,11 +1,5 @@
-use Rattle.std.proofs.lemmas.Result.{err_from_is_err_and}
-use Rattle.dimacs.specs.Text.{text_of}
-use Rattle.order_cnf.specs.Data.{cnf_of}
-use Rattle.cobra_answers.specs.declared.status.Status.TheVariants.{Done}
+use Rattle.cobra_cli.proofs.Prelude.{err_from_is_err_and, text_of, cnf_of, Done, by_log, by_command, IsEncoding, HasNoFormula, told_all, cut_all, keeps}
 use Rattle.cobra_answers.specs.declared.fault.Fault.TheVariants as fault
-use Rattle.cobra_answers.specs.Answers.{by_log, by_command}
-use Rattle.cobra_cli.specs.Commands.{IsEncoding, HasNoFormula}
-use Rattle.cobra_answers.proofs.Telling.{told_all, cut_all, keeps}
 use Rattle.cobra_cli.proofs.Answering.{encoding_of}
 use Rattle.cobra_cli.proofs.encoding.encode.Goals as goal
 

@@ -1,4 +1,4 @@
-use Rattle.std.proofs.Common.{◌∙◌}
+use Rattle.cobra_cli.proofs.Prelude.{◌∙◌}
 use Rattle.cobra_cli.proofs.Statuses.{done_order, refused_none, unknown_spent}
 use Rattle.cobra_cli.proofs.laws.statuses_of_check.Goals as goal
 

@@ -1,4 +1,4 @@
-use Rattle.order_cnf.specs.Data.{cnf_of}
+use Rattle.cobra_cli.proofs.Prelude.{cnf_of}
 use Rattle.cobra_cli.proofs.Counting.{opens_no_more}
 use Rattle.cobra_cli.proofs.statistics.count_history.Goals as goal
 

@@ -1,8 +1,6 @@
-use Rattle.std.proofs.Common.{◌≡◌, ℕ, ◌+◌, ◌-◌, List, ◌++◌, length, ap, ◌∙◌, arith}
+use Rattle.cobra_cli.proofs.Prelude.{◌≡◌, ℕ, ◌+◌, ◌-◌, List, ◌++◌, length, ap, ◌∙◌, arith, keys_in, is_aborted, count_line, unlearnt_text, taken_count}
 use Rattle.std.specs.Prelude.{codes, count_by}
 use Rattle.log_definitions.specs.Unknown.{txns_in, ops_in, is_committed, is_unknown}
-use Rattle.log_definitions.specs.WellFormed.{keys_in, is_aborted}
-use Rattle.cobra_cli.specs.Statistics.{count_line, unlearnt_text, taken_count}
 use Rattle.cobra_cli.proofs.Counting.{joined}
 use Rattle.cobra_cli.proofs.statistics.put_counts.Goals as goal
 

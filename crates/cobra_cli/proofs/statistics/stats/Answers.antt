@@ -1,8 +1,4 @@
-use Rattle.std.proofs.lemmas.Result.{err_from_is_err_and}
-use Rattle.session_log.specs.Version.{version_of}
-use Rattle.cobra_cli.specs.Commands.{IsCounting, HasNoFormula}
-use Rattle.cobra_answers.specs.Answers.{by_log, by_command}
-use Rattle.cobra_answers.proofs.Telling.{told_all, cut_all, keeps}
+use Rattle.cobra_cli.proofs.Prelude.{err_from_is_err_and, version_of, IsCounting, HasNoFormula, by_log, by_command, told_all, cut_all, keeps}
 use Rattle.cobra_cli.proofs.statistics.stats.Goals as goal
 
 pub returns-in_err-history-clause-refused : goal.returns-in_err-history-clause-refused

@@ -1,12 +1,5 @@
-use Rattle.std.proofs.lemmas.Result.{err_from_is_err_and}
-use Rattle.session_log.specs.Version.{version_of}
-use Rattle.log_definitions.proofs.Room.{room_behind}
-use Rattle.cobra_answers.specs.Answers.{by_log, by_command}
-use Rattle.cobra_answers.specs.Refusals.{poly_refusal}
+use Rattle.cobra_cli.proofs.Prelude.{err_from_is_err_and, version_of, room_behind, by_log, by_command, poly_refusal, told_all, cut_all, keeps, IsUndecided, IsExplanation}
 use Rattle.cobra_answers.specs.declared.fault.Fault.TheVariants as fault
-use Rattle.cobra_answers.proofs.Telling.{told_all, cut_all, keeps}
-use Rattle.cobra_cli.specs.Checked.{IsUndecided}
-use Rattle.cobra_cli.specs.Explained.{IsExplanation}
 use Rattle.cobra_cli.proofs.Answering.{decided_so, undecided_so, explanation_so}
 use Rattle.cobra_cli.proofs.telling.explain.Goals as goal
 

@@ -1,7 +1,4 @@
-use Rattle.std.proofs.Common.{subst}
-use Rattle.log_definitions.specs.Numbers.{log_of}
-use Rattle.decode_order.specs.declared.fault.ReplayFault.{ReplayFault}
-use Rattle.decode_order.specs.Replaying.{replay_fault, IsReplayFault}
+use Rattle.cobra_cli.proofs.Prelude.{subst, log_of, ReplayFault, replay_fault, IsReplayFault}
 use Rattle.cobra_cli.proofs.Named.{early_within, ended_within, mismatch_within}
 use Rattle.cobra_cli.proofs.verifying.replay_refusal.Goals as goal
 

@@ -1,7 +1,4 @@
-use Rattle.std.proofs.lemmas.Result.{err_from_is_err_and}
-use Rattle.cobra_cli.specs.Commands.{IsVerified, IsNotVerified}
-use Rattle.cobra_answers.specs.Answers.{by_log, by_command}
-use Rattle.cobra_answers.proofs.Telling.{told_all, cut_all, keeps}
+use Rattle.cobra_cli.proofs.Prelude.{err_from_is_err_and, IsVerified, IsNotVerified, by_log, by_command, told_all, cut_all, keeps}
 use Rattle.cobra_cli.proofs.verifying.verify.Goals as goal
 
 pub returns-in_err-history-clause-refused : goal.returns-in_err-history-clause-refused

@@ -1,4 +1,4 @@
-use Rattle.log_definitions.proofs.Renaming.{serial_by_keys}
+use Rattle.cobra_cli.proofs.Prelude.{serial_by_keys}
 use Rattle.cobra_cli.proofs.verifying.verify_order.Goals as goal
 
 pub returns-clause-verified : goal.returns-clause-verified

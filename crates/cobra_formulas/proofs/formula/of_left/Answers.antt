@@ -1,10 +1,4 @@
-use Rattle.std.proofs.Common.{length, ap, ◌∙◌, subst}
-use Rattle.std.proofs.lemmas.Result.{err_from_is_err_and}
-use Rattle.serializability.specs.Polygraph.{Polygraph}
-use Rattle.known_graph.specs.Graphs.{IsKnownGraph}
-use Rattle.polygraph.specs.Polygraphs.{IsPolygraph}
-use Rattle.order_cnf.specs.Data.{cnf_of, is_listed}
-use Rattle.order_cnf.specs.Left.{formula_of_rest}
+use Rattle.cobra_formulas.proofs.Prelude.{length, ap, ◌∙◌, subst, err_from_is_err_and, Polygraph, IsKnownGraph, IsPolygraph, cnf_of, is_listed, formula_of_rest}
 use Rattle.cobra_formulas.proofs.Reduced.{listed_reach, proper_polygraph, faithful_reduced, faithful_as, left_made, left_fault}
 use Rattle.cobra_formulas.proofs.formula.of_left.Goals as goal
 

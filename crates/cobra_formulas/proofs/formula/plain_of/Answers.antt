@@ -1,6 +1,4 @@
-use Rattle.std.proofs.Common.{sym, ◌∙◌}
-use Rattle.headline.proofs.Answered.{clean_log, none_serial}
-use Rattle.order_cnf.specs.Data.{cnf_of}
+use Rattle.cobra_formulas.proofs.Prelude.{sym, ◌∙◌, clean_log, none_serial, cnf_of}
 use Rattle.cobra_formulas.proofs.Plain.{faithful_plain}
 use Rattle.cobra_formulas.proofs.Reduced.{contradicted_faithful, plain_is_answer}
 use Rattle.cobra_formulas.proofs.formula.plain_of.Goals as goal

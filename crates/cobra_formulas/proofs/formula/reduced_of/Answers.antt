@@ -1,4 +1,4 @@
-use Rattle.std.proofs.Common.{sym}
+use Rattle.cobra_formulas.proofs.Prelude.{sym}
 use Rattle.cobra_formulas.proofs.Reduced.{contradicted_made, contradicted_faithful, made_from_anomaly, made_from_cycle, made_from_dead}
 use Rattle.cobra_formulas.proofs.formula.reduced_of.Goals as goal
 

@@ -1,7 +1,4 @@
-use Rattle.std.proofs.Common.{map}
-use Rattle.std.proofs.lemmas.Result.{err_from_is_err_and}
-use Rattle.session_log.specs.Text.{view}
-use Rattle.session_log.specs.Version.{version_of}
+use Rattle.cobra_formulas.proofs.Prelude.{map, err_from_is_err_and, view, version_of}
 use Rattle.log_definitions.proofs.Room.{room}
 use Rattle.cobra_formulas.proofs.Logs.{from_reading, from_build}
 use Rattle.cobra_formulas.proofs.reading.read_log.Goals as goal

@@ -1,8 +1,4 @@
-use Rattle.std.proofs.Common.{rules}
-use Rattle.std.specs.Prelude.{codes}
-use Rattle.std.proofs.lemmas.Result.{IfOk-weaker}
-use Rattle.clap.specs.Simple.{new_app}
-use Rattle.cobra_words.specs.Commands.{strategies, with_audit, with_report, with_search, HasApp, HasListApp, IsAudit}
+use Rattle.cobra_words.proofs.Prelude.{rules, codes, IfOk-weaker, new_app, strategies, with_audit, with_report, with_search, HasApp, HasListApp, IsAudit}
 use Rattle.cobra_words.proofs.commands.audit.Goals as goal
 
 pub returns : goal.returns

@@ -1,8 +1,4 @@
-use Rattle.std.proofs.Common.{rules}
-use Rattle.std.specs.Prelude.{codes}
-use Rattle.std.proofs.lemmas.Result.{IfOk-weaker}
-use Rattle.clap.specs.Simple.{new_app, with_rule}
-use Rattle.cobra_words.specs.Commands.{strategies, form, level, with_search, HasApp, HasListApp, IsExplain}
+use Rattle.cobra_words.proofs.Prelude.{rules, codes, IfOk-weaker, new_app, with_rule, strategies, form, level, with_search, HasApp, HasListApp, IsExplain}
 use Rattle.cobra_words.proofs.Adding.{arg_step}
 use Rattle.cobra_words.proofs.commands.explain.Goals as goal
 

@@ -1,6 +1,4 @@
-use Rattle.std.proofs.lemmas.Result.{IfOk-weaker}
-use Rattle.clap.specs.Built.{AddsSubcommand}
-use Rattle.cobra_words.specs.Commands.{IsProgram}
+use Rattle.cobra_words.proofs.Prelude.{IfOk-weaker, AddsSubcommand, IsProgram}
 use Rattle.cobra_words.proofs.Adding.{subcommand_step}
 use Rattle.cobra_words.proofs.commands.program.Goals as goal
 

@@ -1,7 +1,4 @@
-use Rattle.std.proofs.Common.{rules}
-use Rattle.std.specs.Prelude.{codes}
-use Rattle.clap.specs.Simple.{new_app, with_rule}
-use Rattle.cobra_words.specs.Commands.{required_file}
+use Rattle.cobra_words.proofs.Prelude.{rules, codes, new_app, with_rule, required_file}
 use Rattle.cobra_words.proofs.commands.refute.Goals as goal
 
 pub returns : goal.returns

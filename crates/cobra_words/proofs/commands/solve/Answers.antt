@@ -1,7 +1,4 @@
-use Rattle.std.proofs.Common.{rules}
-use Rattle.std.specs.Prelude.{codes}
-use Rattle.clap.specs.Simple.{new_app, with_rule}
-use Rattle.cobra_words.specs.Commands.{conflicts}
+use Rattle.cobra_words.proofs.Prelude.{rules, codes, new_app, with_rule, conflicts}
 use Rattle.cobra_words.proofs.commands.solve.Goals as goal
 
 pub returns : goal.returns

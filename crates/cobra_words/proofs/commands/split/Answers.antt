@@ -1,6 +1,4 @@
-use Rattle.std.proofs.Common.{rules}
-use Rattle.std.specs.Prelude.{codes}
-use Rattle.clap.specs.Simple.{new_app}
+use Rattle.cobra_words.proofs.Prelude.{rules, codes, new_app}
 use Rattle.cobra_words.proofs.commands.split.Goals as goal
 
 pub returns : goal.returns

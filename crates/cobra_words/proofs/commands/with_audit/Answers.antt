@@ -1,6 +1,4 @@
-use Rattle.std.proofs.lemmas.Result.{IfOk-weaker}
-use Rattle.clap.specs.Built.{AddsArg}
-use Rattle.cobra_words.specs.Commands.{levels, with_audit, HasListApp}
+use Rattle.cobra_words.proofs.Prelude.{IfOk-weaker, AddsArg, levels, with_audit, HasListApp}
 use Rattle.cobra_words.proofs.Adding.{arg_step}
 use Rattle.cobra_words.proofs.commands.with_audit.Goals as goal
 

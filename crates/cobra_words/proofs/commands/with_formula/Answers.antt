@@ -1,7 +1,4 @@
-use Rattle.std.proofs.Common.{rules}
-use Rattle.std.specs.Prelude.{codes}
-use Rattle.clap.specs.Simple.{with_rule}
-use Rattle.cobra_words.specs.Commands.{flag}
+use Rattle.cobra_words.proofs.Prelude.{rules, codes, with_rule, flag}
 use Rattle.cobra_words.proofs.commands.with_formula.Goals as goal
 
 pub returns : goal.returns

@@ -1,6 +1,4 @@
-use Rattle.std.proofs.lemmas.Result.{IfOk-weaker}
-use Rattle.clap.specs.Built.{AddsArg}
-use Rattle.cobra_words.specs.Commands.{reports, with_report, HasListApp}
+use Rattle.cobra_words.proofs.Prelude.{IfOk-weaker, AddsArg, reports, with_report, HasListApp}
 use Rattle.cobra_words.proofs.Adding.{arg_step}
 use Rattle.cobra_words.proofs.commands.with_report.Goals as goal
 

@@ -1,6 +1,4 @@
-use Rattle.std.proofs.lemmas.Result.{IfOk-weaker}
-use Rattle.clap.specs.Simple.{with_rule}
-use Rattle.cobra_words.specs.Commands.{strategies, strategy, budget, with_workers, with_search, HasApp, HasListApp}
+use Rattle.cobra_words.proofs.Prelude.{IfOk-weaker, with_rule, strategies, strategy, budget, with_workers, with_search, HasApp, HasListApp}
 use Rattle.cobra_words.proofs.Adding.{arg_step}
 use Rattle.cobra_words.proofs.commands.with_search.Goals as goal
 

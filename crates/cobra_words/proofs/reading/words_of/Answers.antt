@@ -1,4 +1,4 @@
-use Rattle.std.proofs.Common.{map, string_bytes, ◌∙◌}
+use Rattle.cobra_words.proofs.Prelude.{map, string_bytes, ◌∙◌}
 use Rattle.cobra_words.proofs.Entering.{shown_by, asked_by, none_asked}
 use Rattle.cobra_words.proofs.reading.words_of.Goals as goal
 

@@ -1,8 +1,4 @@
-use Rattle.std.proofs.Common.{ℕ, List, Result, subst}
-use Rattle.std.specs.declared.num.ParseIntError.{ParseIntError}
-use Rattle.std.specs.Str.Parse.{ParsesUnsigned, ExplainsUnsignedError, HasUnsignedDigitsIfOk}
-use Rattle.clap.specs.Matches.{found_of, one_text}
-use Rattle.cobra_words.specs.Asked.{IsNumber}
+use Rattle.cobra_words.proofs.Prelude.{ℕ, List, Result, subst, ParseIntError, ParsesUnsigned, ExplainsUnsignedError, HasUnsignedDigitsIfOk, found_of, one_text, IsNumber}
 use Rattle.cobra_words.proofs.Rows.{number_at, one_rows}
 use Rattle.cobra_words.proofs.values.byte_of.Goals as goal
 

@@ -1,7 +1,5 @@
-use Rattle.std.proofs.Common.{subst}
+use Rattle.cobra_words.proofs.Prelude.{subst, found_of, one_text, IsFlag}
 use Rattle.std.specs.declared.str.ParseBoolError.{ParseBoolError}
-use Rattle.clap.specs.Matches.{found_of, one_text}
-use Rattle.cobra_words.specs.Asked.{IsFlag}
 use Rattle.cobra_words.proofs.Rows.{flag_at, one_rows}
 use Rattle.cobra_words.proofs.values.flag_of.Goals as goal
 

@@ -1,5 +1,4 @@
-use Rattle.std.proofs.Common.{◌≡◌, drop}
-use Rattle.cube_machine.specs.Cycles.{is_among, leads_by}
+use Rattle.cube_machine.proofs.Prelude.{◌≡◌, drop, is_among, leads_by}
 use Rattle.cube_machine.proofs.cycles.leads.Given as goal
 
 abbrev pub invariant-loop-node : goal.invariant-loop-node

@@ -1,6 +1,4 @@
-use Rattle.std.proofs.Common.{◌∙◌}
-use Rattle.cube_machine.specs.Ways.{cube_in}
-use Rattle.cube_machine.specs.Flags.{flag_at}
+use Rattle.cube_machine.proofs.Prelude.{◌∙◌, cube_in, flag_at}
 use Rattle.cube_machine.proofs.Flags.{gone_up}
 use Rattle.cube_machine.proofs.decided.go_up.Goals as goal
 

@@ -1,7 +1,4 @@
-use Rattle.std.proofs.Common.{◌≡◌, ℕ, ◌+◌, ◌<◌, length}
-use Rattle.pruning_laws.specs.declared.side.Side.{Side}
-use Rattle.cube_machine.specs.Ways.{cube_in}
-use Rattle.cube_machine.specs.Flags.{either, flag_at, is_odd}
+use Rattle.cube_machine.proofs.Prelude.{◌≡◌, ℕ, ◌+◌, ◌<◌, length, Side, cube_in, either, flag_at, is_odd}
 use Rattle.cube_machine.proofs.decided.turn_between.Given as goal
 
 abbrev pub invariant-loop-from : goal.invariant-loop-from

@@ -1,7 +1,4 @@
-use Rattle.std.proofs.Common.{[], ◌∷◌, ap, sym, length, subst, arith}
-use Rattle.std.proofs.lemmas.List.{length_push}
-use Rattle.cube_laws.specs.State.{root}
-use Rattle.cube_machine.specs.Noted.{AreNoted}
+use Rattle.cube_machine.proofs.Prelude.{[], ◌∷◌, ap, sym, length, subst, arith, length_push, root, AreNoted}
 use Rattle.cube_machine.proofs.Noted.{noted_none, noted_pushed}
 use Rattle.cube_machine.proofs.machine.decided_of_seats.Goals as goal
 

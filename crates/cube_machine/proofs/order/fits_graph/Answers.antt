@@ -1,7 +1,4 @@
-use Rattle.std.proofs.Common.{ℕ, refl, subst}
-use Rattle.std.proofs.lemmas.Bool.{false≢true}
-use Rattle.serializability.specs.Replay.{ListsOnce}
-use Rattle.polygraph.specs.Places.{ArePlaces}
+use Rattle.cube_machine.proofs.Prelude.{ℕ, refl, subst, false≢true, ListsOnce, ArePlaces}
 use Rattle.cube_machine.proofs.Orders.{fits_is, fits_not}
 use Rattle.cube_machine.proofs.order.fits_graph.Goals as goal
 

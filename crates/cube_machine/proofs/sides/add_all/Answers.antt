@@ -1,4 +1,4 @@
-use Rattle.std.proofs.Common.{◌∙◌}
+use Rattle.cube_machine.proofs.Prelude.{◌∙◌}
 use Rattle.cube_machine.proofs.Edges.{edge_more}
 use Rattle.cube_machine.proofs.sides.add_all.Goals as goal
 

@@ -1,6 +1,4 @@
-use Rattle.std.proofs.Common.{◌≡◌, ◌||◌, take}
-use Rattle.serializability.specs.Polygraph.{Edge}
-use Rattle.known_graph.specs.Tests.{has_edge}
+use Rattle.cube_machine.proofs.Prelude.{◌≡◌, ◌||◌, take, Edge, has_edge}
 use Rattle.cube_machine.proofs.sides.add_all.Given as goal
 
 abbrev pub invariant-loop-edge : goal.invariant-loop-edge

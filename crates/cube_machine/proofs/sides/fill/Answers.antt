@@ -1,6 +1,4 @@
-use Rattle.std.proofs.Common.{◌∙◌, ◌++◌, arith}
-use Rattle.cube_machine.specs.Ways.{cube_in}
-use Rattle.cube_machine.specs.Sides.{cube_edges}
+use Rattle.cube_machine.proofs.Prelude.{◌∙◌, ◌++◌, arith, cube_in, cube_edges}
 use Rattle.cube_machine.proofs.Edges.{side_more, sides_all, under_is}
 use Rattle.cube_machine.proofs.sides.fill.Goals as goal
 

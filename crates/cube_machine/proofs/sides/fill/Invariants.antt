@@ -1,8 +1,4 @@
-use Rattle.std.proofs.Common.{◌≡◌, ◌<◌, ◌||◌, ◌++◌, length}
-use Rattle.serializability.specs.Polygraph.{Edge}
-use Rattle.known_graph.specs.Tests.{has_edge}
-use Rattle.cube_machine.specs.Ways.{cube_in}
-use Rattle.cube_machine.specs.Sides.{cube_edges}
+use Rattle.cube_machine.proofs.Prelude.{◌≡◌, ◌<◌, ◌||◌, ◌++◌, length, Edge, has_edge, cube_in, cube_edges}
 use Rattle.cube_machine.proofs.sides.fill.Given as goal
 
 abbrev pub invariant-loop-origin : goal.invariant-loop-origin

@@ -1,5 +1,4 @@
-use Rattle.std.proofs.Common.{ℕ, ◌≤◌, ◌<◌, length}
-use Rattle.std.specs.Prelude.{slice_index}
+use Rattle.cube_machine.proofs.Prelude.{ℕ, ◌≤◌, ◌<◌, length, slice_index}
 use Rattle.cube_machine.proofs.tree.place_of.Given as goal
 
 abbrev pub invariant-loop-place : goal.invariant-loop-place

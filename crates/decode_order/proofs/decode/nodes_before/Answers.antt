@@ -1,7 +1,4 @@
-use Rattle.std.proofs.Common.{◌≡◌, ◌+◌, ◌<◌, ◌∙◌, Bool, ℕ, ap, sym, arith}
-use Rattle.serializability.specs.Decoded.{before, IsOrder}
-use Rattle.serializability.proofs.Ranks.{rank, rank-pos, rank-le}
-use Rattle.order_cnf.specs.Data.{cnf_of}
+use Rattle.decode_order.proofs.Prelude.{◌≡◌, ◌+◌, ◌<◌, ◌∙◌, Bool, ℕ, ap, sym, arith, before, IsOrder, rank, rank-pos, rank-le, cnf_of}
 use Rattle.serializability.proofs.CountedNodes.{counted_yes, counted_no, counted_all}
 use Rattle.decode_order.proofs.decode.nodes_before.Goals as goal
 use Rattle.decode_order.proofs.decode.nodes_before.Goals.{then-stands_before, else-stands_before}

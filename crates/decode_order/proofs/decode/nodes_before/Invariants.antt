@@ -1,7 +1,4 @@
-use Rattle.std.proofs.Common.{◌≡◌, ◌+◌, ◌≤◌, take}
-use Rattle.std.specs.List.{count_by, range_with_len}
-use Rattle.serializability.specs.Decoded.{before}
-use Rattle.order_cnf.specs.Data.{cnf_of}
+use Rattle.decode_order.proofs.Prelude.{◌≡◌, ◌+◌, ◌≤◌, take, count_by, range_with_len, before, cnf_of}
 use Rattle.decode_order.proofs.decode.nodes_before.Given as goal
 
 abbrev pub invariant-loop-number : goal.invariant-loop-number

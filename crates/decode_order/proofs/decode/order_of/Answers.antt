@@ -1,7 +1,4 @@
-use Rattle.std.proofs.Common.{◌≡◌, ◌+◌, ◌-◌, Bool, ℕ, sym, subst, arith}
-use Rattle.std.specs.Prelude.{slice_set}
-use Rattle.serializability.specs.Decoded.{before, IsOrder, IsDecoded}
-use Rattle.order_cnf.specs.Data.{cnf_of}
+use Rattle.decode_order.proofs.Prelude.{◌≡◌, ◌+◌, ◌-◌, Bool, ℕ, sym, subst, arith, slice_set, before, IsOrder, IsDecoded, cnf_of}
 use Rattle.decode_order.proofs.Placing.{Placed, placed_more, decoded_where_placed}
 use Rattle.decode_order.proofs.decode.order_of.Goals as goal
 

@@ -1,5 +1,4 @@
-use Rattle.serializability.specs.Decoded.{before}
-use Rattle.order_cnf.specs.Data.{cnf_of}
+use Rattle.decode_order.proofs.Prelude.{before, cnf_of}
 use Rattle.decode_order.proofs.Placing.{Placed}
 use Rattle.decode_order.proofs.decode.order_of.Given as goal
 

@@ -1,9 +1,4 @@
-use Rattle.std.proofs.Common.{◌≡◌, ◌<◌, ◌≤◌, ◌∙◌, false, length, get_or, sym, subst, arith, rules}
-use Rattle.std.proofs.lemmas.Bool.{false≢true}
-use Rattle.std.proofs.lemmas.List.{get_or_read, take_all}
-use Rattle.serializability.proofs.Places.{Apart, Has}
-use Rattle.log_definitions.specs.Numbers.{log_of}
-use Rattle.serializability.proofs.Listed.{once_length, once_from, not_once_outside}
+use Rattle.decode_order.proofs.Prelude.{◌≡◌, ◌<◌, ◌≤◌, ◌∙◌, false, length, get_or, sym, subst, arith, rules, false≢true, get_or_read, take_all, Apart, Has, log_of, once_length, once_from, not_once_outside}
 use Rattle.decode_order.proofs.Marks.{not_once_twice, once_more}
 use Rattle.decode_order.proofs.listing.lists_once.Goals as goal
 use Rattle.decode_order.proofs.listing.lists_once.Goals.{then-number-eq0-via-then-number-eq0, then-number-eq0-via-else-number-eq0+then-number-n, then-number-eq0-via-else-number-eq0+else-number-n+then-index}

@@ -1,4 +1,4 @@
-use Rattle.log_definitions.specs.Numbers.{log_of}
+use Rattle.decode_order.proofs.Prelude.{log_of}
 use Rattle.decode_order.proofs.Marks.{OnceSoFar}
 use Rattle.decode_order.proofs.listing.lists_once.Given as goal
 

@@ -1,7 +1,4 @@
-use Rattle.std.proofs.Common.{◌≡◌, ◌++◌, ◌∷◌, [], ◌∙◌, ◌||◌, true, false, Option, ℕ, None, ap, sym, subst, List}
-use Rattle.log_definitions.specs.Serial.{begun_of, ended_of}
-use Rattle.session_log.specs.Moments.{is_earlier}
-use Rattle.decode_order.specs.Replaying.{first_before_ended}
+use Rattle.decode_order.proofs.Prelude.{◌≡◌, ◌++◌, ◌∷◌, [], ◌∙◌, ◌||◌, true, false, Option, ℕ, None, ap, sym, subst, List, begun_of, ended_of, is_earlier, first_before_ended}
 use Rattle.decode_order.proofs.LeastEnd.{FromLast, earlier-log_of, at_last, one_before, at_first}
 use Rattle.decode_order.proofs.moments.first_before_ended.Goals as goal
 use Rattle.decode_order.proofs.moments.first_before_ended.Goals.{then-is_earlier, else-is_earlier}

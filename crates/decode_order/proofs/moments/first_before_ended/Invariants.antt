@@ -1,4 +1,4 @@
-use Rattle.log_definitions.specs.Serial.{begun_of, ended_of}
+use Rattle.decode_order.proofs.Prelude.{begun_of, ended_of}
 use Rattle.decode_order.proofs.LeastEnd.{FromLast}
 use Rattle.decode_order.proofs.moments.first_before_ended.Given as goal
 

@@ -1,10 +1,4 @@
-use Rattle.std.proofs.Common.{◌<◌, ◌∙◌, length, ap, sym, subst}
-use Rattle.std.specs.List.{AllByRecursion}
-use Rattle.serializability.specs.declared.event.Event.{Event}
-use Rattle.serializability.specs.Replay.{after}
-use Rattle.log_definitions.specs.Numbers.{log_of}
-use Rattle.serializability.specs.Events.{event_key}
-use Rattle.decode_order.specs.Replaying.{held, first_mismatch, placed_from}
+use Rattle.decode_order.proofs.Prelude.{◌<◌, ◌∙◌, length, ap, sym, subst, AllByRecursion, Event, after, log_of, event_key, held, first_mismatch, placed_from}
 use Rattle.decode_order.proofs.Keys.{keys_below}
 use Rattle.decode_order.proofs.Mismatch.{nodes_more, node_mismatch}
 use Rattle.decode_order.proofs.reads.first_mismatch.Goals as goal

@@ -1,4 +1,4 @@
-use Rattle.log_definitions.specs.Numbers.{log_of}
+use Rattle.decode_order.proofs.Prelude.{log_of}
 use Rattle.decode_order.proofs.Mismatch.{NodesReplayed}
 use Rattle.decode_order.proofs.reads.first_mismatch.Given as goal
 

@@ -1,4 +1,4 @@
-use Rattle.std.proofs.Common.{◌∙◌, sym}
+use Rattle.decode_order.proofs.Prelude.{◌∙◌, sym}
 use Rattle.decode_order.proofs.Mismatch.{replayed_more}
 use Rattle.decode_order.proofs.reads.replay_node.Goals as goal
 

@@ -1,6 +1,4 @@
-use Rattle.std.proofs.Common.{◌∙◌, sym, subst}
-use Rattle.serializability.specs.Replay.{IsSerial}
-use Rattle.log_definitions.specs.Numbers.{log_of}
+use Rattle.decode_order.proofs.Prelude.{◌∙◌, sym, subst, IsSerial, log_of}
 use Rattle.decode_order.proofs.Whole.{serial_where_no_fault}
 use Rattle.decode_order.proofs.serial.replay.Goals as goal
 

@@ -1,7 +1,4 @@
-use Rattle.std.proofs.Common.{◌+◌, ◌-◌, ◌∙◌, true, false, get_or, ap, sym, subst}
-use Rattle.std.specs.Prelude.{slice_set}
-use Rattle.std.proofs.lemmas.Bool.{true_from_ne_false, false≢true}
-use Rattle.log_definitions.specs.Numbers.{log_of}
+use Rattle.decode_order.proofs.Prelude.{◌+◌, ◌-◌, ◌∙◌, true, false, get_or, ap, sym, subst, slice_set, true_from_ne_false, false≢true, log_of}
 use Rattle.log_definitions.proofs.Numbered.{numbered}
 use Rattle.decode_order.proofs.Turns.{InTurnSoFar, Turn, in_turn_more, early_here}
 use Rattle.decode_order.proofs.sessions.first_early.Goals as goal

@@ -1,4 +1,4 @@
-use Rattle.log_definitions.specs.Numbers.{log_of}
+use Rattle.decode_order.proofs.Prelude.{log_of}
 use Rattle.decode_order.proofs.Turns.{InTurnSoFar}
 use Rattle.decode_order.proofs.sessions.first_early.Given as goal
 

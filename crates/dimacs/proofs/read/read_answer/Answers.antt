@@ -1,5 +1,4 @@
-use Rattle.std.proofs.Common.{arith, length, ap}
-use Rattle.std.proofs.lemmas.Result.{err_from_is_err_and}
+use Rattle.dimacs.proofs.Prelude.{arith, length, ap, err_from_is_err_and}
 use Rattle.dimacs.proofs.Takings.{midway_none, midway_more, midway_fault, midway_all, lines_bound, too_long, line_refused, ends_answer, ends_accepted, ends_refused}
 use Rattle.dimacs.proofs.read.read_answer.Goals as goal
 

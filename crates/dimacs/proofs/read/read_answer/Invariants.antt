@@ -1,5 +1,4 @@
-use Rattle.std.proofs.Common.{◌+◌, ◌≤◌, length}
-use Rattle.dimacs.specs.Words.{lines_of}
+use Rattle.dimacs.proofs.Prelude.{◌+◌, ◌≤◌, length, lines_of}
 use Rattle.dimacs.proofs.Takings.{IsMidway}
 use Rattle.dimacs.proofs.read.read_answer.Given as goal
 

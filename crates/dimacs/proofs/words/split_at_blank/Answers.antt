@@ -1,4 +1,4 @@
-use Rattle.std.proofs.lemmas.List.{take_rest}
+use Rattle.dimacs.proofs.Prelude.{take_rest}
 use Rattle.dimacs.proofs.Cuts.{words_some, words_none}
 use Rattle.dimacs.proofs.words.split_at_blank.Goals as goal
 

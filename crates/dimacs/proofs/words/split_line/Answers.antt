@@ -1,6 +1,4 @@
-use Rattle.std.proofs.Common.{◌∷◌, ◌+◌, drop, ap, ◌∙◌, sym}
-use Rattle.std.proofs.lemmas.List.{take_rest}
-use Rattle.dimacs.specs.Words.{lines_of}
+use Rattle.dimacs.proofs.Prelude.{◌∷◌, ◌+◌, drop, ap, ◌∙◌, sym, take_rest, lines_of}
 use Rattle.dimacs.proofs.Cuts.{lines_some, lines_none}
 use Rattle.dimacs.proofs.words.split_line.Goals as goal
 

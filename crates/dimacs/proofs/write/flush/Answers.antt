@@ -1,4 +1,4 @@
-use Rattle.std.proofs.lemmas.Result.{err_from_is_err_and}
+use Rattle.dimacs.proofs.Prelude.{err_from_is_err_and}
 use Rattle.dimacs.proofs.Sendings.{flushed, cut_off}
 use Rattle.dimacs.proofs.write.flush.Goals as goal
 

@@ -1,6 +1,4 @@
-use Rattle.std.proofs.Common.{◌∙◌, ap, length, arith, refl}
-use Rattle.std.proofs.lemmas.Result.{err_from_is_err_and}
-use Rattle.order_cnf.specs.Data.{cnf_of}
+use Rattle.dimacs.proofs.Prelude.{◌∙◌, ap, length, arith, refl, err_from_is_err_and, cnf_of}
 use Rattle.dimacs.proofs.Sendings.{begun, one_clause, no_clause, all_out}
 use Rattle.dimacs.proofs.write.write_formula.Goals as goal
 

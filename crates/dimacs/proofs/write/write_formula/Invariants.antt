@@ -1,8 +1,4 @@
-use Rattle.std.proofs.Common.{◌≡◌, ◌+◌, ◌*◌, ◌≤◌, length}
-use Rattle.std.specs.List.{flat_map}
-use Rattle.order_cnf.specs.Data.{cnf_of}
-use Rattle.dimacs.specs.Sending.{IsUnderWay}
-use Rattle.dimacs.specs.Text.{clause_text, text_of}
+use Rattle.dimacs.proofs.Prelude.{◌≡◌, ◌+◌, ◌*◌, ◌≤◌, length, flat_map, cnf_of, IsUnderWay, clause_text, text_of}
 use Rattle.dimacs.proofs.write.write_formula.Given as goal
 
 abbrev pub invariant-loop-clause : goal.invariant-loop-clause

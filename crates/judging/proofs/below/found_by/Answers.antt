@@ -1,8 +1,4 @@
-use Rattle.std.proofs.Common.{map, sym, ◌∙◌, subst}
-use Rattle.session_log.specs.Text.{view}
-use Rattle.judging.specs.Judges.{IsRefutedLog}
-use Rattle.judging.specs.declared.level.Level.{Level}
-use Rattle.judging.specs.declared.judged.Finding.TheVariants.{Overlooked}
+use Rattle.judging.proofs.Prelude.{map, sym, ◌∙◌, subst, view, IsRefutedLog, Level, Overlooked}
 use Rattle.judging.proofs.Levels.{refuted_below}
 use Rattle.judging.proofs.below.found_by.Goals as goal
 

@@ -1,10 +1,6 @@
-use Rattle.std.proofs.Common.{◌+◌, ◌++◌, ◌∷◌, [], List, Vec, Bool, sym, ap, ◌∙◌}
-use Rattle.std.specs.Prelude.{drop}
-use Rattle.std.specs.declared.alloc.Global.{Global}
-use Rattle.std.proofs.lemmas.List.{drop_all, map-append, append_assoc}
+use Rattle.judging.proofs.Prelude.{◌+◌, ◌++◌, ◌∷◌, [], List, Vec, Bool, sym, ap, ◌∙◌, drop, Global, drop_all, map-append, append_assoc, flags_view}
 use Rattle.list_lemmas.proofs.Lists.{append_none}
 use Rattle.list_lemmas.proofs.Elements.{get_drop, item}
-use Rattle.log_parts.specs.Picked.{flags_view}
 use Rattle.judging.proofs.flags.copy_flags.Goals as goal
 
 pub loop-list-preserved : goal.loop-list-preserved

@@ -1,5 +1,4 @@
-use Rattle.std.proofs.Common.{◌≡◌, ◌++◌, drop}
-use Rattle.log_parts.specs.Picked.{flags_view}
+use Rattle.judging.proofs.Prelude.{◌≡◌, ◌++◌, drop, flags_view}
 use Rattle.judging.proofs.flags.copy_flags.Given as goal
 
 abbrev pub invariant-loop-list : goal.invariant-loop-list

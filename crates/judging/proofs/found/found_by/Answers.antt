@@ -1,5 +1,4 @@
-use Rattle.std.proofs.Common.{subst}
-use Rattle.deciding.specs.Decides.{Decides}
+use Rattle.judging.proofs.Prelude.{subst, Decides}
 use Rattle.judging.proofs.found.found_by.Goals as goal
 
 pub returns-in-Dead : goal.returns-in-Dead

@@ -1,10 +1,5 @@
-use Rattle.std.proofs.Common.{List, map, sym, subst}
+use Rattle.judging.proofs.Prelude.{List, map, sym, subst, view, Session, IsLog, IsLogAt, IsFound, of_serial}
 use Rattle.std.proofs.lemmas.Result.{IfOk-weaker}
-use Rattle.session_log.specs.Text.{view}
-use Rattle.session_log.specs.declared.session.Session.{Session}
-use Rattle.log_laws.specs.Logs.{IsLog}
-use Rattle.judging.specs.Levels.{IsLogAt}
-use Rattle.judging.specs.Finds.{IsFound, of_serial}
 use Rattle.judging.proofs.Levels.{judged_is_log, found_by_split}
 use Rattle.judging.proofs.found.see_points.Goals as goal
 

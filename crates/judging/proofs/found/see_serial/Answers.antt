@@ -1,8 +1,4 @@
-use Rattle.std.proofs.Common.{List, map, sym, subst}
-use Rattle.session_log.specs.Text.{ClientSession, view}
-use Rattle.session_log.specs.Faults.{IsFault}
-use Rattle.log_definitions.specs.WellFormed.{list_fault}
-use Rattle.judging.specs.Finds.{IsFound, of_serial}
+use Rattle.judging.proofs.Prelude.{List, map, sym, subst, ClientSession, view, IsFault, list_fault, IsFound, of_serial}
 use Rattle.judging.proofs.Over.{limit_or_memory, over_limit}
 use Rattle.judging.proofs.found.see_serial.Goals as goal
 

@@ -1,4 +1,4 @@
-use Rattle.std.proofs.Common.{sym, ◌∙◌}
+use Rattle.judging.proofs.Prelude.{sym, ◌∙◌}
 use Rattle.judging.proofs.Opened.{spent_open}
 use Rattle.judging.proofs.found.seen_of.Goals as goal
 

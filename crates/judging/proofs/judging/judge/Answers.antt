@@ -1,5 +1,4 @@
-use Rattle.std.proofs.Common.{map}
-use Rattle.session_log.specs.Text.{view}
+use Rattle.judging.proofs.Prelude.{map, view}
 use Rattle.judging.proofs.Verdicts.{of_each, made_if_ok}
 use Rattle.judging.proofs.judging.judge.Goals as goal
 

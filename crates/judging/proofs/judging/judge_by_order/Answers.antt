@@ -1,9 +1,4 @@
-use Rattle.std.proofs.Common.{List, map, subst}
-use Rattle.std.specs.Prelude.{IfSome}
-use Rattle.session_log.specs.Text.{ClientSession, view}
-use Rattle.log_definitions.specs.Serial.{IsSerialOrder}
-use Rattle.log_laws.specs.Logs.{IsLog}
-use Rattle.judging.specs.Levels.{IsNumbered}
+use Rattle.judging.proofs.Prelude.{List, map, subst, IfSome, ClientSession, view, IsSerialOrder, IsLog, IsNumbered}
 use Rattle.judging.proofs.Levels.{judged_is_log, order_of_judged}
 use Rattle.judging.proofs.judging.judge_by_order.Goals as goal
 

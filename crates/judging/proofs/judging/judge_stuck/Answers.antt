@@ -1,7 +1,4 @@
-use Rattle.std.proofs.Common.{map, subst}
-use Rattle.session_log.specs.Text.{view}
-use Rattle.log_parts.specs.Picked.{flags_view}
-use Rattle.judging.specs.Finds.{IsAttempt}
+use Rattle.judging.proofs.Prelude.{map, subst, view, flags_view, IsAttempt}
 use Rattle.judging.proofs.Verdicts.{tried_part}
 use Rattle.judging.proofs.judging.judge_stuck.Goals as goal
 

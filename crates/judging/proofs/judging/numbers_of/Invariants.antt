@@ -1,4 +1,4 @@
-use Rattle.std.proofs.Common.{◌≡◌, take}
+use Rattle.judging.proofs.Prelude.{◌≡◌, take}
 use Rattle.judging.proofs.judging.numbers_of.Given as goal
 
 abbrev pub invariant-loop-node : goal.invariant-loop-node

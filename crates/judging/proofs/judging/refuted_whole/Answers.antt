@@ -1,5 +1,4 @@
-use Rattle.std.proofs.Common.{map, None}
-use Rattle.session_log.specs.Text.{view}
+use Rattle.judging.proofs.Prelude.{map, None, view}
 use Rattle.judging.proofs.Verdicts.{told_whole}
 use Rattle.judging.proofs.judging.refuted_whole.Goals as goal
 

@@ -1,4 +1,4 @@
-use Rattle.log_laws.proofs.Resolved.{resolved_is_log}
+use Rattle.judging.proofs.Prelude.{resolved_is_log}
 use Rattle.judging.proofs.laws.resolved_is_log.Goals as goal
 
 pub returns : goal.returns

@@ -1,4 +1,4 @@
-use Rattle.log_laws.proofs.Resolved.{nodes_stay}
+use Rattle.judging.proofs.Prelude.{nodes_stay}
 use Rattle.judging.proofs.Resolved.{serial_resolved, serial_of_resolved, log_resolved}
 use Rattle.judging.proofs.laws.resolved_is_the_same.Goals as goal
 

@@ -1,9 +1,4 @@
-use Rattle.std.proofs.Common.{◌∷◌, map}
-use Rattle.session_log.specs.Text.{view}
-use Rattle.serializability.proofs.Places.{Apart-from_IsDistinct}
-use Rattle.serializability.proofs.Listed.{IsDistinct-from_Apart}
-use Rattle.log_definitions.specs.Unknown.{ops_in}
-use Rattle.log_definitions.specs.WellFormed.{written}
+use Rattle.judging.proofs.Prelude.{◌∷◌, map, view, Apart-from_IsDistinct, IsDistinct-from_Apart, ops_in, written}
 use Rattle.judging.proofs.level.log_at.Goals as goal
 
 pub split-requires : goal.split-requires

@@ -1,6 +1,4 @@
-use Rattle.std.proofs.Common.{map, arith}
-use Rattle.session_log.specs.Text.{view, least_version}
-use Rattle.log_definitions.specs.Unknown.{txns_in}
+use Rattle.judging.proofs.Prelude.{map, arith, view, least_version, txns_in}
 use Rattle.judging.proofs.Sizing.{bytes_of_lines, many_nodes}
 use Rattle.judging.proofs.limits.size_limit.Goals as goal
 

@@ -1,7 +1,4 @@
-use Rattle.std.proofs.Common.{ℕ, List, ◌≡◌, map, get_or, ◌∙◌, subst, refl}
-use Rattle.session_log.specs.Text.{Transaction, view}
-use Rattle.level_laws.specs.Without.{without, session_without}
-use Rattle.known_outcomes.proofs.Changed.{none_changed, one_changed, all_changed}
+use Rattle.judging.proofs.Prelude.{ℕ, List, ◌≡◌, map, get_or, ◌∙◌, subst, refl, Transaction, view, without, session_without, none_changed, one_changed, all_changed}
 use Rattle.judging.proofs.moments.leave_out_of_each.Goals as goal
 
 pub loop-session-init : goal.loop-session-init

@@ -1,7 +1,4 @@
-use Rattle.std.proofs.Common.{◌≡◌, map}
-use Rattle.session_log.specs.Text.{view}
-use Rattle.level_laws.specs.Without.{session_without}
-use Rattle.known_outcomes.proofs.Changed.{changed}
+use Rattle.judging.proofs.Prelude.{◌≡◌, map, view, session_without, changed}
 use Rattle.judging.proofs.moments.leave_out_of_each.Given as goal
 
 abbrev pub invariant-loop-session : goal.invariant-loop-session

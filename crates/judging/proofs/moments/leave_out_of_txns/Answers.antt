@@ -1,7 +1,4 @@
-use Rattle.std.proofs.Common.{map, ◌∙◌}
-use Rattle.session_log.specs.Text.{view_txn}
-use Rattle.level_laws.specs.Without.{without}
-use Rattle.known_outcomes.proofs.Changed.{none_changed, one_changed, all_changed}
+use Rattle.judging.proofs.Prelude.{map, ◌∙◌, view_txn, without, none_changed, one_changed, all_changed}
 use Rattle.judging.proofs.moments.leave_out_of_txns.Goals as goal
 
 pub loop-txn-init : goal.loop-txn-init

@@ -1,7 +1,4 @@
-use Rattle.std.proofs.Common.{◌≤◌, map, length}
-use Rattle.std.specs.List.{AllByRecursion}
-use Rattle.session_log.specs.Text.{view}
-use Rattle.judging.specs.Made.{IsToldPart}
+use Rattle.judging.proofs.Prelude.{◌≤◌, map, length, AllByRecursion, view, IsToldPart}
 use Rattle.judging.proofs.more.more_of_known.Given as goal
 
 abbrev pub invariant-loop : goal.invariant-loop

@@ -1,7 +1,4 @@
-use Rattle.std.proofs.Common.{List, map, sym, subst}
-use Rattle.session_log.specs.Text.{view}
-use Rattle.session_log.specs.declared.session.Session.{Session}
-use Rattle.log_laws.specs.Logs.{IsLog}
+use Rattle.judging.proofs.Prelude.{List, map, sym, subst, view, Session, IsLog}
 use Rattle.judging.proofs.Verdicts.{told_is_log}
 use Rattle.judging.proofs.shrinking.fewer.Goals as goal
 

@@ -1,10 +1,4 @@
-use Rattle.std.proofs.Common.{map, Some, sym, subst}
-use Rattle.session_log.specs.Text.{view}
-use Rattle.part_laws.specs.Parts.{IsPart}
-use Rattle.log_parts.specs.Picked.{flags_view}
-use Rattle.judging.specs.Levels.{HasOrderAt}
-use Rattle.judging.specs.Judges.{IsUndecidedBy}
-use Rattle.judging.specs.Finds.{IsFound}
+use Rattle.judging.proofs.Prelude.{map, Some, sym, subst, view, IsPart, flags_view, HasOrderAt, IsUndecidedBy, IsFound}
 use Rattle.judging.proofs.Parts.{chosen_part}
 use Rattle.judging.proofs.Verdicts.{told_by_part}
 use Rattle.judging.proofs.trial.told.Goals as goal

@@ -1,9 +1,4 @@
-use Rattle.std.proofs.Common.{◌≡◌, List, map, sym, subst}
-use Rattle.session_log.specs.Text.{view}
-use Rattle.session_log.specs.declared.session.Session.{Session}
-use Rattle.log_laws.specs.Logs.{IsLog}
-use Rattle.log_parts.specs.Picked.{flags_view, chosen}
-use Rattle.judging.specs.Finds.{IsFound}
+use Rattle.judging.proofs.Prelude.{◌≡◌, List, map, sym, subst, view, Session, IsLog, flags_view, chosen, IsFound}
 use Rattle.judging.proofs.Parts.{part_log}
 use Rattle.judging.proofs.trial.try_part.Goals as goal
 

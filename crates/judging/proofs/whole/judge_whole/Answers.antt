@@ -1,12 +1,4 @@
-use Rattle.std.proofs.Common.{◌∷◌, List, length, map, sym, ap, ◌∙◌, subst}
-use Rattle.session_log.specs.Text.{ClientSession, view}
-use Rattle.session_log.specs.declared.session.Session.{Session}
-use Rattle.serializability.proofs.Places.{Apart-from_IsDistinct}
-use Rattle.serializability.proofs.Listed.{IsDistinct-from_Apart}
-use Rattle.log_definitions.specs.Unknown.{ops_in}
-use Rattle.log_definitions.specs.WellFormed.{written, keys_in}
-use Rattle.log_laws.specs.Logs.{IsLog}
-use Rattle.log_laws.proofs.Resolved.{resolved_is_log}
+use Rattle.judging.proofs.Prelude.{◌∷◌, List, length, map, sym, ap, ◌∙◌, subst, ClientSession, view, Session, Apart-from_IsDistinct, IsDistinct-from_Apart, ops_in, written, keys_in, IsLog, resolved_is_log}
 use Rattle.judging.proofs.Levels.{keys_resolved}
 use Rattle.judging.proofs.whole.judge_whole.Goals as goal
 

@@ -1,6 +1,4 @@
-use Rattle.std.proofs.Common.{◌∙◌, ◌+◌, ◌&&◌, take, drop, refl, sym, ap}
-use Rattle.ledger_checks.specs.Tested.{are_shown_by}
-use Rattle.ledger_checks.specs.KeptEdges.{edges_kept}
+use Rattle.ledger_checks.proofs.Prelude.{◌∙◌, ◌+◌, ◌&&◌, take, drop, refl, sym, ap, are_shown_by, edges_kept}
 use Rattle.ledger_checks.proofs.Held.{shown_step}
 use Rattle.ledger_checks.proofs.KeptBits.{kept_more}
 use Rattle.ledger_checks.proofs.checking.are_shown.Goals as goal

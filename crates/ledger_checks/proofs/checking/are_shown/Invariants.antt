@@ -1,6 +1,4 @@
-use Rattle.std.proofs.Common.{◌≡◌, [], take, drop}
-use Rattle.ledger_checks.specs.Tested.{are_shown_by}
-use Rattle.ledger_checks.specs.KeptEdges.{edges_kept, HasEdges}
+use Rattle.ledger_checks.proofs.Prelude.{◌≡◌, [], take, drop, are_shown_by, edges_kept, HasEdges}
 use Rattle.ledger_checks.proofs.checking.are_shown.Given as goal
 
 abbrev pub invariant-loop-entry : goal.invariant-loop-entry

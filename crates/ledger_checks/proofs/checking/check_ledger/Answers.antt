@@ -1,7 +1,4 @@
-use Rattle.std.proofs.Common.{◌∙◌, [], sym, ap, refl, subst}
-use Rattle.std.proofs.lemmas.Bool.{false≢true}
-use Rattle.ledger_checks.specs.Tested.{are_shown_by, is_cycle_by}
-use Rattle.ledger_checks.specs.KeptEdges.{edges_kept, HasEdges}
+use Rattle.ledger_checks.proofs.Prelude.{◌∙◌, [], sym, ap, refl, subst, false≢true, are_shown_by, is_cycle_by, edges_kept, HasEdges}
 use Rattle.ledger_checks.proofs.Held.{ledger_shown, shown_ledger, cycle_of, of_cycle}
 use Rattle.ledger_checks.proofs.checking.check_ledger.Goals as goal
 

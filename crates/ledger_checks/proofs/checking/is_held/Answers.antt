@@ -1,4 +1,4 @@
-use Rattle.ledger_checks.specs.KeptEdges.{edges_kept}
+use Rattle.ledger_checks.proofs.Prelude.{edges_kept}
 use Rattle.ledger_checks.proofs.KeptBits.{held_by_kept}
 use Rattle.ledger_checks.proofs.checking.is_held.Goals as goal
 

@@ -1,7 +1,4 @@
-use Rattle.std.proofs.Common.{◌≡◌, List, drop}
-use Rattle.ledger_checks.specs.Tested.{leads_by}
-use Rattle.ledger_checks.specs.KeptEdges.{edges_kept, HasEdges}
-use Rattle.prune_ledger.specs.declared.ledger.LedgerEntry.{LedgerEntry}
+use Rattle.ledger_checks.proofs.Prelude.{◌≡◌, List, drop, leads_by, edges_kept, HasEdges, LedgerEntry}
 use Rattle.ledger_checks.proofs.checking.leads.Given as goal
 
 abbrev pub invariant-loop-node : goal.invariant-loop-node

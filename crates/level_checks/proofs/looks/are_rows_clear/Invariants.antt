@@ -1,7 +1,4 @@
-use Rattle.std.proofs.Common.{◌≡◌, ℕ, ◌<◌, ◌≤◌, false}
-use Rattle.std.specs.Prelude.{slice_index}
-use Rattle.std.specs.BTreeSet.{contains}
-use Rattle.level_checks.specs.Spots.{spot_cmp}
+use Rattle.level_checks.proofs.Prelude.{◌≡◌, ℕ, ◌<◌, ◌≤◌, false, slice_index, contains, spot_cmp}
 use Rattle.level_checks.proofs.looks.are_rows_clear.Given as goal
 
 abbrev pub invariant-loop-s : goal.invariant-loop-s

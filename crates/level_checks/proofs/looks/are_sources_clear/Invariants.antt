@@ -1,8 +1,4 @@
-use Rattle.std.proofs.Common.{◌≢◌, ℕ, ◌<◌, List}
-use Rattle.std.specs.Prelude.{take}
-use Rattle.std.specs.List.{AllByRecursion}
-use Rattle.level_checks.specs.declared.trace.Look.{Look}
-use Rattle.level_checks.specs.Chains.{IsChain}
+use Rattle.level_checks.proofs.Prelude.{◌≢◌, ℕ, ◌<◌, List, take, AllByRecursion, Look, IsChain}
 use Rattle.level_checks.proofs.looks.are_sources_clear.Given as goal
 
 abbrev pub invariant-loop-look : goal.invariant-loop-look

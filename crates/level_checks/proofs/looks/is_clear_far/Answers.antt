@@ -1,9 +1,6 @@
-use Rattle.std.proofs.Common.{◌≡◌, ◌-◌, Some}
-use Rattle.std.specs.Prelude.{slice_get}
-use Rattle.list_lemmas.proofs.Elements.{looked_up}
+use Rattle.level_checks.proofs.Prelude.{◌≡◌, ◌-◌, Some, slice_get, looked_up, refl}
 use Rattle.level_checks.proofs.Rows.{none_far, none_of_none}
 use Rattle.level_checks.proofs.looks.is_clear_far.Goals as goal
-use Rattle.std.proofs.Common.{refl}
 
 pub returns-then-look-eq0 : goal.returns-then-look-eq0
 returns-then-look-eq0 c t noted of bound xs chain = none_of_none of c.args.entries.now bound c.args.look.link c.args.look.source c.args.row.now c.args.front.now xs chain c.if-look-eq0.true

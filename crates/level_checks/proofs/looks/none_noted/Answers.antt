@@ -1,8 +1,7 @@
-use Rattle.std.proofs.Common.{◌≡◌, ◌+◌, ◌≤◌, ℕ, false, sym, subst, ap, ◌∙◌, arith, rules}
+use Rattle.level_checks.proofs.Prelude.{◌≡◌, ◌+◌, ◌≤◌, ℕ, false, sym, subst, ap, ◌∙◌, arith, rules, Spot, spot_cmp}
 use Rattle.std.specs.Ordering.{nat_cmp, ordering_then, is_gt}
 use Rattle.std.specs.declared.cmp.Ordering.TheVariants.{Equal}
 use Rattle.std.proofs.lemmas.Bool.Decides.{nat_tests}
-use Rattle.level_checks.specs.Spots.{Spot, spot_cmp}
 use Rattle.level_checks.proofs.looks.none_noted.Goals as goal
 
 same : (n : ℕ) → nat_cmp n n ≡ Equal

@@ -1,4 +1,4 @@
-use Rattle.std.proofs.Common.{refl}
+use Rattle.level_checks.proofs.Prelude.{refl}
 use Rattle.level_checks.proofs.order.walk.Goals as goal
 
 pub loop-i-preserved : goal.loop-i-preserved

@@ -1,11 +1,4 @@
-use Rattle.std.proofs.Common.{◌≡◌, ◌∷◌, [], Some, get_or, sym, subst}
-use Rattle.std.specs.Prelude.{take, slice_get}
-use Rattle.std.specs.List.{AllByRecursion}
-use Rattle.std.proofs.lemmas.Option.{slice_get-get_or, get_or_from_slice_get}
-use Rattle.list_lemmas.proofs.Lists.{front_more}
-use Rattle.serializability.proofs.Places.{each_from_append}
-use Rattle.level_checks.specs.declared.trace.Look.{Look}
-use Rattle.level_checks.specs.Seen.{IsClearLook}
+use Rattle.level_checks.proofs.Prelude.{◌≡◌, ◌∷◌, [], Some, get_or, sym, subst, take, slice_get, AllByRecursion, slice_get-get_or, get_or_from_slice_get, front_more, each_from_append, Look, IsClearLook}
 use Rattle.level_checks.proofs.seen.all_clear.Goals as goal
 
 pub loop-look-preserved : goal.loop-look-preserved

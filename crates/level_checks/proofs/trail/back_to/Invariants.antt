@@ -1,5 +1,4 @@
-use Rattle.std.proofs.Common.{ℕ, List}
-use Rattle.level_checks.specs.Chains.{IsChain, LeftAt}
+use Rattle.level_checks.proofs.Prelude.{ℕ, List, IsChain, LeftAt}
 use Rattle.level_checks.proofs.trail.back_to.Given as goal
 
 abbrev pub invariant-loop-next : goal.invariant-loop-next

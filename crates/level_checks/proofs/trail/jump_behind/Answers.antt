@@ -1,4 +1,4 @@
-use Rattle.level_checks.specs.Chains.{here}
+use Rattle.level_checks.proofs.Prelude.{here}
 use Rattle.level_checks.proofs.Chains.{jump_twice}
 use Rattle.level_checks.proofs.trail.jump_behind.Goals as goal
 

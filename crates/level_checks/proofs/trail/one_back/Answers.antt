@@ -1,4 +1,4 @@
-use Rattle.std.proofs.Common.{arith}
+use Rattle.level_checks.proofs.Prelude.{arith}
 use Rattle.level_checks.proofs.Chains.{step_back, jump_back}
 use Rattle.level_checks.proofs.trail.one_back.Goals as goal
 

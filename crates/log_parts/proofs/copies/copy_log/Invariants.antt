@@ -1,5 +1,4 @@
-use Rattle.std.proofs.Common.{◌≡◌, map, take}
-use Rattle.session_log.specs.Text.{view}
+use Rattle.log_parts.proofs.Prelude.{◌≡◌, map, take, view}
 use Rattle.log_parts.proofs.copies.copy_log.Given as goal
 
 abbrev pub invariant-loop-session : goal.invariant-loop-session

@@ -1,4 +1,4 @@
-use Rattle.std.proofs.Common.{◌≡◌, take}
+use Rattle.log_parts.proofs.Prelude.{◌≡◌, take}
 use Rattle.log_parts.proofs.copies.copy_ops.Given as goal
 
 abbrev pub invariant-loop-op : goal.invariant-loop-op

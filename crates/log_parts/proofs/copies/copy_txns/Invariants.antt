@@ -1,5 +1,4 @@
-use Rattle.std.proofs.Common.{◌≡◌, map, take}
-use Rattle.session_log.specs.Text.{view_txn}
+use Rattle.log_parts.proofs.Prelude.{◌≡◌, map, take, view_txn}
 use Rattle.log_parts.proofs.copies.copy_txns.Given as goal
 
 abbrev pub invariant-loop-txn : goal.invariant-loop-txn

@@ -1,8 +1,4 @@
-use Rattle.std.proofs.Common.{map, sym, ◌∙◌, subst}
-use Rattle.session_log.specs.Text.{view}
-use Rattle.part_laws.specs.Parts.{IsPart}
-use Rattle.part_laws.proofs.Chosen.{thinned_is_part}
-use Rattle.log_parts.specs.Picked.{picked, flags_view, is_kept}
+use Rattle.log_parts.proofs.Prelude.{map, sym, ◌∙◌, subst, view, IsPart, thinned_is_part, picked, flags_view, is_kept}
 use Rattle.log_parts.proofs.Steps.{thin_kept, passes, some_picked}
 use Rattle.log_parts.proofs.part.part_of.Goals as goal
 

@@ -1,8 +1,4 @@
-use Rattle.std.proofs.Common.{◌≡◌, ◌||◌, ℕ, map, nat_cmp}
-use Rattle.std.specs.BTreeSet.{contains}
-use Rattle.session_log.specs.Text.{view}
-use Rattle.log_definitions.specs.Unknown.{ops_in}
-use Rattle.log_parts.specs.Picked.{has_named, picked, flags_view}
+use Rattle.log_parts.proofs.Prelude.{◌≡◌, ◌||◌, ℕ, map, nat_cmp, contains, view, ops_in, has_named, picked, flags_view}
 use Rattle.log_parts.proofs.Steps.{picked_from}
 use Rattle.log_parts.proofs.sources.add_identities.Given as goal
 

@@ -1,7 +1,4 @@
-use Rattle.std.proofs.Common.{◌≡◌, ◌||◌, ℕ, nat_cmp}
-use Rattle.std.specs.Prelude.{drop}
-use Rattle.std.specs.BTreeSet.{contains}
-use Rattle.log_parts.specs.Picked.{has_named}
+use Rattle.log_parts.proofs.Prelude.{◌≡◌, ◌||◌, ℕ, nat_cmp, drop, contains, has_named}
 use Rattle.log_parts.proofs.sources.add_named.Given as goal
 
 abbrev pub invariant-loop-op : goal.invariant-loop-op

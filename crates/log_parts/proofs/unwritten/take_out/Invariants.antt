@@ -1,9 +1,4 @@
-use Rattle.std.proofs.Common.{◌≡◌, ◌&&◌, not, map, ℕ, nat_cmp}
-use Rattle.std.specs.Prelude.{drop}
-use Rattle.std.specs.BTreeSet.{contains}
-use Rattle.session_log.specs.Text.{view}
-use Rattle.log_definitions.specs.Unknown.{ops_in}
-use Rattle.log_parts.specs.Picked.{wrote}
+use Rattle.log_parts.proofs.Prelude.{◌≡◌, ◌&&◌, not, map, ℕ, nat_cmp, drop, contains, view, ops_in, wrote}
 use Rattle.log_parts.proofs.unwritten.take_out.Given as goal
 
 abbrev pub invariant-loop-session : goal.invariant-loop-session

@@ -1,7 +1,4 @@
-use Rattle.std.proofs.Common.{◌≡◌, ◌&&◌, not, ℕ, nat_cmp}
-use Rattle.std.specs.Prelude.{drop}
-use Rattle.std.specs.BTreeSet.{contains}
-use Rattle.log_parts.specs.Picked.{wrote}
+use Rattle.log_parts.proofs.Prelude.{◌≡◌, ◌&&◌, not, ℕ, nat_cmp, drop, contains, wrote}
 use Rattle.log_parts.proofs.unwritten.take_out_of_ops.Given as goal
 
 abbrev pub invariant-loop-op : goal.invariant-loop-op

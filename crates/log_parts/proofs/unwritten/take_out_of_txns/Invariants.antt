@@ -1,8 +1,4 @@
-use Rattle.std.proofs.Common.{◌≡◌, ◌&&◌, not, map, ℕ, nat_cmp}
-use Rattle.std.specs.Prelude.{drop}
-use Rattle.std.specs.BTreeSet.{contains}
-use Rattle.session_log.specs.Text.{view_txn}
-use Rattle.log_parts.specs.Picked.{ops_by, wrote}
+use Rattle.log_parts.proofs.Prelude.{◌≡◌, ◌&&◌, not, map, ℕ, nat_cmp, drop, contains, view_txn, ops_by, wrote}
 use Rattle.log_parts.proofs.unwritten.take_out_of_txns.Given as goal
 
 abbrev pub invariant-loop-txn : goal.invariant-loop-txn

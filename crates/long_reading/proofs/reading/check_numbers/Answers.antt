@@ -1,8 +1,4 @@
-use Rattle.std.proofs.Common.{◌≡◌, [], map, sym, ap, ◌∙◌}
-use Rattle.session_log.specs.Text.{view}
-use Rattle.session_log.specs.Version.{first_line}
-use Rattle.log_definitions.specs.WellFormed.{log_lines, repeated, sessions_from, writes_from}
-use Rattle.long_reading.specs.Statements.{by_line}
+use Rattle.long_reading.proofs.Prelude.{◌≡◌, [], map, sym, ap, ◌∙◌, view, first_line, log_lines, repeated, sessions_from, writes_from, by_line}
 use Rattle.long_reading.proofs.Stating.{sessions_ascend, writes_ascend}
 use Rattle.long_reading.proofs.Accepting.{ascend, session_found, write_found, none_found}
 use Rattle.long_reading.proofs.reading.check_numbers.Goals as goal

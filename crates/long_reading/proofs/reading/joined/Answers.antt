@@ -1,13 +1,6 @@
-use Rattle.std.proofs.Common.{◌≡◌, ◌+◌, ◌++◌, List, length, map, take, MatchResult, sym, ap, ◌∙◌, subst, arith}
+use Rattle.long_reading.proofs.Prelude.{◌≡◌, ◌+◌, ◌++◌, List, length, map, take, MatchResult, sym, ap, ◌∙◌, subst, arith, length_push, map-append, take_all, err_from_is_err_and, some_at, view, IsFault, Block, AreRead, fault_of_blocks}
 use Rattle.std.proofs.lemmas.Iterator.Adapters.{YieldsList-from_vec}
 use Rattle.std.proofs.lemmas.Iterator.Consumers.{YieldsList-turn, YieldsList-end}
-use Rattle.std.proofs.lemmas.List.{length_push, map-append, take_all}
-use Rattle.std.proofs.lemmas.Result.{err_from_is_err_and}
-use Rattle.list_lemmas.proofs.Elements.{some_at}
-use Rattle.session_log.specs.Text.{view}
-use Rattle.session_log.specs.Faults.{IsFault}
-use Rattle.session_log.specs.declared.block.Block.{Block}
-use Rattle.long_reading.specs.Reading.{AreRead, fault_of_blocks}
 use Rattle.long_reading.proofs.Read.{whole_of, whole_is, blocks_in, blocks_count, part_read, part_refused}
 use Rattle.long_reading.proofs.Accepting.{grammar_is}
 use Rattle.long_reading.proofs.reading.joined.Goals as goal

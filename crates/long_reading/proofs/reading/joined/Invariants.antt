@@ -1,6 +1,4 @@
-use Rattle.std.proofs.Common.{map, take, length}
-use Rattle.session_log.specs.Text.{view}
-use Rattle.long_reading.specs.Reading.{AreRead}
+use Rattle.long_reading.proofs.Prelude.{map, take, length, view, AreRead}
 use Rattle.long_reading.proofs.Read.{whole_of}
 use Rattle.long_reading.proofs.reading.joined.Given as goal
 

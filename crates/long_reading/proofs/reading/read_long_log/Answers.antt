@@ -1,12 +1,5 @@
-use Rattle.std.proofs.Common.{◌≡◌, None, List, length, map, ap, subst, arith}
-use Rattle.std.proofs.lemmas.Result.{err_from_is_err_and}
-use Rattle.session_log.specs.Text.{view}
-use Rattle.session_log.specs.Version.{version_of, first_line}
-use Rattle.session_log.specs.Faults.{IsFault}
+use Rattle.long_reading.proofs.Prelude.{◌≡◌, None, List, length, map, ap, subst, arith, err_from_is_err_and, view, version_of, first_line, IsFault, Session, log_lines, list_fault}
 use Rattle.session_log.specs.declared.version.Version.{Version}
-use Rattle.session_log.specs.declared.session.Session.{Session}
-use Rattle.log_definitions.specs.WellFormed.{log_lines}
-use Rattle.long_log_definitions.specs.LongLog.{list_fault}
 use Rattle.long_log_definitions.proofs.Texts.{lines_within}
 use Rattle.long_reading.proofs.Accepting.{text_is, refused_by_size, refused_by_grammar, refused_by_list, is_long}
 use Rattle.long_reading.proofs.reading.read_long_log.Goals as goal

@@ -1,12 +1,6 @@
-use Rattle.std.proofs.Common.{get_or, map, subst}
-use Rattle.std.specs.List.{Contains}
-use Rattle.std.proofs.lemmas.Result.{err_from_is_err_and}
+use Rattle.long_reading.proofs.Prelude.{get_or, map, subst, Contains, err_from_is_err_and, view, IsHeldBy, blocks_of, Block, block_version}
 use Rattle.list_lemmas.proofs.Each.{each_at_index}
-use Rattle.session_log.specs.Text.{view, IsHeldBy}
-use Rattle.session_log.specs.Blocks.{blocks_of}
-use Rattle.session_log.specs.declared.block.Block.{Block}
 use Rattle.session_log.specs.declared.version.Version.TheVariants.{One}
-use Rattle.session_log.proofs.Together.{block_version}
 use Rattle.long_reading.proofs.Read.{one_read, one_refused}
 use Rattle.long_reading.proofs.reading.read_share.Goals as goal
 

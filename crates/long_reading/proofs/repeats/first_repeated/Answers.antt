@@ -1,4 +1,4 @@
-use Rattle.std.proofs.Common.{arith}
+use Rattle.long_reading.proofs.Prelude.{arith}
 use Rattle.long_reading.proofs.Sorting.{one_pair_more, first_is}
 use Rattle.long_reading.proofs.repeats.first_repeated.Goals as goal
 

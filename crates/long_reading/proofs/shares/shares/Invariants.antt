@@ -1,5 +1,4 @@
-use Rattle.std.proofs.Common.{◌≡◌, ◌+◌, ◌++◌, length}
-use Rattle.std.specs.List.{flat_map}
+use Rattle.long_reading.proofs.Prelude.{◌≡◌, ◌+◌, ◌++◌, length, flat_map}
 use Rattle.long_reading.proofs.shares.shares.Given as goal
 
 abbrev pub invariant-loop-worker : goal.invariant-loop-worker

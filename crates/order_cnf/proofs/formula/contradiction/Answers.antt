@@ -1,9 +1,5 @@
-use Rattle.std.proofs.Common.{◌≡◌, sym, ap, ◌∙◌, subst}
-use Rattle.std.proofs.lemmas.Result.{IfOk-weaker, IfErr-weaker}
-use Rattle.serializability.specs.Decoded.{IsFormula}
+use Rattle.order_cnf.proofs.Prelude.{◌≡◌, sym, ap, ◌∙◌, subst, IfOk-weaker, IfErr-weaker, IsFormula, cnf_of, size_fault}
 use Rattle.serializability.specs.Plain as spec
-use Rattle.order_cnf.specs.Data.{cnf_of}
-use Rattle.order_cnf.specs.Limits.{size_fault}
 use Rattle.order_cnf.proofs.Wholes.{contradiction_is, contradiction_is_formula, no_fault}
 use Rattle.order_cnf.proofs.formula.contradiction.Goals as goal
 

@@ -1,7 +1,4 @@
-use Rattle.std.proofs.Common.{sym, ap, ◌∙◌}
-use Rattle.std.specs.Prelude.{map}
-use Rattle.serializability.specs.Pairs.{edge_literal}
-use Rattle.order_cnf.specs.Tables.{pairs_in}
+use Rattle.order_cnf.proofs.Prelude.{sym, ap, ◌∙◌, map, edge_literal, pairs_in}
 use Rattle.order_cnf.proofs.Parts.{bipath_is}
 use Rattle.order_cnf.proofs.layout.bipath_clause.Goals as goal
 

@@ -1,6 +1,4 @@
-use Rattle.std.proofs.Common.{ℕ, ◌+◌, not, inl, inr, sym, ap, subst, arith, Bool}
-use Rattle.order_cnf.specs.Data.{is_listed}
-use Rattle.order_cnf.specs.Tables.{rows_known}
+use Rattle.order_cnf.proofs.Prelude.{ℕ, ◌+◌, not, inl, inr, sym, ap, subst, arith, Bool, is_listed, rows_known}
 use Rattle.order_cnf.proofs.Filled.{IsFilled, IsPast, IsPastTurned, filled_none, set_first, set_second, kept_first, kept_second}
 use Rattle.order_cnf.proofs.open_pairs.set_open.Goals as goal
 use Rattle.order_cnf.proofs.open_pairs.set_open.Goals.{then-not-is_known, else-not-is_known}

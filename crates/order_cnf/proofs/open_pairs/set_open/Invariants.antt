@@ -1,6 +1,4 @@
-use Rattle.std.proofs.Common.{not}
-use Rattle.order_cnf.specs.Data.{is_listed}
-use Rattle.order_cnf.specs.Tables.{rows_known}
+use Rattle.order_cnf.proofs.Prelude.{not, is_listed, rows_known}
 use Rattle.order_cnf.proofs.Filled.{IsFilled, IsPast, IsPastTurned}
 use Rattle.order_cnf.proofs.open_pairs.set_open.Given as goal
 

@@ -1,7 +1,4 @@
-use Rattle.std.proofs.Common.{◌≡◌, take}
-use Rattle.std.specs.Prelude.{map}
-use Rattle.serializability.specs.Pairs.{edge_literal}
-use Rattle.order_cnf.specs.Tables.{pairs_in}
+use Rattle.order_cnf.proofs.Prelude.{◌≡◌, take, map, edge_literal, pairs_in}
 use Rattle.order_cnf.proofs.plain.arc_literals.Given as goal
 
 abbrev pub invariant-loop-arc : goal.invariant-loop-arc

@@ -1,16 +1,6 @@
-use Rattle.std.proofs.Common.{◌≡◌, ℕ, [], None, sym, ap, ◌∙◌, subst, inr, arith, length}
-use Rattle.std.specs.Prelude.{IfOk}
-use Rattle.std.specs.List.{AllByRecursion}
-use Rattle.std.proofs.lemmas.Result.{IfOk-weaker, IfErr-weaker}
-use Rattle.serializability.specs.Decoded.{IsFormula}
-use Rattle.serializability.specs.Plain.{plain_of}
-use Rattle.order_cnf.specs.Data.{cnf_of}
-use Rattle.order_cnf.specs.Limits.{size_fault, IsFault}
-use Rattle.order_cnf.specs.Tables.{Relation}
-use Rattle.order_cnf.specs.Streams.{IsFreeBipath}
+use Rattle.order_cnf.proofs.Prelude.{◌≡◌, ℕ, [], None, sym, ap, ◌∙◌, subst, inr, arith, length, IfOk, AllByRecursion, IfOk-weaker, IfErr-weaker, IsFormula, plain_of, cnf_of, size_fault, IsFault, Relation, IsFreeBipath, cnf_with}
 use Rattle.order_cnf.proofs.Wholes.{plain_is, free_bipaths, no_edges}
 use Rattle.order_cnf.proofs.plain.formula_of.Goals as goal
-use Rattle.order_cnf.specs.Shapes.{cnf_with}
 
 pub new-layout-requires : goal.new-layout-requires
 new-layout-requires c = record {

@@ -1,8 +1,5 @@
-use Rattle.std.proofs.Common.{◌≡◌, None, subst, arith}
-use Rattle.std.specs.Prelude.{IfOk, IfErr}
+use Rattle.order_cnf.proofs.Prelude.{◌≡◌, None, subst, arith, IfOk, IfErr, cnf_of, IsFault}
 use Rattle.log_definitions.specs.Numbers.{log_of}
-use Rattle.order_cnf.specs.Data.{cnf_of}
-use Rattle.order_cnf.specs.Limits.{IsFault}
 use Rattle.order_cnf.proofs.PlainFormula.{made_plain, plain_same, size_is}
 use Rattle.order_cnf.proofs.plain.plain_formula.Goals as goal
 

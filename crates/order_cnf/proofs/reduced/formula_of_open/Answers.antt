@@ -1,14 +1,6 @@
-use Rattle.std.proofs.Common.{◌≡◌, None, sym, ap, ◌∙◌, subst, inr, arith, length}
-use Rattle.std.specs.Prelude.{IfOk}
-use Rattle.std.specs.List.{AllByRecursion}
-use Rattle.std.proofs.lemmas.Result.{IfOk-weaker, IfErr-weaker}
-use Rattle.serializability.specs.Decoded.{IsFormula}
+use Rattle.order_cnf.proofs.Prelude.{◌≡◌, None, sym, ap, ◌∙◌, subst, inr, arith, length, IfOk, AllByRecursion, IfOk-weaker, IfErr-weaker, IsFormula, cnf_of, is_listed, formula_of_rest, size_fault, IsFault, IsUnturned, IsFreeBipath}
+use Rattle.order_cnf.proofs.Prelude.{IsStrict}
 use Rattle.order_laws.proofs.Clauses.{is_formula}
-use Rattle.order_cnf.specs.Data.{cnf_of, is_listed}
-use Rattle.order_cnf.specs.Left.{formula_of_rest}
-use Rattle.order_cnf.specs.Limits.{size_fault, IsFault}
-use Rattle.order_cnf.specs.Streams.{IsUnturned, IsFreeBipath}
-use Rattle.order_cnf.specs.Tables.{IsStrict}
 use Rattle.order_cnf.proofs.Wholes.{edges_in, counts_in}
 use Rattle.order_cnf.proofs.Rests.{is_reach, is_proper, is_strict, all_unturned, two_each, rest_is}
 use Rattle.order_cnf.proofs.reduced.formula_of_open.Goals as goal

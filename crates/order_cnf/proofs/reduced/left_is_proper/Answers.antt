@@ -1,6 +1,5 @@
-use Rattle.std.proofs.Common.{subst}
+use Rattle.order_cnf.proofs.Prelude.{subst, IsPolygraph}
 use Rattle.known_graph.specs.Graphs.{IsKnownGraph}
-use Rattle.polygraph.specs.Polygraphs.{IsPolygraph}
 use Rattle.order_cnf.proofs.Rests.{proper_rest}
 use Rattle.order_cnf.proofs.reduced.left_is_proper.Goals as goal
 

@@ -1,5 +1,4 @@
-use Rattle.std.proofs.Common.{◌≡◌, ◌∷◌, ◌++◌, [], length, take}
-use Rattle.std.specs.List.{flat_map}
+use Rattle.order_cnf.proofs.Prelude.{◌≡◌, ◌∷◌, ◌++◌, [], length, take, flat_map}
 use Rattle.order_cnf.proofs.reduced.sides_of.Given as goal
 
 abbrev pub invariant-loop-choice : goal.invariant-loop-choice

@@ -1,7 +1,4 @@
-use Rattle.std.proofs.Common.{sym, ap, ◌∙◌}
-use Rattle.known_graph.proofs.Tested.{known_is}
-use Rattle.order_cnf.specs.Data.{is_listed}
-use Rattle.order_cnf.specs.Tables.{rows_known}
+use Rattle.order_cnf.proofs.Prelude.{sym, ap, ◌∙◌, known_is, is_listed, rows_known}
 use Rattle.order_cnf.proofs.relation.is_known.Goals as goal
 
 pub returns-in-Some : goal.returns-in-Some

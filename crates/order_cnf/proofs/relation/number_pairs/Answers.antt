@@ -1,6 +1,4 @@
-use Rattle.std.proofs.Common.{◌+◌, ◌*◌, ap, sym, ◌∙◌, ℕ, length, arith, refl}
-use Rattle.std.proofs.lemmas.List.{length-replicate}
-use Rattle.order_cnf.specs.Tables.{Relation, rows_known}
+use Rattle.order_cnf.proofs.Prelude.{◌+◌, ◌*◌, ap, sym, ◌∙◌, ℕ, length, arith, refl, length-replicate, Relation, rows_known}
 use Rattle.order_cnf.proofs.Numbered.{number_begun, number_row, number_free, number_known, few_numbered, none_yet}
 use Rattle.order_cnf.proofs.relation.number_pairs.Goals as goal
 use Rattle.order_cnf.proofs.relation.number_pairs.Goals.{then-is_free, else-is_free}

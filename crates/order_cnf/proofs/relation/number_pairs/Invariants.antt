@@ -1,5 +1,4 @@
-use Rattle.std.proofs.Common.{◌+◌}
-use Rattle.order_cnf.specs.Tables.{rows_known}
+use Rattle.order_cnf.proofs.Prelude.{◌+◌, rows_known}
 use Rattle.order_cnf.proofs.Numbered.{IsNumbered}
 use Rattle.order_cnf.proofs.relation.number_pairs.Given as goal
 

@@ -1,6 +1,4 @@
-use Rattle.std.proofs.Common.{ap, sym, arith, ◌+◌, length}
-use Rattle.std.proofs.lemmas.Bool.{false≢true}
-use Rattle.order_cnf.specs.Cursors.{cursor_left}
+use Rattle.order_cnf.proofs.Prelude.{ap, sym, arith, ◌+◌, length, false≢true, cursor_left}
 use Rattle.order_cnf.proofs.Walks.{begun, row_counted}
 use Rattle.order_cnf.proofs.triples.count_triples.Goals as goal
 

@@ -1,6 +1,4 @@
-use Rattle.std.proofs.Common.{◌≡◌, ◌≤◌, ◌+◌, length}
-use Rattle.order_cnf.specs.Cursors.{IsCursor, cursor_left, steps_left}
-use Rattle.order_cnf.specs.Streams.{of_three, up_to}
+use Rattle.order_cnf.proofs.Prelude.{◌≡◌, ◌≤◌, ◌+◌, length, IsCursor, cursor_left, steps_left, of_three, up_to}
 use Rattle.order_cnf.proofs.triples.count_triples.Given as goal
 
 abbrev pub invariant-loop-cursor : goal.invariant-loop-cursor

@@ -1,6 +1,4 @@
-use Rattle.std.proofs.Common.{ap, ◌∙◌, arith}
-use Rattle.std.proofs.lemmas.Nat.{or_lt}
-use Rattle.known_graph.specs.Bits.{row_len}
+use Rattle.order_cnf.proofs.Prelude.{ap, ◌∙◌, arith, or_lt, row_len}
 use Rattle.order_cnf.proofs.Skipped.{none_begun, none_more, next_found, none_found}
 use Rattle.order_cnf.proofs.triples.next_open.Goals as goal
 

@@ -1,4 +1,4 @@
-use Rattle.std.proofs.Common.{◌*◌}
+use Rattle.order_cnf.proofs.Prelude.{◌*◌}
 use Rattle.order_cnf.proofs.Skipped.{NoneTo}
 use Rattle.order_cnf.proofs.triples.next_open.Given as goal
 

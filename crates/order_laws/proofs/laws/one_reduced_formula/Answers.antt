@@ -1,6 +1,4 @@
-use Rattle.std.proofs.Common.{ap}
-use Rattle.serializability.specs.Formula.{Cnf}
-use Rattle.serializability.specs.Decoded.{before}
+use Rattle.order_laws.proofs.Prelude.{ap, Cnf, before}
 use Rattle.order_laws.proofs.Same.{same_formula}
 use Rattle.order_laws.proofs.laws.one_reduced_formula.Goals as goal
 

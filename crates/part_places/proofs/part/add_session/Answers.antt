@@ -1,11 +1,5 @@
-use Rattle.std.proofs.Common.{◌≡◌, length, map, ap, ◌∙◌, arith}
-use Rattle.std.specs.Prelude.{drop}
-use Rattle.std.proofs.lemmas.List.{length-map}
+use Rattle.part_places.proofs.Prelude.{◌≡◌, length, map, ap, ◌∙◌, arith, drop, length-map, view, view_txn, flag_of, view_place, first_txns}
 use Rattle.std.proofs.lemmas.Result.{on_ok_weaker}
-use Rattle.session_log.specs.Text.{view, view_txn}
-use Rattle.log_parts.specs.Picked.{flag_of}
-use Rattle.log_lines.specs.Rows.{view_place}
-use Rattle.part_places.specs.PartRows.{first_txns}
 use Rattle.part_places.proofs.Added.{rows_added}
 use Rattle.part_places.proofs.part.add_session.Goals as goal
 

@@ -1,9 +1,4 @@
-use Rattle.std.proofs.Common.{◌≡◌, Bool, List, [], ◌∷◌, ◌++◌, length, map, true, sym, ap, ◌∙◌, subst, arith}
-use Rattle.std.proofs.lemmas.List.{length-map, map-append}
-use Rattle.list_lemmas.proofs.Elements.{item}
-use Rattle.session_log.specs.Text.{view_txn}
-use Rattle.log_lines.specs.Rows.{TxnRow, view_place}
-use Rattle.part_places.specs.PartRows.{AddsRow}
+use Rattle.part_places.proofs.Prelude.{◌≡◌, Bool, List, [], ◌∷◌, ◌++◌, length, map, true, sym, ap, ◌∙◌, subst, arith, length-map, map-append, item, view_txn, TxnRow, view_place, AddsRow}
 use Rattle.part_places.proofs.Added.{row_added}
 use Rattle.part_places.proofs.part.add_txn.Goals as goal
 

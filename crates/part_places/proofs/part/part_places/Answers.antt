@@ -1,15 +1,8 @@
-use Rattle.std.proofs.Common.{◌≡◌, List, ◌+◌, ◌≤◌, Bool, length, drop, map, sym, ap, ◌∙◌, subst, arith, length-append, Vec}
-use Rattle.list_lemmas.proofs.Elements.{get_drop, item}
-use Rattle.session_log.specs.Text.{ClientSession, view, session_lines}
-use Rattle.log_definitions.specs.WellFormed.{log_lines}
-use Rattle.session_log.specs.Version.{first_line}
+use Rattle.part_places.proofs.Prelude.{◌≡◌, List, ◌+◌, ◌≤◌, Bool, length, drop, map, sym, ap, ◌∙◌, subst, arith, length-append, Vec, get_drop, item, ClientSession, view, session_lines, log_lines, first_line, thin, flag_of, flags_view}
+use Rattle.part_places.proofs.Prelude.{picked, Table, Fits, view_place, AddsRows}
 use Rattle.session_log.specs.declared.version.Version.{Version}
 use Rattle.session_log.specs.declared.version.Version.TheVariants.{One, Two, Three}
-use Rattle.part_laws.specs.Chosen.{thin}
-use Rattle.log_parts.specs.Picked.{flag_of, flags_view, picked}
-use Rattle.log_lines.specs.Rows.{Table, Fits, view_place}
 use Rattle.log_lines.specs.declared.places.TxnPlace.{TxnPlace}
-use Rattle.part_places.specs.PartRows.{AddsRows}
 use Rattle.part_places.proofs.Added.{IsTable, table_more, table_past, whole_table}
 use Rattle.part_places.proofs.Whole.{fits}
 use Rattle.part_places.proofs.part.part_places.Goals.{then-at-flags+in_ok-add_session, else-at-flags}

@@ -1,10 +1,4 @@
-use Rattle.std.proofs.Common.{◌≡◌, ℕ, Bool, ◌+◌, map, drop, length}
-use Rattle.session_log.specs.Text.{view}
-use Rattle.session_log.specs.Version.{first_line}
-use Rattle.log_definitions.specs.WellFormed.{log_lines}
-use Rattle.part_laws.specs.Chosen.{thin}
-use Rattle.log_parts.specs.Picked.{flags_view, picked}
-use Rattle.log_lines.specs.Rows.{view_place}
+use Rattle.part_places.proofs.Prelude.{◌≡◌, ℕ, Bool, ◌+◌, map, drop, length, view, first_line, log_lines, thin, flags_view, picked, view_place}
 use Rattle.part_places.proofs.Added.{IsTable}
 use Rattle.part_places.proofs.part.part_places.Given as goal
 

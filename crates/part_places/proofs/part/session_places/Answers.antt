@@ -1,9 +1,4 @@
-use Rattle.std.proofs.Common.{◌≡◌, ◌+◌, length, drop, map, sym, ap, ◌∙◌, subst, arith, length-append}
-use Rattle.std.specs.Prelude.{slice_get}
-use Rattle.std.specs.List.{flat_map}
-use Rattle.list_lemmas.proofs.Elements.{get_drop, item}
-use Rattle.session_log.specs.Text.{view_txn, txn_lines}
-use Rattle.log_lines.specs.Rows.{view_place}
+use Rattle.part_places.proofs.Prelude.{◌≡◌, ◌+◌, length, drop, map, sym, ap, ◌∙◌, subst, arith, length-append, slice_get, flat_map, get_drop, item, view_txn, txn_lines, view_place}
 use Rattle.part_places.proofs.Added.{AreRows, rows_more}
 use Rattle.part_places.proofs.part.session_places.Goals as goal
 

@@ -1,9 +1,4 @@
-use Rattle.std.proofs.Common.{◌≡◌, ℕ, Bool, List, ◌+◌, ◌++◌, map, drop, length}
-use Rattle.std.specs.List.{flat_map}
-use Rattle.session_log.specs.Text.{Transaction, view, view_txn, txn_lines}
-use Rattle.part_laws.specs.Chosen.{flagged, thin_txn}
-use Rattle.log_parts.specs.Picked.{flag_of}
-use Rattle.log_lines.specs.Rows.{view_place}
+use Rattle.part_places.proofs.Prelude.{◌≡◌, ℕ, Bool, List, ◌+◌, ◌++◌, map, drop, length, flat_map, Transaction, view, view_txn, txn_lines, flagged, thin_txn, flag_of, view_place}
 use Rattle.part_places.proofs.Added.{AreRows}
 use Rattle.part_places.proofs.part.session_places.Given as goal
 

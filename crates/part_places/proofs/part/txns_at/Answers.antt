@@ -1,8 +1,4 @@
-use Rattle.std.proofs.Common.{map, sym, ap, ◌∙◌}
-use Rattle.list_lemmas.proofs.Elements.{get_drop, item, get_map}
-use Rattle.session_log.specs.Text.{view, view_txn}
-use Rattle.session_log.specs.declared.session.Session.{Session}
-use Rattle.part_places.specs.PartRows.{first_txns}
+use Rattle.part_places.proofs.Prelude.{map, sym, ap, ◌∙◌, get_drop, item, get_map, view, view_txn, Session, first_txns}
 use Rattle.part_places.proofs.part.txns_at.Goals as goal
 
 pub returns-then-at-part : goal.returns-then-at-part

@@ -1,7 +1,4 @@
-use Rattle.std.proofs.Common.{◌≡◌, ℕ, ◌+◌, List, length, drop, sym, ap, ◌∙◌, subst, arith, Vec}
-use Rattle.list_lemmas.proofs.Elements.{item}
-use Rattle.part_laws.specs.Chosen.{stays}
-use Rattle.part_places.specs.PartRows.{is_kept}
+use Rattle.part_places.proofs.Prelude.{◌≡◌, ℕ, ◌+◌, List, length, drop, sym, ap, ◌∙◌, subst, arith, Vec, item, stays, is_kept}
 use Rattle.part_places.proofs.Matched.{IsMatched, same_test, one_matched, one_left}
 use Rattle.part_places.proofs.txn.lines_of.Goals.{then-is_next+in_ok-push, else-is_next}
 use Rattle.part_places.proofs.txn.lines_of.Goals as goal

@@ -1,6 +1,4 @@
-use Rattle.std.proofs.Common.{◌≡◌, ℕ, Bool}
-use Rattle.std.specs.List.{filter}
-use Rattle.part_laws.specs.Chosen.{stays}
+use Rattle.part_places.proofs.Prelude.{◌≡◌, ℕ, Bool, filter, stays}
 use Rattle.part_places.proofs.Matched.{IsMatched}
 use Rattle.part_places.proofs.txn.lines_of.Given as goal
 

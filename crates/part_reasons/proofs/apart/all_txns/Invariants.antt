@@ -1,6 +1,4 @@
-use Rattle.std.proofs.Common.{◌≡◌, ◌++◌, map}
-use Rattle.session_log.specs.Text.{view, view_txn}
-use Rattle.log_definitions.specs.Unknown.{txns_in}
+use Rattle.part_reasons.proofs.Prelude.{◌≡◌, ◌++◌, map, view, view_txn, txns_in}
 use Rattle.part_reasons.proofs.apart.all_txns.Given as goal
 
 abbrev pub invariant-loop-session : goal.invariant-loop-session

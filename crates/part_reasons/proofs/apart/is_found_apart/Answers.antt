@@ -1,9 +1,4 @@
-use Rattle.std.proofs.Common.{◌≡◌, map, subst, refl, ◌∙◌, inl, inr, Some}
-use Rattle.session_log.specs.Text.{view}
-use Rattle.session_log.specs.Version.{first_line}
-use Rattle.session_log.specs.declared.version.Version.TheVariants.{One}
-use Rattle.log_definitions.specs.WellFormed.{list_fault}
-use Rattle.part_reasons.specs.Apart.{IsFound, limit}
+use Rattle.part_reasons.proofs.Prelude.{◌≡◌, map, subst, refl, ◌∙◌, inl, inr, Some, view, first_line, One, list_fault, IsFound, limit}
 use Rattle.part_reasons.proofs.Faults.{some_fault}
 use Rattle.part_reasons.proofs.apart.is_found_apart.Goals as goal
 

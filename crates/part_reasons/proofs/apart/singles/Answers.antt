@@ -1,6 +1,4 @@
-use Rattle.std.proofs.Common.{◌≡◌, ◌+◌, ◌∷◌, [], ◌++◌, map, length, ap, sym, ◌∙◌, append_assoc, length-append, arith}
-use Rattle.std.proofs.lemmas.List.{map-append, length-map}
-use Rattle.session_log.specs.Text.{view, view_txn}
+use Rattle.part_reasons.proofs.Prelude.{◌≡◌, ◌+◌, ◌∷◌, [], ◌++◌, map, length, ap, sym, ◌∙◌, append_assoc, length-append, arith, map-append, length-map, view, view_txn}
 use Rattle.part_reasons.specs.Apart as spec
 use Rattle.part_reasons.proofs.Singles.{single_more}
 use Rattle.part_reasons.proofs.apart.singles.Goals as goal

@@ -1,5 +1,4 @@
-use Rattle.std.proofs.Common.{◌≡◌, ◌++◌, map, length}
-use Rattle.session_log.specs.Text.{view, view_txn}
+use Rattle.part_reasons.proofs.Prelude.{◌≡◌, ◌++◌, map, length, view, view_txn}
 use Rattle.part_reasons.specs.Apart as spec
 use Rattle.part_reasons.proofs.apart.singles.Given as goal
 

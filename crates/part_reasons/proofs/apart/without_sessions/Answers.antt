@@ -1,8 +1,4 @@
-use Rattle.std.proofs.Common.{◌≡◌, ◌≤◌, ap, map, length, sym, subst, ◌∙◌, arith}
-use Rattle.std.specs.List.{AllByRecursion}
-use Rattle.std.proofs.lemmas.List.{length-map}
-use Rattle.session_log.specs.Text.{IsLegal, view, view_txn}
-use Rattle.log_definitions.specs.Unknown.{txns_in}
+use Rattle.part_reasons.proofs.Prelude.{◌≡◌, ◌≤◌, ap, map, length, sym, subst, ◌∙◌, arith, AllByRecursion, length-map, IsLegal, view, view_txn, txns_in}
 use Rattle.part_reasons.specs.Apart as spec
 use Rattle.part_reasons.proofs.Singles.{legal_apart}
 use Rattle.part_reasons.proofs.apart.without_sessions.Goals as goal

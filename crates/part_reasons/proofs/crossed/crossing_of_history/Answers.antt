@@ -1,4 +1,4 @@
-use Rattle.std.proofs.Common.{sym, ◌∙◌}
+use Rattle.part_reasons.proofs.Prelude.{sym, ◌∙◌}
 use Rattle.headline.proofs.Answered.{clean_log}
 use Rattle.part_reasons.proofs.crossed.crossing_of_history.Goals as goal
 

@@ -1,4 +1,4 @@
-use Rattle.std.proofs.Common.{◌++◌, ap, ◌∙◌}
+use Rattle.part_reasons.proofs.Prelude.{◌++◌, ap, ◌∙◌}
 use Rattle.tell_reasons.specs.Crossed.{crossing_text}
 use Rattle.part_reasons.proofs.crossed.text_of_crossing.Goals as goal
 

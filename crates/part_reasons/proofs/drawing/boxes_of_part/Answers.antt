@@ -1,7 +1,4 @@
-use Rattle.std.proofs.Common.{map, ap, ◌∙◌}
-use Rattle.session_log.specs.Text.{view}
-use Rattle.log_lines.specs.Rows.{rows_of}
-use Rattle.part_graphs.specs.Graphs.{search_graph}
+use Rattle.part_reasons.proofs.Prelude.{map, ap, ◌∙◌, view, rows_of, search_graph}
 use Rattle.part_reasons.proofs.drawing.boxes_of_part.Goals as goal
 
 pub returns : goal.returns

@@ -1,10 +1,4 @@
-use Rattle.std.proofs.Common.{ℕ, ◌≡◌, map, inl, inr, subst, MatchOption, Option, Vec}
-use Rattle.std.specs.declared.alloc.Global.{Global}
-use Rattle.session_log.specs.Text.{view}
-use Rattle.session_log.specs.Version.{first_line}
-use Rattle.part_graphs.specs.Graphs.{search_graph}
-use Rattle.part_reasons.specs.Why.{table_of}
-use Rattle.part_reasons.specs.Drawn.{IsTooLong}
+use Rattle.part_reasons.proofs.Prelude.{ℕ, ◌≡◌, map, inl, inr, subst, MatchOption, Option, Vec, Global, view, first_line, search_graph, table_of, IsTooLong}
 use Rattle.part_reasons.proofs.drawing.draw_search.Goals as goal
 
 pub returns-in-Some : goal.returns-in-Some

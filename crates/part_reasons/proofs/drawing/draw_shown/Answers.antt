@@ -1,4 +1,4 @@
-use Rattle.part_reasons.specs.Drawn.{of_anomaly}
+use Rattle.part_reasons.proofs.Prelude.{of_anomaly}
 use Rattle.part_reasons.proofs.drawing.draw_shown.Goals as goal
 
 pub returns-in_ok-graph-in-Anomaly : goal.returns-in_ok-graph-in-Anomaly

@@ -1,10 +1,7 @@
-use Rattle.std.proofs.Common.{[], ◌∷◌, ◌++◌, ◌≡◌, ℕ, List, arith, refl, sym, ap, ◌∙◌, subst, codes, MatchOption, IfSome, Option, Some, None, ◌≢◌, Bor}
-use Rattle.std.specs.List.{Contains}
+use Rattle.part_reasons.proofs.Prelude.{[], ◌∷◌, ◌++◌, ◌≡◌, ℕ, List, arith, refl, sym, ap, ◌∙◌, subst, codes, MatchOption, IfSome, Option, Some, None, ◌≢◌, Bor, Contains, IfOk-weaker, lines}
 use Rattle.std.proofs.lemmas.Bool.Decides.{Decides-eqb}
 use Rattle.std.proofs.lemmas.List.Elements.{Contains-append_right}
-use Rattle.std.proofs.lemmas.Result.{IfOk-weaker}
 use Rattle.std.proofs.lemmas.Slice.Eq.{strip_prefix_is}
-use Rattle.session_log.specs.Lines.{lines}
 use Rattle.part_reasons.proofs.explaining.name_in.Goals as goal
 
 some_weaker : {X : Type 0} (o : Option X) (P Q : X → Type 0) → ((x : X) → P x → Q x) → IfSome o P → IfSome o Q

@@ -1,6 +1,4 @@
-use Rattle.std.proofs.Common.{ℕ, Bool, List, length}
-use Rattle.std.specs.List.{Contains}
-use Rattle.session_log.specs.Lines.{lines}
+use Rattle.part_reasons.proofs.Prelude.{ℕ, Bool, List, length, Contains, lines}
 use Rattle.part_reasons.proofs.explaining.name_in.Given as goal
 
 abbrev pub invariant-loop-rest : goal.invariant-loop-rest

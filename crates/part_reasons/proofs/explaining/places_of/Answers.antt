@@ -1,11 +1,6 @@
-use Rattle.std.proofs.Common.{map, sym, ap, ◌∙◌, subst}
-use Rattle.std.proofs.lemmas.Result.{IfOk-weaker}
-use Rattle.session_log.specs.Text.{view}
-use Rattle.session_log.specs.Version.{first_line}
-use Rattle.log_lines.specs.Rows.{op_counts, op_counts_in}
+use Rattle.part_reasons.proofs.Prelude.{map, sym, ap, ◌∙◌, subst, IfOk-weaker, view, first_line, op_counts, op_counts_in, table_of}
 use Rattle.log_lines.proofs.Own.{own_fits}
 use Rattle.judging.specs.Made.{IsChosen}
-use Rattle.part_reasons.specs.Why.{table_of}
 use Rattle.part_reasons.proofs.explaining.places_of.Goals as goal
 
 pub returns-in-None : goal.returns-in-None

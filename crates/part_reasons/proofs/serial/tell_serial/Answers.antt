@@ -1,9 +1,4 @@
-use Rattle.std.proofs.Common.{map, inl, inr, subst, MatchOption, Option, Vec, ℕ}
-use Rattle.std.proofs.lemmas.Result.{IfOk-weaker}
-use Rattle.std.specs.declared.alloc.Global.{Global}
-use Rattle.session_log.specs.Text.{view}
-use Rattle.session_log.specs.Version.{first_line}
-use Rattle.part_reasons.specs.Why.{table_of, Tells, IsTooLarge}
+use Rattle.part_reasons.proofs.Prelude.{map, inl, inr, subst, MatchOption, Option, Vec, ℕ, IfOk-weaker, Global, view, first_line, table_of, Tells, IsTooLarge}
 use Rattle.part_reasons.proofs.serial.tell_serial.Goals as goal
 
 pub returns-in-Some : goal.returns-in-Some

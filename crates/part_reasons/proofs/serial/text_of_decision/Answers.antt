@@ -1,6 +1,4 @@
-use Rattle.std.proofs.Common.{sym, ◌∙◌}
-use Rattle.std.proofs.lemmas.Result.{IfOk-weaker}
-use Rattle.part_reasons.specs.Why.{of_told, of_searched}
+use Rattle.part_reasons.proofs.Prelude.{sym, ◌∙◌, IfOk-weaker, of_told, of_searched}
 use Rattle.part_reasons.proofs.serial.text_of_decision.Goals as goal
 
 pub returns-then-is_told : goal.returns-then-is_told

@@ -1,8 +1,4 @@
-use Rattle.std.proofs.Common.{◌≡◌, Some, map, ap, ◌∙◌, subst}
-use Rattle.session_log.specs.Text.{view}
-use Rattle.session_log.specs.Version.{first_line}
-use Rattle.session_log.specs.declared.version.Version.TheVariants.{One}
-use Rattle.log_definitions.specs.WellFormed.{list_fault}
+use Rattle.part_reasons.proofs.Prelude.{◌≡◌, Some, map, ap, ◌∙◌, subst, view, first_line, One, list_fault}
 use Rattle.part_reasons.specs.Why.{limit}
 use Rattle.part_reasons.proofs.Faults.{some_fault}
 use Rattle.part_reasons.proofs.serial.text_of_part.Goals as goal

@@ -1,6 +1,4 @@
-use Rattle.std.proofs.Common.{sym, subst}
-use Rattle.std.proofs.lemmas.Result.{IfOk-weaker}
-use Rattle.deciding.specs.Decides.{Decides}
+use Rattle.part_reasons.proofs.Prelude.{sym, subst, IfOk-weaker, Decides}
 use Rattle.part_reasons.proofs.serial.text_of_told.Goals as goal
 
 pub explain_placed-requires : goal.explain_placed-requires

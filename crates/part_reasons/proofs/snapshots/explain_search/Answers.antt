@@ -1,7 +1,4 @@
-use Rattle.std.proofs.Common.{map, ap, subst, sym, ◌∙◌}
-use Rattle.session_log.specs.Text.{view}
-use Rattle.session_log.specs.Version.{first_line}
-use Rattle.part_reasons.specs.Points.{IsSearchTold, search_text}
+use Rattle.part_reasons.proofs.Prelude.{map, ap, subst, sym, ◌∙◌, view, first_line, IsSearchTold, search_text}
 use Rattle.part_reasons.proofs.Allowed.{forbidden_name}
 use Rattle.part_reasons.proofs.snapshots.explain_search.Goals as goal
 

@@ -1,7 +1,4 @@
-use Rattle.std.proofs.Common.{◌≡◌, false, codes, sym, ◌∙◌, subst}
-use Rattle.std.specs.Bool.{nat_eq}
-use Rattle.std.specs.List.{starts_with}
-use Rattle.std.proofs.lemmas.List.{take_rest}
+use Rattle.part_reasons.proofs.Prelude.{◌≡◌, false, codes, sym, ◌∙◌, subst, nat_eq, starts_with, take_rest}
 use Rattle.part_reasons.proofs.Allowed.{allowed_behind}
 use Rattle.part_reasons.proofs.snapshots.is_allowed.Goals as goal
 

@@ -1,5 +1,4 @@
-use Rattle.std.proofs.Common.{◌≡◌, drop}
-use Rattle.part_reasons.specs.Points.{is_allowed}
+use Rattle.part_reasons.proofs.Prelude.{◌≡◌, drop, is_allowed}
 use Rattle.part_reasons.proofs.snapshots.is_allowed.Given as goal
 
 abbrev pub invariant-loop-i : goal.invariant-loop-i

@@ -1,4 +1,4 @@
-use Rattle.std.proofs.Common.{length, sym, ◌∙◌}
+use Rattle.part_reasons.proofs.Prelude.{length, sym, ◌∙◌}
 use Rattle.std.proofs.lemmas.Bool.{eqb-true}
 use Rattle.part_reasons.proofs.Allowed.{nothing_left}
 use Rattle.part_reasons.proofs.snapshots.put_forbidden.Goals as goal

@@ -1,6 +1,4 @@
-use Rattle.std.proofs.Common.{◌≡◌, ◌++◌, length}
-use Rattle.session_log.specs.Lines.{lines}
-use Rattle.part_reasons.specs.Points.{forbidden_in}
+use Rattle.part_reasons.proofs.Prelude.{◌≡◌, ◌++◌, length, lines, forbidden_in}
 use Rattle.part_reasons.proofs.snapshots.put_forbidden.Given as goal
 
 abbrev pub invariant-loop-rest : goal.invariant-loop-rest

@@ -1,6 +1,4 @@
-use Rattle.std.proofs.Common.{map, ap, ◌∙◌}
-use Rattle.session_log.specs.Text.{view}
-use Rattle.log_lines.specs.Rows.{rows_of}
+use Rattle.part_reasons.proofs.Prelude.{map, ap, ◌∙◌, view, rows_of}
 use Rattle.tell_points.specs.Names.{refutation_name}
 use Rattle.tell_points.specs.Told.{refutation_text}
 use Rattle.part_reasons.proofs.snapshots.tell_refutation.Goals as goal

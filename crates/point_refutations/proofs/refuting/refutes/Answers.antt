@@ -1,5 +1,4 @@
-use Rattle.std.proofs.Common.{map, sym, ◌∙◌}
-use Rattle.session_log.specs.Text.{view}
+use Rattle.point_refutations.proofs.Prelude.{map, sym, ◌∙◌, view}
 use Rattle.point_refutations.proofs.Orderless.{no_order}
 use Rattle.point_refutations.proofs.refuting.refutes.Goals as goal
 

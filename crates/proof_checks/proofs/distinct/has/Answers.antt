@@ -1,6 +1,4 @@
-use Rattle.std.proofs.Common.{◌∙◌, sym}
-use Rattle.std.proofs.lemmas.List.Folds.{list_any_at}
-use Rattle.proof_checks.specs.Distinct.{is_same}
+use Rattle.proof_checks.proofs.Prelude.{◌∙◌, sym, list_any_at, is_same}
 use Rattle.proof_checks.proofs.Once.{none_more, none_in_all}
 use Rattle.proof_checks.proofs.distinct.has.Goals as goal
 

@@ -1,7 +1,4 @@
-use Rattle.std.proofs.lemmas.Result.{err_from_is_err_and}
-use Rattle.proof_text.specs.Binary.{drat_steps_in}
-use Rattle.proof_text.specs.Faults.{fault_of_step}
-use Rattle.refutation.proofs.Units.{entails_then}
+use Rattle.proof_checks.proofs.Prelude.{err_from_is_err_and, drat_steps_in, fault_of_step, entails_then}
 use Rattle.proof_checks.proofs.Passed.{goes_first, goes_more, goes_less, goes_ended, goes_stopped}
 use Rattle.proof_checks.proofs.Propagating.{holds_itself}
 use Rattle.proof_checks.proofs.drat.take_steps.Goals as goal

@@ -1,8 +1,4 @@
-use Rattle.refutation.specs.Follows.{Entails}
-use Rattle.proof_text.specs.Binary.{drat_steps_in}
-use Rattle.proof_checks.specs.Marks.{HasRounds}
-use Rattle.proof_checks.specs.Passed.{GoesOn}
-use Rattle.std.proofs.Common.{length}
+use Rattle.proof_checks.proofs.Prelude.{Entails, drat_steps_in, HasRounds, GoesOn, length}
 use Rattle.proof_checks.proofs.drat.take_steps.Given as goal
 
 abbrev pub invariant-loop-drat : goal.invariant-loop-drat

@@ -1,6 +1,4 @@
-use Rattle.std.proofs.Common.{◌≡◌, ℕ, true, false, List, length, sym, ap, ◌∙◌}
-use Rattle.proof_checks.specs.Lrat.{is_next}
-use Rattle.proof_checks.specs.Kept.{proof_of}
+use Rattle.proof_checks.proofs.Prelude.{◌≡◌, ℕ, true, false, List, length, sym, ap, ◌∙◌, is_next, proof_of}
 use Rattle.proof_checks.proofs.Places.{goes_up, last_below}
 use Rattle.proof_checks.proofs.Taken.{not_next, not_implied, implied}
 use Rattle.proof_checks.proofs.lrat.add_clause.Goals as goal

@@ -1,4 +1,4 @@
-use Rattle.std.proofs.Common.{sym}
+use Rattle.proof_checks.proofs.Prelude.{sym}
 use Rattle.proof_checks.proofs.Places.{place_at, found_place, ok_value}
 use Rattle.proof_checks.proofs.lrat.added_at.Goals as goal
 

@@ -1,5 +1,4 @@
-use Rattle.std.proofs.Common.{refl, ◌∙◌, length}
-use Rattle.refutation.proofs.Units.{entails_same, entails_then}
+use Rattle.proof_checks.proofs.Prelude.{refl, ◌∙◌, length, entails_same, entails_then}
 use Rattle.proof_checks.proofs.Places.{opened, without_step}
 use Rattle.proof_checks.proofs.lrat.delete.Goals as goal
 

@@ -1,6 +1,4 @@
-use Rattle.std.proofs.Common.{◌≡◌, length, drop}
-use Rattle.refutation.specs.Follows.{Entails}
-use Rattle.proof_checks.specs.Lrat.{without}
+use Rattle.proof_checks.proofs.Prelude.{◌≡◌, length, drop, Entails, without}
 use Rattle.proof_checks.proofs.lrat.delete.Given as goal
 
 abbrev pub invariant-loop-number : goal.invariant-loop-number

@@ -1,6 +1,4 @@
-use Rattle.std.proofs.Common.{◌∙◌, ap, sym, Some}
-use Rattle.proof_checks.specs.Lrat.{named_at}
-use Rattle.proof_checks.specs.Kept.{proof_of}
+use Rattle.proof_checks.proofs.Prelude.{◌∙◌, ap, sym, Some, named_at, proof_of}
 use Rattle.proof_checks.proofs.lrat.named.Goals as goal
 
 pub returns-in-Some : goal.returns-in-Some

@@ -1,5 +1,4 @@
-use Rattle.std.proofs.Common.{◌≡◌, ℕ, ◌+◌, ◌-◌, ◌∙◌, Some, None, ap, length, arith}
-use Rattle.proof_checks.specs.Kept.{proof_of}
+use Rattle.proof_checks.proofs.Prelude.{◌≡◌, ℕ, ◌+◌, ◌-◌, ◌∙◌, Some, None, ap, length, arith, proof_of}
 use Rattle.proof_checks.proofs.Places.{number_given, number_added}
 use Rattle.proof_checks.proofs.lrat.number_of.Goals as goal
 use Rattle.proof_checks.proofs.lrat.number_of.Goals.{else-id-gt0-via-then-id-gt0+else-id-given, else-id-gt0-via-else-id-gt0}

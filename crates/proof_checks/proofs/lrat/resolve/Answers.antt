@@ -1,5 +1,4 @@
-use Rattle.proof_checks.specs.Lrat.{numbers_at}
-use Rattle.proof_checks.specs.Kept.{proof_of}
+use Rattle.proof_checks.proofs.Prelude.{numbers_at, proof_of}
 use Rattle.proof_checks.proofs.Places.{numbers_step, numbers_stop, numbers_end, map_onto_none}
 use Rattle.proof_checks.proofs.lrat.resolve.Goals as goal
 

@@ -1,7 +1,4 @@
-use Rattle.std.proofs.Common.{◌≡◌, ◌++◌, drop}
-use Rattle.std.specs.Option.{option_map}
-use Rattle.proof_checks.specs.Lrat.{numbers_at}
-use Rattle.proof_checks.specs.Kept.{proof_of}
+use Rattle.proof_checks.proofs.Prelude.{◌≡◌, ◌++◌, drop, option_map, numbers_at, proof_of}
 use Rattle.proof_checks.proofs.lrat.resolve.Given as goal
 
 abbrev pub invariant-loop-id : goal.invariant-loop-id

@@ -1,5 +1,4 @@
-use Rattle.std.proofs.Common.{◌∙◌}
-use Rattle.proof_checks.specs.Kept.{proof_of}
+use Rattle.proof_checks.proofs.Prelude.{◌∙◌, proof_of}
 use Rattle.proof_checks.proofs.Places.{stands, stands_not, has_no_number}
 use Rattle.proof_checks.proofs.lrat.standing.Goals as goal
 

@@ -1,6 +1,4 @@
-use Rattle.std.proofs.Common.{◌∙◌, length}
-use Rattle.refutation.proofs.Units.{entails_then}
-use Rattle.proof_checks.specs.Kept.{proof_of}
+use Rattle.proof_checks.proofs.Prelude.{◌∙◌, length, entails_then, proof_of}
 use Rattle.proof_checks.proofs.Taken.{loop_on, loop_less, loop_end}
 use Rattle.proof_checks.proofs.lrat.take_steps.Goals as goal
 

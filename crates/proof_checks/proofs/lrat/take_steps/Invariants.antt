@@ -1,8 +1,4 @@
-use Rattle.std.proofs.Common.{◌≡◌, length, []}
-use Rattle.refutation.specs.Follows.{Entails}
-use Rattle.proof_text.specs.Steps.{lrat_steps}
-use Rattle.proof_checks.specs.Lrat.{lrat_fault}
-use Rattle.proof_checks.specs.Kept.{IsKept, proof_of}
+use Rattle.proof_checks.proofs.Prelude.{◌≡◌, length, [], Entails, lrat_steps, lrat_fault, IsKept, proof_of}
 use Rattle.proof_checks.proofs.lrat.take_steps.Given as goal
 
 abbrev pub invariant-loop-lrat : goal.invariant-loop-lrat

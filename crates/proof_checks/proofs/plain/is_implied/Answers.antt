@@ -1,4 +1,4 @@
-use Rattle.std.proofs.Common.{ℕ, ◌<◌, sym, subst}
+use Rattle.proof_checks.proofs.Prelude.{ℕ, ◌<◌, sym, subst}
 use Rattle.proof_checks.proofs.Reaching.{starts_false, pass_closed, pass_over, covers_all}
 use Rattle.proof_checks.proofs.plain.is_implied.Goals as goal
 

@@ -1,4 +1,4 @@
-use Rattle.std.proofs.Common.{ℕ, ◌<◌, Contains}
+use Rattle.proof_checks.proofs.Prelude.{ℕ, ◌<◌, Contains}
 use Rattle.proof_checks.proofs.plain.numbers_below.Given as goal
 
 abbrev pub invariant-loop-number : goal.invariant-loop-number

@@ -1,7 +1,4 @@
-use Rattle.std.proofs.Common.{List, take}
-use Rattle.serializability.specs.declared.literal.Literal.{Literal}
-use Rattle.proof_checks.specs.Marks.{IsMarking}
-use Rattle.proof_checks.specs.Reached.{AreFalse, Passes}
+use Rattle.proof_checks.proofs.Prelude.{List, take, Literal, IsMarking, AreFalse, Passes}
 use Rattle.proof_checks.proofs.plain.pass.Given as goal
 
 abbrev pub invariant-loop-number : goal.invariant-loop-number

@@ -1,5 +1,4 @@
-use Rattle.std.proofs.Common.{◌≡◌, length, ap, sym, subst, arith}
-use Rattle.proof_checks.specs.Reached.{Covers}
+use Rattle.proof_checks.proofs.Prelude.{◌≡◌, length, ap, sym, subst, arith, Covers}
 use Rattle.proof_checks.proofs.Reaching.{itself_false, pass_over, not_implied}
 use Rattle.proof_checks.proofs.plain.reach_end.Goals as goal
 

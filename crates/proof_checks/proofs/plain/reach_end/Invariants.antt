@@ -1,7 +1,4 @@
-use Rattle.std.proofs.Common.{List, length}
-use Rattle.serializability.specs.declared.literal.Literal.{Literal}
-use Rattle.proof_checks.specs.Marks.{IsMarking}
-use Rattle.proof_checks.specs.Reached.{AreFalse, Covers}
+use Rattle.proof_checks.proofs.Prelude.{List, length, Literal, IsMarking, AreFalse, Covers}
 use Rattle.proof_checks.proofs.plain.reach_end.Given as goal
 
 abbrev pub invariant-loop-kept : goal.invariant-loop-kept

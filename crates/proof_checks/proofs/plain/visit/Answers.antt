@@ -1,5 +1,4 @@
-use Rattle.std.proofs.Common.{◌∙◌, ap}
-use Rattle.proof_checks.specs.Distinct.{with_literal}
+use Rattle.proof_checks.proofs.Prelude.{◌∙◌, ap, with_literal}
 use Rattle.proof_checks.proofs.Reaching.{visits_last, visits_open}
 use Rattle.proof_checks.proofs.plain.visit.Goals as goal
 

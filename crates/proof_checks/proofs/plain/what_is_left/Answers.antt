@@ -1,6 +1,4 @@
-use Rattle.std.proofs.Common.{◌∙◌, sym, subst, ◌+◌, take}
-use Rattle.proof_checks.specs.Reached.{IsLeft}
-use Rattle.proof_checks.specs.declared.plain.Left.{Left}
+use Rattle.proof_checks.proofs.Prelude.{◌∙◌, sym, subst, ◌+◌, take, IsLeft, Left}
 use Rattle.proof_checks.proofs.Reaching.{front_more, front_marked, front_whole}
 use Rattle.proof_checks.proofs.plain.what_is_left.Goals as goal
 use Rattle.proof_checks.proofs.plain.what_is_left.Goals.{then-not-has, else-not-has}

@@ -1,7 +1,4 @@
-use Rattle.std.proofs.Common.{List, take}
-use Rattle.serializability.specs.declared.literal.Literal.{Literal}
-use Rattle.proof_checks.specs.Marks.{IsMarking}
-use Rattle.proof_checks.specs.Reached.{IsLeft}
+use Rattle.proof_checks.proofs.Prelude.{List, take, Literal, IsMarking, IsLeft}
 use Rattle.proof_checks.proofs.plain.what_is_left.Given as goal
 
 abbrev pub invariant-loop-literal : goal.invariant-loop-literal

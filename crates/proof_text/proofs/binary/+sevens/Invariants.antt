@@ -1,4 +1,4 @@
-use Rattle.std.proofs.Common.{length}
+use Rattle.proof_text.proofs.Prelude.{length}
 use Rattle.proof_text.proofs.binary.+sevens.Given as goal
 
 abbrev pub decreases-sevens : goal.decreases-sevens

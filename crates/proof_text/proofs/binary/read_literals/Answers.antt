@@ -1,5 +1,4 @@
-use Rattle.proof_text.specs.Numbers.{literal_of}
-use Rattle.proof_text.specs.Binary.{binary_number, binary_numbers}
+use Rattle.proof_text.proofs.Prelude.{literal_of, binary_number, binary_numbers}
 use Rattle.proof_text.proofs.UpToZero.{at_bad}
 use Rattle.proof_text.proofs.binary.read_literals.Goals as goal
 

@@ -1,6 +1,4 @@
-use Rattle.std.proofs.Common.{◌≡◌, length}
-use Rattle.proof_text.specs.Numbers.{before_zero, literal_of}
-use Rattle.proof_text.specs.Binary.{binary_numbers, behind_line}
+use Rattle.proof_text.proofs.Prelude.{◌≡◌, length, before_zero, literal_of, binary_numbers, behind_line}
 use Rattle.proof_text.proofs.UpToZero.{behind}
 use Rattle.proof_text.proofs.binary.read_literals.Given as goal
 

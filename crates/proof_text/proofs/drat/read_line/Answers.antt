@@ -1,5 +1,4 @@
-use Rattle.std.proofs.Common.{◌∷◌, ap, ◌∙◌}
-use Rattle.proof_text.specs.Steps.{drat_step, steps_by}
+use Rattle.proof_text.proofs.Prelude.{◌∷◌, ap, ◌∙◌, drat_step, steps_by}
 use Rattle.proof_text.proofs.drat.read_line.Goals as goal
 
 pub returns-in-None : goal.returns-in-None

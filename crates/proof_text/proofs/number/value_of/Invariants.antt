@@ -1,5 +1,4 @@
-use Rattle.std.proofs.Common.{◌≡◌, take}
-use Rattle.std.specs.Str.Parse.{digits_value}
+use Rattle.proof_text.proofs.Prelude.{◌≡◌, take, digits_value}
 use Rattle.proof_text.proofs.number.value_of.Given as goal
 
 abbrev pub invariant-loop-d : goal.invariant-loop-d

@@ -1,6 +1,4 @@
-use Rattle.std.proofs.Common.{◌≡◌, length}
-use Rattle.proof_text.specs.Numbers.{numbers_of}
-use Rattle.proof_text.specs.Forms.{behind_zero}
+use Rattle.proof_text.proofs.Prelude.{◌≡◌, length, numbers_of, behind_zero}
 use Rattle.proof_text.proofs.reading.pass_zero.Given as goal
 
 abbrev pub invariant-loop-number : goal.invariant-loop-number

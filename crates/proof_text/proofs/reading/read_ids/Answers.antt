@@ -1,4 +1,4 @@
-use Rattle.proof_text.specs.Numbers.{number_of, numbers_of, id_of}
+use Rattle.proof_text.proofs.Prelude.{number_of, numbers_of, id_of}
 use Rattle.proof_text.proofs.UpToZero.{at_bad}
 use Rattle.proof_text.proofs.reading.read_ids.Goals as goal
 

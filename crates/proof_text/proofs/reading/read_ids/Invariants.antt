@@ -1,5 +1,4 @@
-use Rattle.std.proofs.Common.{◌≡◌, length}
-use Rattle.proof_text.specs.Numbers.{numbers_of, before_zero, id_of}
+use Rattle.proof_text.proofs.Prelude.{◌≡◌, length, numbers_of, before_zero, id_of}
 use Rattle.proof_text.proofs.UpToZero.{behind}
 use Rattle.proof_text.proofs.reading.read_ids.Given as goal
 

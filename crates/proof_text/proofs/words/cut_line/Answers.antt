@@ -1,6 +1,4 @@
-use Rattle.std.proofs.Common.{ap}
-use Rattle.std.proofs.lemmas.List.{take_rest}
-use Rattle.proof_text.specs.Words.{stated}
+use Rattle.proof_text.proofs.Prelude.{ap, take_rest, stated}
 use Rattle.proof_text.proofs.Cutting.{lines_at}
 use Rattle.proof_text.proofs.words.cut_line.Goals as goal
 

@@ -1,5 +1,4 @@
-use Rattle.std.proofs.Common.{◌≡◌, ◌+◌, ◌^◌, ◌≤◌, length}
-use Rattle.proof_text.specs.Words.{lines, stated}
+use Rattle.proof_text.proofs.Prelude.{◌≡◌, ◌+◌, ◌^◌, ◌≤◌, length, lines, stated}
 use Rattle.proof_text.proofs.words.find_line.Given as goal
 
 abbrev pub invariant-loop-rest : goal.invariant-loop-rest

@@ -1,4 +1,4 @@
-use Rattle.std.proofs.Common.{◌≡◌, take}
+use Rattle.prune_ledger.proofs.Prelude.{◌≡◌, take}
 use Rattle.prune_ledger.proofs.copies.copy_choices.Given as goal
 
 abbrev pub invariant-loop-choice : goal.invariant-loop-choice

@@ -1,5 +1,4 @@
-use Rattle.std.proofs.Common.{◌∙◌, ap, Some}
-use Rattle.std.proofs.lemmas.Option.{slice_get-get_or}
+use Rattle.prune_ledger.proofs.Prelude.{◌∙◌, ap, Some, slice_get-get_or}
 use Rattle.std.proofs.lemmas.Result.{IfOk-weaker}
 use Rattle.prune_ledger.proofs.crew.all_work.Goals as goal
 

@@ -1,4 +1,4 @@
-use Rattle.std.proofs.lemmas.List.{take_all}
+use Rattle.prune_ledger.proofs.Prelude.{take_all}
 use Rattle.prune_ledger.proofs.Flags.{flagged_more, flagged_contains}
 use Rattle.prune_ledger.proofs.crew.flag_all.Goals as goal
 

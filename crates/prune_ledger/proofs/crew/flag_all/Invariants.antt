@@ -1,4 +1,4 @@
-use Rattle.std.proofs.Common.{take}
+use Rattle.prune_ledger.proofs.Prelude.{take}
 use Rattle.prune_ledger.proofs.Flags.{Flagged}
 use Rattle.prune_ledger.proofs.crew.flag_all.Given as goal
 

@@ -1,7 +1,4 @@
-use Rattle.std.proofs.Common.{◌≡◌, ◌⊎◌, ℕ, true, Some, ◌∙◌, subst, arith}
-use Rattle.std.specs.Prelude.{IfOk, slice_get}
-use Rattle.std.specs.List.{AllByRecursion, Contains}
-use Rattle.prune_ledger.specs.Rounds.{IsOpenIn}
+use Rattle.prune_ledger.proofs.Prelude.{◌≡◌, ◌⊎◌, ℕ, true, Some, ◌∙◌, subst, arith, IfOk, slice_get, AllByRecursion, Contains, IsOpenIn}
 use Rattle.prune_ledger.proofs.Flags.{open_more}
 use Rattle.prune_ledger.proofs.Seats.{moved_on, at_end}
 use Rattle.prune_ledger.proofs.crew.joined.Goals as goal

@@ -1,9 +1,4 @@
-use Rattle.std.proofs.Common.{◌≡◌, ◌++◌, List, length}
-use Rattle.std.specs.Prelude.{IfOk, map}
-use Rattle.std.specs.List.{AllByRecursion}
-use Rattle.serializability.specs.Polygraph.{Edge, Choice}
-use Rattle.prune_ledger.specs.Rounds.{IsOpenIn}
-use Rattle.prune_ledger.specs.Pruned.{AreOpen}
+use Rattle.prune_ledger.proofs.Prelude.{◌≡◌, ◌++◌, List, length, IfOk, map, AllByRecursion, Edge, Choice, IsOpenIn, AreOpen}
 use Rattle.prune_ledger.proofs.crew.joined.Given as goal
 
 abbrev pub invariant-loop-left : goal.invariant-loop-left

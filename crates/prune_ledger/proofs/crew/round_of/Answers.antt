@@ -1,8 +1,4 @@
-use Rattle.std.proofs.Common.{◌∙◌, length, sym, ap, arith}
-use Rattle.std.proofs.lemmas.Bool.{false≢true}
-use Rattle.std.specs.Prelude.{IfOk}
-use Rattle.std.specs.List.{AllByRecursion}
-use Rattle.prune_ledger.specs.Rounds.{IsOpenIn}
+use Rattle.prune_ledger.proofs.Prelude.{◌∙◌, length, sym, ap, arith, false≢true, IfOk, AllByRecursion, IsOpenIn}
 use Rattle.prune_ledger.proofs.Flags.{all_from_index}
 use Rattle.prune_ledger.proofs.Seats.{has_all}
 use Rattle.prune_ledger.proofs.crew.round_of.Goals as goal

@@ -1,5 +1,4 @@
-use Rattle.std.proofs.Common.{◌≡◌, ◌++◌}
-use Rattle.prune_ledger.specs.Entered.{entered_in}
+use Rattle.prune_ledger.proofs.Prelude.{◌≡◌, ◌++◌, entered_in}
 use Rattle.prune_ledger.proofs.entered.with_entered.Given as goal
 
 abbrev pub invariant-loop-step : goal.invariant-loop-step

@@ -1,5 +1,4 @@
-use Rattle.std.proofs.Common.{refl}
-use Rattle.std.proofs.lemmas.List.{take_all}
+use Rattle.prune_ledger.proofs.Prelude.{refl, take_all}
 use Rattle.prune_ledger.proofs.Turns.{not_refuted_by, refutes_by}
 use Rattle.prune_ledger.proofs.judging.refuting_edge.Goals as goal
 

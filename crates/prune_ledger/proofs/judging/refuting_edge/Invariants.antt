@@ -1,6 +1,4 @@
-use Rattle.std.proofs.Common.{take}
-use Rattle.std.specs.List.{AllByRecursion, Contains}
-use Rattle.serializability.specs.Polygraph.{Edge}
+use Rattle.prune_ledger.proofs.Prelude.{take, AllByRecursion, Contains, Edge}
 use Rattle.prune_ledger.proofs.judging.refuting_edge.Given as goal
 
 abbrev pub invariant-loop-edge : goal.invariant-loop-edge

@@ -1,4 +1,4 @@
-use Rattle.std.proofs.Common.{[]}
+use Rattle.prune_ledger.proofs.Prelude.{[]}
 use Rattle.prune_ledger.proofs.Grown.{ran, grown_opening}
 use Rattle.prune_ledger.proofs.laws.dead_edges_are_cyclic.Goals as goal
 

@@ -1,4 +1,4 @@
-use Rattle.std.proofs.Common.{[]}
+use Rattle.prune_ledger.proofs.Prelude.{[]}
 use Rattle.prune_ledger.proofs.Grown.{each_forced, grown_opening}
 use Rattle.prune_ledger.proofs.laws.each_kept_side_is_forced.Goals as goal
 

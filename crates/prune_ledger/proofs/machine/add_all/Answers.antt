@@ -1,7 +1,4 @@
-use Rattle.std.proofs.Common.{sym, arith}
-use Rattle.std.proofs.lemmas.List.{take_all}
-use Rattle.reach_laws.proofs.Walks.{each_contained}
-use Rattle.polygraph.specs.Polygraphs.{Joins}
+use Rattle.prune_ledger.proofs.Prelude.{sym, arith, take_all, each_contained, Joins}
 use Rattle.prune_ledger.proofs.Edges.{added_step, added_all}
 use Rattle.prune_ledger.proofs.machine.add_all.Goals as goal
 

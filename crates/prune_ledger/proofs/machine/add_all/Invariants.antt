@@ -1,4 +1,4 @@
-use Rattle.std.proofs.Common.{take}
+use Rattle.prune_ledger.proofs.Prelude.{take}
 use Rattle.prune_ledger.proofs.Edges.{Added}
 use Rattle.prune_ledger.proofs.machine.add_all.Given as goal
 

@@ -1,4 +1,4 @@
-use Rattle.std.proofs.Common.{sym, ◌∙◌, false, arith}
+use Rattle.prune_ledger.proofs.Prelude.{sym, ◌∙◌, false, arith}
 use Rattle.prune_ledger.proofs.Flags.{given_none, given_step, given_all}
 use Rattle.prune_ledger.proofs.machine.give_back.Goals as goal
 

@@ -1,4 +1,4 @@
-use Rattle.std.proofs.Common.{◌≡◌}
+use Rattle.prune_ledger.proofs.Prelude.{◌≡◌}
 use Rattle.prune_ledger.proofs.Flags.{given_part}
 use Rattle.prune_ledger.proofs.machine.give_back.Given as goal
 

@@ -1,5 +1,4 @@
-use Rattle.std.proofs.Common.{◌≡◌, ◌+◌, ◌++◌, drop, length}
-use Rattle.prune_ledger.specs.Pruned.{unrefused}
+use Rattle.prune_ledger.proofs.Prelude.{◌≡◌, ◌+◌, ◌++◌, drop, length, unrefused}
 use Rattle.prune_ledger.proofs.machine.open_choices.Given as goal
 
 abbrev pub invariant-loop-choice : goal.invariant-loop-choice

@@ -1,5 +1,4 @@
-use Rattle.std.proofs.Common.{sym}
-use Rattle.pruning_laws.specs.declared.side.Side.TheVariants.{One, Two}
+use Rattle.prune_ledger.proofs.Prelude.{sym, One, Two}
 use Rattle.prune_ledger.proofs.Turns.{settled_two, open_passed, goes_against, goes_further}
 use Rattle.prune_ledger.proofs.round.settle.Goals as goal
 

@@ -1,4 +1,4 @@
-use Rattle.std.proofs.Common.{◌∙◌}
+use Rattle.prune_ledger.proofs.Prelude.{◌∙◌}
 use Rattle.prune_ledger.proofs.Turns.{handled_turn}
 use Rattle.prune_ledger.proofs.KeptUp.{extends_then}
 use Rattle.prune_ledger.proofs.round.turns.Goals as goal

@@ -1,6 +1,4 @@
-use Rattle.std.proofs.Common.{◌≡◌}
-use Rattle.std.specs.List.{AllByRecursion}
-use Rattle.prune_ledger.specs.Rounds.{Extends, Handled, IsOpenIn}
+use Rattle.prune_ledger.proofs.Prelude.{◌≡◌, AllByRecursion, Extends, Handled, IsOpenIn}
 use Rattle.prune_ledger.proofs.round.turns.Given as goal
 
 abbrev pub invariant-loop-number : goal.invariant-loop-number

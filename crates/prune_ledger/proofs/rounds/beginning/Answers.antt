@@ -1,7 +1,4 @@
-use Rattle.std.proofs.Common.{◌∙◌, List, sym, subst}
-use Rattle.prune_ledger.specs.Opening.{opening_state}
-use Rattle.prune_ledger.specs.Pruned.{IsProgress}
-use Rattle.prune_ledger.specs.declared.ledger.LedgerEntry.{LedgerEntry}
+use Rattle.prune_ledger.proofs.Prelude.{◌∙◌, List, sym, subst, opening_state, IsProgress, LedgerEntry}
 use Rattle.prune_ledger.proofs.Finals.{progress_first}
 use Rattle.prune_ledger.proofs.KeptUp.{graph_first}
 use Rattle.prune_ledger.proofs.rounds.beginning.Goals as goal

@@ -1,8 +1,4 @@
-use Rattle.std.proofs.Common.{◌∷◌, ◌∙◌, sym, ap, subst}
-use Rattle.pruning_laws.specs.Forced.{edges_of}
-use Rattle.prune_ledger.specs.Posted.{Posted}
-use Rattle.prune_ledger.specs.Ledger.{kept_side}
-use Rattle.prune_ledger.specs.Pruned.{IsGraphOf}
+use Rattle.prune_ledger.proofs.Prelude.{◌∷◌, ◌∙◌, sym, ap, subst, edges_of, Posted, kept_side, IsGraphOf}
 use Rattle.prune_ledger.proofs.KeptUp.{graph_kept_at, graph_kept_none}
 use Rattle.prune_ledger.proofs.rounds.keep.Goals as goal
 

@@ -1,8 +1,4 @@
-use Rattle.std.proofs.Common.{◌∙◌, List, take, subst}
-use Rattle.std.proofs.lemmas.List.{take_all}
-use Rattle.pruning_laws.specs.Ledger.{Entry as Kept}
-use Rattle.prune_ledger.specs.Ledger.{kept_after}
-use Rattle.prune_ledger.specs.Pruned.{posts_in, IsGraphOf}
+use Rattle.prune_ledger.proofs.Prelude.{◌∙◌, List, take, subst, take_all, Entry as Kept, kept_after, posts_in, IsGraphOf}
 use Rattle.prune_ledger.proofs.KeptUp.{kept_next}
 use Rattle.prune_ledger.proofs.rounds.keep_all.Goals as goal
 

@@ -1,7 +1,4 @@
-use Rattle.std.proofs.Common.{◌≡◌, List, take}
-use Rattle.pruning_laws.specs.Ledger.{Entry as Kept}
-use Rattle.prune_ledger.specs.Ledger.{kept_after}
-use Rattle.prune_ledger.specs.Pruned.{posts_in, IsGraphOf}
+use Rattle.prune_ledger.proofs.Prelude.{◌≡◌, List, take, Entry as Kept, kept_after, posts_in, IsGraphOf}
 use Rattle.prune_ledger.proofs.rounds.keep_all.Given as goal
 
 abbrev pub invariant-loop-entry : goal.invariant-loop-entry

@@ -1,5 +1,4 @@
-use Rattle.std.proofs.Common.{refl}
-use Rattle.std.proofs.lemmas.Bool.{false≢true}
+use Rattle.prune_ledger.proofs.Prelude.{refl, false≢true}
 use Rattle.prune_ledger.proofs.rounds.next_stage.Goals as goal
 
 pub with_cycle-requires-clause-cyclic : goal.with_cycle-requires-clause-cyclic

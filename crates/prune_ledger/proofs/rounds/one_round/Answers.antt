@@ -1,4 +1,4 @@
-use Rattle.std.proofs.Common.{◌∙◌, arith}
+use Rattle.prune_ledger.proofs.Prelude.{◌∙◌, arith}
 use Rattle.prune_ledger.proofs.Finals.{progress_more, posts_more, no_fewer}
 use Rattle.prune_ledger.proofs.KeptUp.{graph_ahead}
 use Rattle.prune_ledger.proofs.rounds.one_round.Goals as goal

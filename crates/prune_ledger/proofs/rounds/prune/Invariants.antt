@@ -1,4 +1,4 @@
-use Rattle.prune_ledger.specs.Pruned.{IsProgress, IsGraphOf, kept_by}
+use Rattle.prune_ledger.proofs.Prelude.{IsProgress, IsGraphOf, kept_by}
 use Rattle.prune_ledger.proofs.rounds.prune.Given as goal
 
 abbrev pub invariant-loop : goal.invariant-loop

@@ -1,5 +1,4 @@
-use Rattle.std.proofs.Common.{◌∙◌, sym, subst, refl}
-use Rattle.prune_ledger.specs.Pruned.{IsReduced, IsRemainder, unrefused}
+use Rattle.prune_ledger.proofs.Prelude.{◌∙◌, sym, subst, refl, IsReduced, IsRemainder, unrefused}
 use Rattle.prune_ledger.proofs.Finals.{poly_with, reduced_last, is_remainder}
 use Rattle.prune_ledger.proofs.rounds.remainder.Goals as goal
 

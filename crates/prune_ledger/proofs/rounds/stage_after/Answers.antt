@@ -1,8 +1,4 @@
-use Rattle.std.proofs.Common.{◌≤◌, ◌∙◌, List, length, take, drop, sym, ap, subst, refl, arith}
-use Rattle.std.proofs.lemmas.List.{take_all}
-use Rattle.pruning_laws.specs.Ledger.{Entry as Kept}
-use Rattle.prune_ledger.specs.Ledger.{kept_after}
-use Rattle.prune_ledger.specs.Pruned.{IsGraphOf, AreOpen, AreSettled, kept_by, posts_in}
+use Rattle.prune_ledger.proofs.Prelude.{◌≤◌, ◌∙◌, List, length, take, drop, sym, ap, subst, refl, arith, take_all, Entry as Kept, kept_after, IsGraphOf, AreOpen, AreSettled, kept_by, posts_in}
 use Rattle.prune_ledger.proofs.KeptUp.{kept_rest}
 use Rattle.prune_ledger.proofs.rounds.stage_after.Goals as goal
 

@@ -1,6 +1,4 @@
-use Rattle.std.proofs.Common.{refl, subst}
-use Rattle.reach_laws.specs.Reach.{Graph, IsCycle}
-use Rattle.pruning_laws.proofs.Pruned.{none_fits}
+use Rattle.prune_ledger.proofs.Prelude.{refl, subst, Graph, IsCycle, none_fits}
 use Rattle.prune_ledger.proofs.Finals.{is_dead_by, cycle_in}
 use Rattle.prune_ledger.proofs.rounds.with_cycle.Goals as goal
 

@@ -1,5 +1,4 @@
-use Rattle.std.proofs.Common.{sym, ◌∙◌}
-use Rattle.std.proofs.lemmas.List.{take_all}
+use Rattle.prune_ledger.proofs.Prelude.{sym, ◌∙◌, take_all}
 use Rattle.prune_ledger.proofs.Edges.{added_step}
 use Rattle.prune_ledger.proofs.KeptUp.{adds_from_added, added_rows}
 use Rattle.prune_ledger.proofs.rowed.add_edges.Goals as goal

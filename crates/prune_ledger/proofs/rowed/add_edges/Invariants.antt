@@ -1,5 +1,4 @@
-use Rattle.std.proofs.Common.{take}
-use Rattle.reach_rows.specs.ReachRows.{AreRowsOf}
+use Rattle.prune_ledger.proofs.Prelude.{take, AreRowsOf}
 use Rattle.prune_ledger.proofs.Edges.{Added}
 use Rattle.prune_ledger.proofs.rowed.add_edges.Given as goal
 

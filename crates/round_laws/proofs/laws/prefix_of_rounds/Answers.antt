@@ -1,4 +1,4 @@
-use Rattle.std.proofs.Common.{false}
+use Rattle.round_laws.proofs.Prelude.{false}
 use Rattle.round_laws.proofs.Many.{points, run_of_each}
 use Rattle.round_laws.proofs.laws.prefix_of_rounds.Goals as goal
 

@@ -1,4 +1,4 @@
-use Rattle.std.proofs.Common.{false}
+use Rattle.round_laws.proofs.Prelude.{false}
 use Rattle.round_laws.proofs.Snapshots.{points_of_rounds}
 use Rattle.round_laws.proofs.laws.prefixes_of_rounds.Goals as goal
 

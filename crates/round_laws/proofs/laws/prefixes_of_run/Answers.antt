@@ -1,4 +1,4 @@
-use Rattle.std.proofs.Common.{false}
+use Rattle.round_laws.proofs.Prelude.{false}
 use Rattle.round_laws.proofs.Many.{points, each_of_run}
 use Rattle.round_laws.proofs.laws.prefixes_of_run.Goals as goal
 

@@ -1,7 +1,4 @@
-use Rattle.std.proofs.Common.{◌≡◌, ◌++◌, map, drop}
-use Rattle.session_log.specs.Text.{view}
-use Rattle.level_laws.specs.Split.{split_writers}
-use Rattle.level_laws.specs.Prefix.{no_locks}
+use Rattle.splitting.proofs.Prelude.{◌≡◌, ◌++◌, map, drop, view, split_writers, no_locks}
 use Rattle.splitting.proofs.bare.split_bare.Given as goal
 
 abbrev pub invariant-loop-session : goal.invariant-loop-session

@@ -1,8 +1,4 @@
-use Rattle.std.proofs.Common.{◌≡◌, ◌++◌, map, drop}
-use Rattle.std.specs.List.{flat_map}
-use Rattle.session_log.specs.Text.{view_txn}
-use Rattle.level_laws.specs.Prefix.{no_locks}
-use Rattle.splitting.specs.Halves.{parts}
+use Rattle.splitting.proofs.Prelude.{◌≡◌, ◌++◌, map, drop, flat_map, view_txn, no_locks, parts}
 use Rattle.splitting.proofs.bare.split_txns.Given as goal
 
 abbrev pub invariant-loop-txn : goal.invariant-loop-txn

@@ -1,4 +1,4 @@
-use Rattle.std.proofs.Common.{◌≡◌, take}
+use Rattle.splitting.proofs.Prelude.{◌≡◌, take}
 use Rattle.splitting.proofs.log.copy_txn.Given as goal
 
 abbrev pub invariant-loop-op : goal.invariant-loop-op

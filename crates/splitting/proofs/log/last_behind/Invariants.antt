@@ -1,5 +1,4 @@
-use Rattle.std.proofs.Common.{◌≡◌, ◌+◌, length, drop}
-use Rattle.log_definitions.specs.WellFormed.{written}
+use Rattle.splitting.proofs.Prelude.{◌≡◌, ◌+◌, length, drop, written}
 use Rattle.splitting.proofs.log.last_behind.Given as goal
 
 abbrev pub invariant-loop-op : goal.invariant-loop-op

@@ -1,6 +1,4 @@
-use Rattle.std.proofs.Common.{map, sym, ◌∙◌}
-use Rattle.session_log.specs.Text.{view}
-use Rattle.splitting.specs.Locks.{locks_of, HasRoom}
+use Rattle.splitting.proofs.Prelude.{map, sym, ◌∙◌, view, locks_of, HasRoom}
 use Rattle.splitting.proofs.Whole.{names_are, widest_is, refusal_is, fit_of, named_of}
 use Rattle.splitting.proofs.log.split.Goals as goal
 

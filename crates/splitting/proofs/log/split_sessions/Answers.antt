@@ -1,14 +1,6 @@
-use Rattle.std.proofs.Common.{◌≡◌, [], ◌∷◌, ◌++◌, ◌+◌, length, drop, map, sym, ap, ◌∙◌, subst, append_assoc}
-use Rattle.std.specs.List.{flat_map}
-use Rattle.std.proofs.lemmas.List.{map-append}
-use Rattle.list_lemmas.proofs.Lists.{mapped_left}
-use Rattle.session_log.specs.Text.{ClientSession, view, view_txn}
+use Rattle.splitting.proofs.Prelude.{◌≡◌, [], ◌∷◌, ◌++◌, ◌+◌, length, drop, map, sym, ap, ◌∙◌, subst, append_assoc, flat_map, map-append, mapped_left, ClientSession, view, view_txn, ops_in, written, split_writers, Fit, AreNamed, parts}
+use Rattle.splitting.proofs.Prelude.{ops_by}
 use Rattle.session_log.specs.declared.session.Session.{Session}
-use Rattle.log_definitions.specs.Unknown.{ops_in}
-use Rattle.log_definitions.specs.WellFormed.{written}
-use Rattle.level_laws.specs.Split.{split_writers}
-use Rattle.splitting.specs.Room.{Fit, AreNamed}
-use Rattle.splitting.specs.Halves.{parts, ops_by}
 use Rattle.splitting.proofs.Named.{fit_front, fit_behind, named_front, named_behind}
 use Rattle.splitting.proofs.Walks.{ops_first}
 use Rattle.splitting.proofs.log.split_sessions.Goals as goal

@@ -1,8 +1,4 @@
-use Rattle.std.proofs.Common.{◌≡◌, ◌++◌, map, drop}
-use Rattle.session_log.specs.Text.{view}
-use Rattle.log_definitions.specs.Unknown.{ops_in}
-use Rattle.level_laws.specs.Split.{Locks, split_writers}
-use Rattle.splitting.specs.Room.{Fit, AreNamed}
+use Rattle.splitting.proofs.Prelude.{◌≡◌, ◌++◌, map, drop, view, ops_in, Locks, split_writers, Fit, AreNamed}
 use Rattle.splitting.proofs.log.split_sessions.Given as goal
 
 abbrev pub invariant-loop-session : goal.invariant-loop-session

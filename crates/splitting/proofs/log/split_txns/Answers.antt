@@ -1,10 +1,4 @@
-use Rattle.std.proofs.Common.{◌≡◌, ◌∷◌, ◌++◌, ◌+◌, ◌<◌, ◌^◌, length, drop, map, sym, ap, ◌∙◌, subst, append_assoc}
-use Rattle.std.specs.List.{flat_map}
-use Rattle.list_lemmas.proofs.Lists.{mapped_left}
-use Rattle.session_log.specs.Text.{view_txn}
-use Rattle.log_definitions.specs.WellFormed.{written}
-use Rattle.splitting.specs.Room.{Fit, AreNamed}
-use Rattle.splitting.specs.Halves.{parts, ops_by}
+use Rattle.splitting.proofs.Prelude.{◌≡◌, ◌∷◌, ◌++◌, ◌+◌, ◌<◌, ◌^◌, length, drop, map, sym, ap, ◌∙◌, subst, append_assoc, flat_map, mapped_left, view_txn, written, Fit, AreNamed, parts, ops_by}
 use Rattle.splitting.proofs.Named.{fit_front, fit_behind, named_front, named_behind}
 use Rattle.splitting.proofs.Walks.{wrote_more}
 use Rattle.splitting.proofs.log.split_txns.Goals as goal

@@ -1,10 +1,4 @@
-use Rattle.std.proofs.Common.{◌≡◌, ◌+◌, ◌++◌, length, map, drop}
-use Rattle.std.specs.List.{flat_map}
-use Rattle.session_log.specs.Text.{view_txn}
-use Rattle.log_definitions.specs.WellFormed.{written}
-use Rattle.level_laws.specs.Split.{Locks}
-use Rattle.splitting.specs.Room.{Fit, AreNamed}
-use Rattle.splitting.specs.Halves.{parts, ops_by}
+use Rattle.splitting.proofs.Prelude.{◌≡◌, ◌+◌, ◌++◌, length, map, drop, flat_map, view_txn, written, Locks, Fit, AreNamed, parts, ops_by}
 use Rattle.splitting.proofs.log.split_txns.Given as goal
 
 abbrev pub invariant-loop-txn : goal.invariant-loop-txn

@@ -1,6 +1,4 @@
-use Rattle.std.proofs.Common.{◌≡◌, ◌++◌, ap, ◌∙◌}
-use Rattle.std.specs.Prelude.{replicate}
-use Rattle.splitting.specs.Locks.{lock_key}
+use Rattle.splitting.proofs.Prelude.{◌≡◌, ◌++◌, ap, ◌∙◌, replicate, lock_key}
 use Rattle.splitting.proofs.Fresh.{lock_is_key, never_none}
 use Rattle.splitting.proofs.names.lock_key.Goals as goal
 

@@ -1,5 +1,4 @@
-use Rattle.std.proofs.Common.{◌≡◌, ◌++◌, drop}
-use Rattle.tell_reasons.specs.Words.{words_text}
+use Rattle.tell_reasons.proofs.Prelude.{◌≡◌, ◌++◌, drop, words_text}
 use Rattle.tell_reasons.proofs.words.put_words.Given as goal
 
 abbrev pub invariant-loop-word : goal.invariant-loop-word

@@ -1,8 +1,4 @@
-use Rattle.std.proofs.Common.{◌≡◌, map, drop}
-use Rattle.std.specs.Option.{option_copied}
-use Rattle.session_log.specs.Text.{view}
-use Rattle.log_lines.specs.Rows.{view_place, rows_of}
-use Rattle.tell_reasons.specs.Writes.{first_op, is_write_as}
+use Rattle.tell_reasons.proofs.Prelude.{◌≡◌, map, drop, option_copied, view, view_place, rows_of, first_op, is_write_as}
 use Rattle.tell_reasons.proofs.writes.write_at.Given as goal
 
 abbrev pub invariant-loop-at : goal.invariant-loop-at

@@ -1,9 +1,4 @@
-use Rattle.std.proofs.Common.{◌≡◌, map, drop}
-use Rattle.std.specs.List.{zip}
-use Rattle.std.specs.Option.{option_copied}
-use Rattle.session_log.specs.Text.{view, view_txn}
-use Rattle.log_lines.specs.Rows.{view_place}
-use Rattle.tell_reasons.specs.Writes.{first_given, first_of, first_in, is_write_as}
+use Rattle.tell_reasons.proofs.Prelude.{◌≡◌, map, drop, zip, option_copied, view, view_txn, view_place, first_given, first_of, first_in, is_write_as}
 use Rattle.tell_reasons.proofs.writes.write_in.Given as goal
 
 abbrev pub invariant-loop-at : goal.invariant-loop-at

@@ -1,5 +1,4 @@
-use Rattle.std.proofs.Common.{◌∙◌}
-use Rattle.std.proofs.lemmas.Result.{IfOk-weaker}
+use Rattle.tell_steps.proofs.Prelude.{◌∙◌, IfOk-weaker}
 use Rattle.tell_steps.proofs.Ledgers.{steps_of}
 use Rattle.tell_steps.proofs.dead.steps_in.Goals as goal
 

@@ -1,10 +1,4 @@
-use Rattle.std.proofs.Common.{◌≡◌, ◌∷◌, [], Some, ◌∙◌, ap, refl, subst}
-use Rattle.std.proofs.lemmas.Option.{IfSome_then}
-use Rattle.std.proofs.lemmas.Result.{IfOk-weaker}
-use Rattle.reasons.specs.Runs.{without_runs}
-use Rattle.tell_steps.specs.declared.rounds.Round.{Round}
-use Rattle.tell_steps.specs.Ledgers.{orders_of}
-use Rattle.tell_steps.specs.Rounds.{RoundView, round_view, IsTold, cycle_round}
+use Rattle.tell_steps.proofs.Prelude.{◌≡◌, ◌∷◌, [], Some, ◌∙◌, ap, refl, subst, IfSome_then, IfOk-weaker, without_runs, Round, orders_of, RoundView, round_view, IsTold, cycle_round}
 use Rattle.tell_steps.proofs.Telling.{none_then, cycle_is, cycle_stands}
 use Rattle.tell_steps.proofs.dead.tell_cycle.Goals as goal
 

@@ -1,8 +1,4 @@
-use Rattle.std.proofs.Common.{ℕ, Option, Some, subst}
-use Rattle.std.specs.Prelude.{Vec, IfSome}
-use Rattle.std.specs.declared.alloc.Global.{Global}
-use Rattle.reach_laws.specs.Reach.{IsCycle}
-use Rattle.prune_ledger.specs.Ledger.{edges_after}
+use Rattle.tell_steps.proofs.Prelude.{ℕ, Option, Some, subst, Vec, IfSome, Global, IsCycle, edges_after}
 use Rattle.prune_ledger.specs.Pruned as pruned
 use Rattle.tell_steps.proofs.Ledgers.{dead_closed}
 use Rattle.tell_steps.proofs.dead.tell_dead.Goals as goal

@@ -1,10 +1,4 @@
-use Rattle.std.proofs.Common.{◌≡◌, ◌≢◌, ◌<◌, List, subst, ◌∙◌, ap, arith, rules}
-use Rattle.std.specs.List.{All, Contains}
-use Rattle.std.proofs.lemmas.List.{take_all}
-use Rattle.session_log.specs.Text.{ClientSession}
-use Rattle.chain_laws.specs.Chains.{heads}
-use Rattle.write_chains.specs.Views.{chain_from}
-use Rattle.log_definitions.specs.Numbers.{log_of}
+use Rattle.tell_steps.proofs.Prelude.{◌≡◌, ◌≢◌, ◌<◌, List, subst, ◌∙◌, ap, arith, rules, All, Contains, take_all, ClientSession, heads, chain_from, log_of}
 use Rattle.tell_steps.proofs.ChainSides.{chain_there, no_chain}
 use Rattle.tell_steps.proofs.decided.chain_of.Goals as goal
 

@@ -1,4 +1,5 @@
-use Rattle.std.proofs.Common.{◌≢◌, take, All}
+use Rattle.tell_steps.proofs.Prelude.{◌≢◌, take}
+use Rattle.std.proofs.Common.{All}
 use Rattle.tell_steps.proofs.decided.chain_of.Given as goal
 
 abbrev pub invariant-loop-chain : goal.invariant-loop-chain

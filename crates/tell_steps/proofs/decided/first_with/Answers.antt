@@ -1,12 +1,4 @@
-use Rattle.std.proofs.Common.{◌≡◌, ◌∙◌, Some, refl, ap, subst, inl, inr, arith}
-use Rattle.std.specs.Prelude.{slice_get}
-use Rattle.std.specs.List.{Contains}
-use Rattle.std.proofs.lemmas.Bool.{cases_lt, not_from_false}
-use Rattle.std.proofs.lemmas.Option.{slice_get-get_or}
-use Rattle.std.proofs.lemmas.List.Elements.{All-contains}
-use Rattle.list_lemmas.proofs.Elements.{item, same_item, contains_at}
-use Rattle.log_definitions.specs.Numbers.{log_of}
-use Rattle.tell_steps.specs.Steps.{edges_in, IsOrder}
+use Rattle.tell_steps.proofs.Prelude.{◌≡◌, ◌∙◌, Some, refl, ap, subst, inl, inr, arith, slice_get, Contains, cases_lt, not_from_false, slice_get-get_or, All-contains, item, same_item, contains_at, log_of, edges_in, IsOrder}
 use Rattle.tell_steps.proofs.decided.first_with.Goals as goal
 
 pub loop-place-preserved : goal.loop-place-preserved

@@ -1,9 +1,4 @@
-use Rattle.std.proofs.Common.{◌≡◌, ◌<◌, ℕ, Some}
-use Rattle.std.specs.Prelude.{slice_get}
-use Rattle.std.specs.List.{All, Contains}
-use Rattle.log_definitions.specs.Numbers.{log_of}
-use Rattle.tell_reasons.specs.declared.why.ChainOrder.{ChainOrder}
-use Rattle.tell_steps.specs.Steps.{edges_in, IsOrder}
+use Rattle.tell_steps.proofs.Prelude.{◌≡◌, ◌<◌, ℕ, Some, slice_get, All, Contains, log_of, ChainOrder, edges_in, IsOrder}
 use Rattle.tell_steps.proofs.decided.first_with.Given as goal
 
 abbrev pub invariant-loop-place : goal.invariant-loop-place

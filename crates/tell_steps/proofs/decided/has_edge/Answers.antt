@@ -1,8 +1,4 @@
-use Rattle.std.proofs.Common.{◌≡◌, ℕ, sym, subst, arith}
-use Rattle.std.specs.List.{Contains}
-use Rattle.serializability.specs.Polygraph.{Edge}
-use Rattle.log_definitions.specs.Numbers.{log_of}
-use Rattle.tell_steps.specs.Steps.{edges_in}
+use Rattle.tell_steps.proofs.Prelude.{◌≡◌, ℕ, sym, subst, arith, Contains, Edge, log_of, edges_in}
 use Rattle.tell_steps.proofs.ChainSides.{chain_edges, order_target}
 use Rattle.tell_steps.proofs.decided.has_edge.Goals as goal
 

@@ -1,7 +1,4 @@
-use Rattle.std.proofs.Common.{◌≡◌, ◌<◌, length, sym, ap, ◌∙◌, vec_len, arith}
-use Rattle.std.specs.Prelude.{◌==◌}
-use Rattle.std.specs.List.{list_any}
-use Rattle.std.proofs.lemmas.Bool.{not-true, eqb-false}
+use Rattle.tell_steps.proofs.Prelude.{◌≡◌, ◌<◌, length, sym, ap, ◌∙◌, vec_len, arith, ◌==◌, list_any, not-true, eqb-false}
 use Rattle.tell_steps.proofs.Leading.{any_edge, no_edge}
 use Rattle.tell_steps.proofs.decided.leads_from.Goals as goal
 

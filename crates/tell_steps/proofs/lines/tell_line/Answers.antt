@@ -1,5 +1,4 @@
-use Rattle.std.proofs.Common.{◌≡◌, ◌-◌, ◌<◌, length, get_or, arith}
-use Rattle.std.proofs.lemmas.List.{get_or_read}
+use Rattle.tell_steps.proofs.Prelude.{◌≡◌, ◌-◌, ◌<◌, length, get_or, arith, get_or_read}
 use Rattle.tell_steps.proofs.Telling.{line_end, line_more}
 use Rattle.tell_steps.proofs.lines.tell_line.Goals as goal
 

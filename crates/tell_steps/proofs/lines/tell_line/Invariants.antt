@@ -1,6 +1,4 @@
-use Rattle.std.proofs.Common.{◌<◌, length, drop}
-use Rattle.std.specs.Prelude.{reverse}
-use Rattle.tell_steps.specs.Steps.{IsLineTold}
+use Rattle.tell_steps.proofs.Prelude.{◌<◌, length, drop, reverse, IsLineTold}
 use Rattle.tell_steps.proofs.lines.tell_line.Given as goal
 
 abbrev pub invariant-loop-place : goal.invariant-loop-place

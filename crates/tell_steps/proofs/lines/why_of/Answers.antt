@@ -1,8 +1,4 @@
-use Rattle.std.proofs.Common.{inl, inr, add-one, sym, subst, ◌∙◌}
-use Rattle.list_lemmas.proofs.Elements.{contains_at}
-use Rattle.reasons.specs.Given.{HaveNone}
-use Rattle.tell_reasons.specs.declared.why.Why.TheVariants.{Forced}
-use Rattle.tell_steps.specs.Steps.{IsWhy}
+use Rattle.tell_steps.proofs.Prelude.{inl, inr, add-one, sym, subst, ◌∙◌, contains_at, HaveNone, Forced, IsWhy}
 use Rattle.tell_steps.proofs.lines.why_of.Goals as goal
 
 pub returns-in-Some-clause-why : goal.returns-in-Some-clause-why

@@ -1,7 +1,4 @@
-use Rattle.std.proofs.Common.{◌≡◌, ◌++◌, drop}
-use Rattle.std.specs.Prelude.{map}
-use Rattle.write_chains.specs.Views.{chain_view}
-use Rattle.tell_steps.specs.Orders.{orders_among}
+use Rattle.tell_steps.proofs.Prelude.{◌≡◌, ◌++◌, drop, map, chain_view, orders_among}
 use Rattle.tell_steps.proofs.orders.add_orders_among.Given as goal
 
 abbrev pub invariant-loop-index : goal.invariant-loop-index

@@ -1,7 +1,4 @@
-use Rattle.std.proofs.Common.{◌≡◌, ◌++◌, take}
-use Rattle.std.specs.Prelude.{map}
-use Rattle.write_chains.specs.Views.{chain_view}
-use Rattle.tell_steps.specs.Orders.{order_to}
+use Rattle.tell_steps.proofs.Prelude.{◌≡◌, ◌++◌, take, map, chain_view, order_to}
 use Rattle.tell_steps.proofs.orders.add_orders_with.Given as goal
 
 abbrev pub invariant-loop-other : goal.invariant-loop-other

@@ -1,12 +1,5 @@
-use Rattle.std.proofs.Common.{◌≡◌, ◌++◌, ◌∙◌, ap, sym, subst, arith}
-use Rattle.std.specs.Prelude.{map}
-use Rattle.std.specs.List.{All}
-use Rattle.log_definitions.specs.Numbers.{log_of}
-use Rattle.write_chains.specs.Views.{chain_view}
-use Rattle.tell_steps.specs.Orders.{choice_of, orders_among, orders_in}
-use Rattle.tell_steps.specs.Steps.{IsOrder}
+use Rattle.tell_steps.proofs.Prelude.{◌≡◌, ◌++◌, ◌∙◌, ap, sym, subst, arith, map, All, log_of, chain_view, choice_of, orders_among, orders_in, IsOrder, so_far, so_far_more}
 use Rattle.tell_steps.proofs.Chosen.{of_key, orders_are, choices_are, all_orders}
-use Rattle.serializability.proofs.SoFar.{so_far, so_far_more}
 use Rattle.tell_steps.proofs.orders.choice_orders.Goals as goal
 
 pub loop-key-preserved : goal.loop-key-preserved

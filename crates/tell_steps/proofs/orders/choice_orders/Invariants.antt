@@ -1,7 +1,5 @@
-use Rattle.std.proofs.Common.{◌≡◌}
-use Rattle.log_definitions.specs.Numbers.{log_of}
+use Rattle.tell_steps.proofs.Prelude.{◌≡◌, log_of, so_far}
 use Rattle.tell_steps.proofs.Chosen.{of_key}
-use Rattle.serializability.proofs.SoFar.{so_far}
 use Rattle.tell_steps.proofs.orders.choice_orders.Given as goal
 
 abbrev pub invariant-loop-key : goal.invariant-loop-key

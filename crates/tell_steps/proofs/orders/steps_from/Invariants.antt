@@ -1,7 +1,4 @@
-use Rattle.std.proofs.Common.{◌≡◌, take}
-use Rattle.std.specs.Prelude.{map}
-use Rattle.prune_ledger.specs.Pruned.{posts_in}
-use Rattle.tell_steps.specs.Orders.{step_view, shown_by}
+use Rattle.tell_steps.proofs.Prelude.{◌≡◌, take, map, posts_in, step_view, shown_by}
 use Rattle.tell_steps.proofs.orders.steps_from.Given as goal
 
 abbrev pub invariant-loop-entry : goal.invariant-loop-entry

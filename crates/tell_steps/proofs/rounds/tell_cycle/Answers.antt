@@ -1,4 +1,4 @@
-use Rattle.std.proofs.Common.{◌-◌, length, refl, arith}
+use Rattle.tell_steps.proofs.Prelude.{◌-◌, length, refl, arith}
 use Rattle.tell_steps.proofs.Telling.{round_told}
 use Rattle.tell_steps.proofs.rounds.tell_cycle.Goals as goal
 

@@ -1,11 +1,4 @@
-use Rattle.std.proofs.Common.{◌≡◌, ℕ, sym, subst}
-use Rattle.std.specs.List.{Contains}
-use Rattle.std.proofs.lemmas.Bool.{not_from_false}
-use Rattle.std.proofs.lemmas.Option.{same_Some}
-use Rattle.log_definitions.specs.Numbers.{log_of}
-use Rattle.tell_reasons.specs.declared.why.ChainOrder.{ChainOrder}
-use Rattle.tell_steps.specs.Lines.{HasEnds}
-use Rattle.tell_steps.specs.Steps.{IsOrder, Follows, turned, edges_in}
+use Rattle.tell_steps.proofs.Prelude.{◌≡◌, ℕ, sym, subst, Contains, not_from_false, same_Some, log_of, ChainOrder, HasEnds, IsOrder, Follows, turned, edges_in}
 use Rattle.tell_steps.proofs.Chosen.{turned_order}
 use Rattle.tell_steps.proofs.steps.refuted_edge.Goals as goal
 

@@ -1,6 +1,5 @@
-use Rattle.std.proofs.Common.{◌≡◌, true}
+use Rattle.tell_steps.proofs.Prelude.{◌≡◌, true, is_named}
 use borrow.Author.Count.{below_more}
-use Rattle.tell_steps.specs.Rounds.{is_named}
 use Rattle.tell_steps.proofs.whole.first_unnamed.Goals as goal
 
 pub loop-step-preserved : goal.loop-step-preserved

@@ -1,5 +1,4 @@
-use Rattle.std.proofs.Common.{◌≡◌, ℕ, ◌<◌, true}
-use Rattle.tell_steps.specs.Rounds.{is_named}
+use Rattle.tell_steps.proofs.Prelude.{◌≡◌, ℕ, ◌<◌, true, is_named}
 use Rattle.tell_steps.proofs.whole.first_unnamed.Given as goal
 
 abbrev pub invariant-loop-step : goal.invariant-loop-step

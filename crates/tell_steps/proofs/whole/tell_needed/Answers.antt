@@ -1,5 +1,4 @@
-use Rattle.std.proofs.Common.{◌<◌, length, map, arith}
-use Rattle.tell_steps.specs.Rounds.{round_view, AreAllTold}
+use Rattle.tell_steps.proofs.Prelude.{◌<◌, length, map, arith, round_view, AreAllTold}
 use Rattle.tell_steps.proofs.Dropping.{dropped}
 use Rattle.tell_steps.proofs.whole.tell_needed.Goals as goal
 

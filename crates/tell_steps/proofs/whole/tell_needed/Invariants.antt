@@ -1,6 +1,4 @@
-use Rattle.std.proofs.Common.{[], length}
-use Rattle.tell_steps.specs.Ledgers.{orders_of, AreBuilt}
-use Rattle.tell_steps.specs.Rounds.{AllStand}
+use Rattle.tell_steps.proofs.Prelude.{[], length, orders_of, AreBuilt, AllStand}
 use Rattle.tell_steps.proofs.whole.tell_needed.Given as goal
 
 abbrev pub invariant-dropping : goal.invariant-dropping

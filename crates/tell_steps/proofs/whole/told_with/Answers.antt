@@ -1,16 +1,5 @@
-use Rattle.std.proofs.Common.{◌≡◌, ◌∙◌, ◌+◌, [], ◌∷◌, ◌++◌, List, map, drop, refl, ap, sym, subst, arith, append_assoc}
-use Rattle.std.specs.List.{All}
-use Rattle.std.proofs.lemmas.List.{append-nil, drop_all}
-use Rattle.std.proofs.lemmas.List.Elements.{All-nil, All-push}
-use Rattle.list_lemmas.proofs.Elements.{get_drop, item}
-use Rattle.log_definitions.specs.Numbers.{log_of}
-use Rattle.tell_proposals.specs.declared.proposal.Step.{Step}
-use Rattle.tell_reasons.specs.declared.why.ChainOrder.{ChainOrder}
-use Rattle.tell_steps.specs.declared.rounds.Round.{Round}
-use Rattle.tell_steps.specs.Steps.{IsOrder}
-use Rattle.tell_steps.specs.Ledgers.{orders_of, IsStep, AreBuilt}
-use Rattle.tell_steps.specs.Told.{IsStepTold, AreStepsTold}
-use Rattle.tell_steps.specs.Rounds.{round_view, IsRoundPut, AreRoundsTold, AreAllTold}
+use Rattle.tell_steps.proofs.Prelude.{◌≡◌, ◌∙◌, ◌+◌, [], ◌∷◌, ◌++◌, List, map, drop, refl, ap, sym, subst, arith, append_assoc, All, append-nil, drop_all, All-nil, All-push, get_drop, item, log_of, Step, ChainOrder, Round, IsOrder}
+use Rattle.tell_steps.proofs.Prelude.{orders_of, IsStep, AreBuilt, IsStepTold, AreStepsTold, round_view, IsRoundPut, AreRoundsTold, AreAllTold}
 use Rattle.tell_steps.proofs.whole.told_with.Goals as goal
 
 pub loop-step-init : goal.loop-step-init

@@ -1,11 +1,4 @@
-use Rattle.std.proofs.Common.{◌≡◌, [], ◌++◌, List, map, drop}
-use Rattle.std.specs.List.{All}
-use Rattle.log_definitions.specs.Numbers.{log_of}
-use Rattle.tell_steps.specs.declared.item.Item.{Item}
-use Rattle.tell_steps.specs.Steps.{IsOrder}
-use Rattle.tell_steps.specs.Ledgers.{orders_of, AreBuilt}
-use Rattle.tell_steps.specs.Told.{AreStepsTold}
-use Rattle.tell_steps.specs.Rounds.{round_view, AreRoundsTold, AreAllTold}
+use Rattle.tell_steps.proofs.Prelude.{◌≡◌, [], ◌++◌, List, map, drop, All, log_of, Item, IsOrder, orders_of, AreBuilt, AreStepsTold, round_view, AreRoundsTold, AreAllTold}
 use Rattle.tell_steps.proofs.whole.told_with.Given as goal
 
 -- what is told, and what is told of what is left, is told of all

@@ -1,7 +1,4 @@
-use Rattle.std.proofs.Common.{◌∙◌, ap}
-use Rattle.std.proofs.lemmas.Result.{IfOk-weaker}
-use Rattle.prune_ledger.specs.declared.ledger.Ledger.{Ledger}
-use Rattle.tell_trees.specs.Orders.{unsettled_from}
+use Rattle.tell_trees.proofs.Prelude.{◌∙◌, ap, IfOk-weaker, Ledger, unsettled_from}
 use Rattle.tell_trees.proofs.Cubes.{left_open}
 use Rattle.tell_trees.proofs.orders.open_orders.Goals as goal
 

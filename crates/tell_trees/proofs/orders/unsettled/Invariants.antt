@@ -1,5 +1,4 @@
-use Rattle.std.proofs.Common.{◌≡◌, ◌++◌, length, take, drop}
-use Rattle.tell_trees.specs.Orders.{AreFlags, unsettled_from}
+use Rattle.tell_trees.proofs.Prelude.{◌≡◌, ◌++◌, length, take, drop, AreFlags, unsettled_from}
 use Rattle.tell_trees.proofs.orders.unsettled.Given as goal
 
 abbrev pub invariant-loop-entry : goal.invariant-loop-entry

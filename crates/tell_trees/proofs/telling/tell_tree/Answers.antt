@@ -1,11 +1,4 @@
-use Rattle.std.proofs.Common.{◌∙◌, ap, map, sym, subst}
-use Rattle.std.proofs.lemmas.Result.{IfOk-weaker}
-use Rattle.log_definitions.specs.Numbers.{log_of}
-use Rattle.prune_ledger.specs.declared.ledger.Ledger.{Ledger}
-use Rattle.tell_steps.specs.Ledgers.{AreEntries}
-use Rattle.tell_steps.specs.Rounds.{round_view}
-use Rattle.tell_trees.specs.Orders.{AreOrdersOf}
-use Rattle.tell_trees.specs.Trees.{AreVisits}
+use Rattle.tell_trees.proofs.Prelude.{◌∙◌, ap, map, sym, subst, IfOk-weaker, log_of, Ledger, AreEntries, round_view, AreOrdersOf, AreVisits}
 use Rattle.tell_trees.proofs.Cubes.{IsSearched, orders_count, ledger_shown, rounds_stand}
 use Rattle.tell_trees.proofs.Counted.{told_count}
 use Rattle.tell_trees.proofs.telling.tell_tree.Goals as goal

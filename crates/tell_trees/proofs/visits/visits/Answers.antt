@@ -1,17 +1,6 @@
-use Rattle.std.proofs.Common.{◌≡◌, ◌<◌, ℕ, ◌∷◌, List, Option, Some, length, get_or, sym, ap, ◌∙◌, arith}
-use Rattle.std.specs.Prelude.{Vec}
-use Rattle.std.specs.Option.{option_map}
+use Rattle.tell_trees.proofs.Prelude.{◌≡◌, ◌<◌, ℕ, ◌∷◌, List, Option, Some, length, get_or, sym, ap, ◌∙◌, arith, Vec, option_map, get_or_read, One, Two, without_runs, Growth, Leaf, Inner, round_view, turned, Waiting, no_order, order_at}
+use Rattle.tell_trees.proofs.Prelude.{round_at}
 use Rattle.std.specs.declared.alloc.Global.{Global}
-use Rattle.std.proofs.lemmas.List.{get_or_read}
-use Rattle.pruning_laws.specs.declared.side.Side.TheVariants.{One, Two}
-use Rattle.reasons.specs.Runs.{without_runs}
-use Rattle.cube_laws.specs.declared.tree.Growth.{Growth}
-use Rattle.cube_laws.specs.declared.tree.Growth.TheVariants.{Leaf, Inner}
-use Rattle.tell_steps.specs.Rounds.{round_view}
-use Rattle.tell_steps.specs.Steps.{turned}
-use Rattle.tell_trees.specs.declared.visits.Waiting.{Waiting}
-use Rattle.tell_trees.specs.Orders.{no_order, order_at}
-use Rattle.tell_trees.specs.Visits.{round_at}
 use Rattle.tell_trees.proofs.Counted.{grown_at, left_next, leaf_next, split_next, less_left, less_split}
 use Rattle.tell_trees.proofs.visits.visits.Goals as goal
 use Rattle.tell_trees.proofs.visits.visits.Goals.{then-is_told+in-Leaf+in_ok-without_runs-in-Leaf, then-is_told+in-Inner+in_ok-two-in-Inner+in_ok-one-in-Inner+in_ok-push-in-Inner+in_ok-push-in-Inner-2, else-is_told}

@@ -1,7 +1,4 @@
-use Rattle.std.proofs.Common.{◌≡◌, ℕ, ◌<◌, true, Some}
-use Rattle.std.specs.Prelude.{slice_get}
-use Rattle.cube_laws.specs.declared.tree.TreeNode.{TreeNode}
-use Rattle.tree_checks.specs.Checks.{is_sound}
+use Rattle.tree_checks.proofs.Prelude.{◌≡◌, ℕ, ◌<◌, true, Some, slice_get, TreeNode, is_sound}
 use Rattle.tree_checks.proofs.checking.are_sound.Given as goal
 
 abbrev pub invariant-loop-number : goal.invariant-loop-number

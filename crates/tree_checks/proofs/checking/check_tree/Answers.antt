@@ -1,5 +1,4 @@
-use Rattle.std.proofs.Common.{◌∙◌, sym, subst}
-use Rattle.cube_laws.specs.Trees.{IsRefutationTree}
+use Rattle.tree_checks.proofs.Prelude.{◌∙◌, sym, subst, IsRefutationTree}
 use Rattle.tree_checks.proofs.Checked.{tree_checked, all_from, none_fits}
 use Rattle.tree_checks.proofs.checking.check_tree.Goals as goal
 

@@ -1,7 +1,5 @@
-use Rattle.std.proofs.Common.{◌∙◌, sym, ap}
+use Rattle.tree_checks.proofs.Prelude.{◌∙◌, sym, ap, has_edge, cube_of}
 use Rattle.reach_laws.specs.Reach.{Graph}
-use Rattle.known_graph.specs.Tests.{has_edge}
-use Rattle.cube_laws.specs.Trees.{cube_of}
 use Rattle.tree_checks.proofs.Inherited.{step_added}
 use Rattle.tree_checks.proofs.checking.has_step.Goals as goal
 

@@ -1,5 +1,4 @@
-use Rattle.std.proofs.Common.{◌∙◌, sym}
-use Rattle.std.proofs.lemmas.Bool.{cases_lt}
+use Rattle.tree_checks.proofs.Prelude.{◌∙◌, sym, cases_lt}
 use Rattle.tree_checks.proofs.Inherited.{edge_here, edge_up, edge_top, edge_past}
 use Rattle.tree_checks.proofs.checking.is_added.Goals as goal
 

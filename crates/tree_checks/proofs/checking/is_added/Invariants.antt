@@ -1,7 +1,4 @@
-use Rattle.std.proofs.Common.{◌≡◌}
-use Rattle.known_graph.specs.Tests.{has_edge}
-use Rattle.cube_machine.specs.Sides.{cube_edges}
-use Rattle.cube_laws.specs.Trees.{cube_of}
+use Rattle.tree_checks.proofs.Prelude.{◌≡◌, has_edge, cube_edges, cube_of}
 use Rattle.tree_checks.proofs.checking.is_added.Given as goal
 
 abbrev pub invariant-loop-node : goal.invariant-loop-node

@@ -1,5 +1,4 @@
-use Rattle.std.proofs.Common.{◌∙◌, sym}
-use Rattle.std.proofs.lemmas.Bool.{cases_lt}
+use Rattle.tree_checks.proofs.Prelude.{◌∙◌, sym, cases_lt}
 use Rattle.tree_checks.proofs.Inherited.{decided_here, decided_up, decided_top, decided_past}
 use Rattle.tree_checks.proofs.checking.is_decided.Goals as goal
 

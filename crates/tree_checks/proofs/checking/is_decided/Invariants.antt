@@ -1,6 +1,4 @@
-use Rattle.std.proofs.Common.{◌≡◌}
-use Rattle.cube_laws.specs.Cubes.{is_decided}
-use Rattle.cube_laws.specs.Trees.{cube_of}
+use Rattle.tree_checks.proofs.Prelude.{◌≡◌, is_decided, cube_of}
 use Rattle.tree_checks.proofs.checking.is_decided.Given as goal
 
 abbrev pub invariant-loop-node : goal.invariant-loop-node

@@ -1,7 +1,4 @@
-use Rattle.std.proofs.Common.{◌≡◌, drop}
-use Rattle.known_graph.specs.Tests.{leads}
-use Rattle.cube_laws.specs.Cubes.{edges_under}
-use Rattle.cube_laws.specs.Trees.{cube_of}
+use Rattle.tree_checks.proofs.Prelude.{◌≡◌, drop, leads, edges_under, cube_of}
 use Rattle.tree_checks.proofs.checking.leads.Given as goal
 
 abbrev pub invariant-loop-node : goal.invariant-loop-node

@@ -1,6 +1,4 @@
-use Rattle.std.proofs.Common.{◌≡◌, ◌-◌, ◌<◌, length}
-use Rattle.branching.specs.Picks.{has_fewer, or_better, first_best, least_edges}
-use Rattle.branching.specs.Opens.{open_past}
+use Rattle.branching.proofs.Prelude.{◌≡◌, ◌-◌, ◌<◌, length, has_fewer, or_better, first_best, least_edges, open_past}
 use Rattle.branching.proofs.by_size.LeastEdgesStrategy.pick.Given as goal
 
 abbrev pub invariant-loop-from : goal.invariant-loop-from

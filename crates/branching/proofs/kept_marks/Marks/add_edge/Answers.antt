@@ -1,8 +1,4 @@
-use Rattle.std.proofs.Common.{ℕ, List, subst, Vec, Global}
-use Rattle.reach_laws.specs.Reach.{Graph}
-use Rattle.reach_rows.specs.ReachRows.{AreRowsOf}
-use Rattle.side_edges.specs.declared.SideEdge.{SideEdge}
-use Rattle.branching.specs.Marked.{Keeps, MarksAll}
+use Rattle.branching.proofs.Prelude.{ℕ, List, subst, Vec, Global, Graph, AreRowsOf, SideEdge, Keeps, MarksAll}
 use Rattle.branching.proofs.Markings.{edge_marked}
 use Rattle.branching.proofs.kept_marks.Marks.add_edge.Goals as goal
 

@@ -1,4 +1,4 @@
-use Rattle.std.proofs.Common.{ℕ, List, length, ap, ◌∙◌}
+use Rattle.branching.proofs.Prelude.{ℕ, List, length, ap, ◌∙◌}
 use Rattle.branching.proofs.Markings.{saved_taken}
 use Rattle.branching.proofs.kept_marks.Marks.copy_from.Goals as goal
 

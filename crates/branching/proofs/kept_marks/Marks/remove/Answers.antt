@@ -1,5 +1,4 @@
-use Rattle.std.proofs.Common.{ℕ, List, length, not, eqb, ◌&&◌, ap, ◌∙◌}
-use Rattle.known_graph.specs.Bits.{bit_of}
+use Rattle.branching.proofs.Prelude.{ℕ, List, length, not, eqb, ◌&&◌, ap, ◌∙◌, bit_of}
 use Rattle.branching.proofs.Markings.{mark_removed}
 use Rattle.branching.proofs.kept_marks.Marks.remove.Goals as goal
 

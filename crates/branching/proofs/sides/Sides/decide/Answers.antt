@@ -1,7 +1,4 @@
-use Rattle.std.proofs.Common.{◌≡◌, ℕ, ◌+◌, ◌/◌, ◌<◌, List, Some, not, eqb, ◌&&◌, length, set, sym, ap, ◌∙◌, subst, arith}
-use Rattle.std.proofs.lemmas.List.{with_items_is}
-use Rattle.known_graph.specs.Bits.{bit_of}
-use Rattle.branching.specs.Opens.{AreBits}
+use Rattle.branching.proofs.Prelude.{◌≡◌, ℕ, ◌+◌, ◌/◌, ◌<◌, List, Some, not, eqb, ◌&&◌, length, set, sym, ap, ◌∙◌, subst, arith, with_items_is, bit_of, AreBits}
 use Rattle.branching.proofs.Opens.{open_within, bits_within, still_open, few_decided, bits_decide, one_more_decided}
 use Rattle.branching.proofs.sides.Sides.decide.Goals as goal
 

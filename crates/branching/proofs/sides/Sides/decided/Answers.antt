@@ -1,4 +1,4 @@
-use Rattle.std.proofs.Common.{length, ap, arith}
+use Rattle.branching.proofs.Prelude.{length, ap, arith}
 use Rattle.branching.proofs.Opens.{length-open_from}
 use Rattle.branching.proofs.sides.Sides.decided.Goals as goal
 

@@ -1,4 +1,4 @@
-use Rattle.std.proofs.Common.{List, ◌<◌, length, sym, subst}
+use Rattle.branching.proofs.Prelude.{List, ◌<◌, length, sym, subst}
 use Rattle.branching.proofs.Opens.{few_words, none_made, next_made}
 use Rattle.branching.proofs.sides.Sides.next_open.Goals as goal
 

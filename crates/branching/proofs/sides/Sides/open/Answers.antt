@@ -1,5 +1,4 @@
-use Rattle.std.proofs.Common.{◌≡◌, None, replicate, ◌∙◌, rules}
-use Rattle.std.proofs.lemmas.List.{with_items_is}
+use Rattle.branching.proofs.Prelude.{◌≡◌, None, replicate, ◌∙◌, rules, with_items_is}
 use Rattle.branching.proofs.Opens.{held_open}
 use Rattle.branching.proofs.sides.Sides.open.Goals as goal
 

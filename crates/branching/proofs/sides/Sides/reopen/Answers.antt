@@ -1,7 +1,4 @@
-use Rattle.std.proofs.Common.{◌≡◌, List, Option, None, length, replicate, sym, ap, ◌∙◌, arith, rules}
-use Rattle.std.proofs.lemmas.List.{with_items_is}
-use Rattle.pruning_laws.specs.declared.side.Side.{Side}
-use Rattle.known_graph.specs.Bits.{row_len}
+use Rattle.branching.proofs.Prelude.{◌≡◌, List, Option, None, length, replicate, sym, ap, ◌∙◌, arith, rules, with_items_is, Side, row_len}
 use Rattle.branching.proofs.Opens.{held_open}
 use Rattle.branching.proofs.sides.Sides.reopen.Goals as goal
 

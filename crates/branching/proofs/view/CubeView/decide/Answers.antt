@@ -1,8 +1,4 @@
-use Rattle.std.proofs.Common.{◌<◌, List, Option, length, sym, ap, ◌∙◌, subst, arith}
-use Rattle.pruning_laws.specs.declared.side.Side.{Side}
-use Rattle.branching.specs.Markings.{AreMarks}
-use Rattle.serializability.specs.Polygraph.{Polygraph}
-use Rattle.branching.specs.Held.{view_of}
+use Rattle.branching.proofs.Prelude.{◌<◌, List, Option, length, sym, ap, ◌∙◌, subst, arith, Side, AreMarks, Polygraph, view_of}
 use Rattle.branching.proofs.Opens.{open_within}
 use Rattle.branching.proofs.Views.{choice_read, open_in_view, held_decided, sided_decided}
 use Rattle.branching.proofs.view.CubeView.decide.Goals as goal

@@ -1,7 +1,4 @@
-use Rattle.std.proofs.Common.{◌≤◌, ◌∙◌, ap, subst, length, arith}
-use Rattle.std.specs.Prelude.{slice_index}
-use Rattle.std.proofs.lemmas.List.{length-map}
-use Rattle.branching.specs.Picks.{size_of}
+use Rattle.branching.proofs.Prelude.{◌≤◌, ◌∙◌, ap, subst, length, arith, slice_index, length-map, size_of}
 use Rattle.branching.proofs.Counted.{counted}
 use Rattle.branching.proofs.view.CubeView.fewest_edges.Goals as goal
 

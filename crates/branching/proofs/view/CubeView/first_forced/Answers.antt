@@ -1,4 +1,4 @@
-use Rattle.std.proofs.Common.{sym, ◌∙◌}
+use Rattle.branching.proofs.Prelude.{sym, ◌∙◌}
 use Rattle.branching.proofs.Unforced.{unforced_joined, first_forced_is, none_forced_is}
 use Rattle.branching.proofs.view.CubeView.first_forced.Goals as goal
 

@@ -1,5 +1,4 @@
-use Rattle.std.proofs.Common.{◌-◌}
-use Rattle.branching.specs.Refuted.{AreUnforced}
+use Rattle.branching.proofs.Prelude.{◌-◌, AreUnforced}
 use Rattle.branching.proofs.view.CubeView.first_forced.Given as goal
 
 abbrev pub invariant-loop-choice : goal.invariant-loop-choice

@@ -1,5 +1,4 @@
-use Rattle.std.proofs.Common.{sym, ◌∙◌}
-use Rattle.pruning_laws.specs.declared.side.Side.TheVariants.{One}
+use Rattle.branching.proofs.Prelude.{sym, ◌∙◌, One}
 use Rattle.branching.proofs.Refuting.{forced_by, forced_otherwise}
 use Rattle.branching.proofs.view.CubeView.is_forced.Goals as goal
 

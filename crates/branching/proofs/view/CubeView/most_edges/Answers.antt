@@ -1,5 +1,4 @@
-use Rattle.std.proofs.Common.{◌≤◌, ◌∙◌, ap, subst}
-use Rattle.std.specs.Prelude.{slice_index}
+use Rattle.branching.proofs.Prelude.{◌≤◌, ◌∙◌, ap, subst, slice_index}
 use Rattle.branching.proofs.Counted.{counted}
 use Rattle.branching.proofs.view.CubeView.most_edges.Goals as goal
 

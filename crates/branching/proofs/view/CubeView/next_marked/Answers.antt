@@ -1,9 +1,4 @@
-use Rattle.std.proofs.Common.{ℕ, subst}
-use Rattle.std.specs.Prelude.{IfSome, IfNone}
-use Rattle.branching.specs.View.{View}
-use Rattle.branching.specs.Held.{view_of}
-use Rattle.branching.specs.Markings.{AreKept, AreMarks}
-use Rattle.branching.specs.Refuted.{AreUnforced}
+use Rattle.branching.proofs.Prelude.{ℕ, subst, IfSome, IfNone, View, view_of, AreKept, AreMarks, AreUnforced}
 use Rattle.branching.proofs.Unforced.{few_marks, some_kept, none_kept, some_open, none_open}
 use Rattle.branching.proofs.view.CubeView.next_marked.Goals as goal
 

@@ -1,5 +1,4 @@
-use Rattle.std.proofs.Common.{◌≡◌, None, replicate, ap, ◌∙◌}
-use Rattle.reach_laws.specs.Reach.{Graph}
+use Rattle.branching.proofs.Prelude.{◌≡◌, None, replicate, ap, ◌∙◌, Graph}
 use Rattle.branching.proofs.Markings.{blank_is_right}
 use Rattle.polygraph.proofs.Kept.{graph_in as graph_of}
 use Rattle.branching.proofs.Views.{held_opened, rows_opened, sided_opened}

@@ -1,8 +1,4 @@
-use Rattle.std.proofs.Common.{◌≡◌, sym, ap, ◌∙◌, subst, arith}
-use Rattle.serializability.specs.Polygraph.{Polygraph}
-use Rattle.branching.specs.View.{View}
-use Rattle.branching.specs.Markings.{AreSaved}
-use Rattle.branching.specs.Held.{IsView, AreEdgesOf}
+use Rattle.branching.proofs.Prelude.{◌≡◌, sym, ap, ◌∙◌, subst, arith, Polygraph, View, AreSaved, IsView, AreEdgesOf}
 use Rattle.branching.proofs.view.CubeView.restore.Goals as goal
 
 pub invariant_of-self : goal.invariant_of-self

@@ -1,7 +1,4 @@
-use Rattle.std.proofs.Common.{subst}
-use Rattle.reach_rows.specs.ReachRows.{AreRowsOf}
-use Rattle.branching.specs.View.{View, graph_in}
-use Rattle.branching.specs.Held.{view_of}
+use Rattle.branching.proofs.Prelude.{subst, AreRowsOf, View, graph_in, view_of}
 use Rattle.branching.proofs.Views.{rows_of_view}
 use Rattle.branching.proofs.view.CubeView.rows.Goals as goal
 

@@ -1,8 +1,4 @@
-use Rattle.std.proofs.Common.{ap, ◌∙◌}
-use Rattle.serializability.specs.Polygraph.{Polygraph}
-use Rattle.pruning_laws.specs.declared.side.Side.TheVariants.{One, Two}
-use Rattle.branching.specs.View.{graph_in}
-use Rattle.branching.specs.Held.{view_of}
+use Rattle.branching.proofs.Prelude.{ap, ◌∙◌, Polygraph, One, Two, graph_in, view_of}
 use Rattle.branching.proofs.Views.{rows_of_view}
 use Rattle.branching.proofs.Refuting.{verdict_is}
 use Rattle.branching.proofs.view.CubeView.verdict.Goals as goal

@@ -1,4 +1,4 @@
-use Rattle.std.proofs.Common.{◌+◌, ap, ◌∙◌, arith}
+use Rattle.census.proofs.Prelude.{◌+◌, ap, ◌∙◌, arith}
 use Rattle.census.proofs.Counted.{counted_at, positive_after}
 use Rattle.census.proofs.key_counts.KeyCounts.add.Goals as goal
 

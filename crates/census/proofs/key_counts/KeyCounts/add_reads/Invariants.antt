@@ -1,7 +1,4 @@
-use Rattle.std.proofs.Common.{◌≡◌, ℕ, ◌+◌, List, take}
-use Rattle.std.specs.Prelude.{count_by}
-use Rattle.std.specs.Str.{bytes_eq}
-use Rattle.census.specs.Counts.{count_in}
+use Rattle.census.proofs.Prelude.{◌≡◌, ℕ, ◌+◌, List, take, count_by, bytes_eq, count_in}
 use Rattle.census.proofs.key_counts.KeyCounts.add_reads.Given as goal
 
 abbrev pub invariant-loop-key : goal.invariant-loop-key

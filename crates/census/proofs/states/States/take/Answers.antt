@@ -1,6 +1,4 @@
-use Rattle.std.proofs.Common.{ap, ◌∙◌}
-use Rattle.census.specs.States.{after}
-use Rattle.census.specs.declared.states.KeyState.{KeyState}
+use Rattle.census.proofs.Prelude.{ap, ◌∙◌, after, KeyState}
 use Rattle.census.proofs.Held.{held}
 use Rattle.census.proofs.states.States.take.Goals as goal
 

@@ -1,4 +1,4 @@
-use Rattle.session_log.specs.Text.{view_txn}
+use Rattle.census.proofs.Prelude.{view_txn}
 use Rattle.census.proofs.tables.Tables.add.Goals as goal
 
 pub returns : goal.returns

@@ -1,7 +1,4 @@
-use Rattle.std.proofs.Common.{List, map, take, sym, subst}
-use Rattle.list_lemmas.proofs.Lists.{mapped_front}
-use Rattle.session_log.specs.Text.{Transaction}
-use Rattle.census.specs.Tables.{view_ref, KnowsLog}
+use Rattle.census.proofs.Prelude.{List, map, take, sym, subst, mapped_front, Transaction, view_ref, KnowsLog}
 use Rattle.census.proofs.tables.Tables.of.Goals as goal
 
 pub loop-txn-preserved : goal.loop-txn-preserved

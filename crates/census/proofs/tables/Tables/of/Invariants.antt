@@ -1,5 +1,4 @@
-use Rattle.std.proofs.Common.{map, take}
-use Rattle.census.specs.Tables.{view_ref, KnowsLog}
+use Rattle.census.proofs.Prelude.{map, take, view_ref, KnowsLog}
 use Rattle.census.proofs.tables.Tables.of.Given as goal
 
 abbrev pub invariant-loop-txn : goal.invariant-loop-txn

@@ -1,12 +1,4 @@
-use Rattle.std.proofs.Common.{◌||◌, List, sym, ap, ◌∙◌, subst}
-use Rattle.session_log.specs.Text.{Transaction}
-use Rattle.session_log.specs.declared.session.Op.{Op}
-use Rattle.census.specs.Versions.{has_version}
-use Rattle.census.specs.Tables.{AreBehind, KnowsUpdates}
-use Rattle.census.specs.declared.updates.Updates.{Updates}
-use Rattle.std.specs.List.{filter, list_any}
-use Rattle.census.specs.Tables.{at_read, updates_by, updates_in}
-use Rattle.log_definitions.specs.Unknown.{is_committed}
+use Rattle.census.proofs.Prelude.{◌||◌, List, sym, ap, ◌∙◌, subst, Transaction, Op, has_version, AreBehind, KnowsUpdates, Updates, filter, list_any, at_read, updates_by, updates_in, is_committed}
 use Rattle.census.proofs.Behind.{updated_reads, updated_again}
 use Rattle.census.proofs.Knowing.{updates_more, kept_more, kept_same}
 use Rattle.census.proofs.updates.Updates.add.Goals as goal

@@ -1,5 +1,4 @@
-use Rattle.list_lemmas.proofs.Elements.{looked_up}
-use Rattle.census.specs.Versions.{has_version}
+use Rattle.census.proofs.Prelude.{looked_up, has_version}
 use Rattle.census.proofs.Sets.{added_at}
 use Rattle.census.proofs.versions.Versions.add.Goals as goal
 

@@ -1,5 +1,5 @@
-use Rattle.std.proofs.Common.{length}
-use Rattle.census.specs.Versions.{has_version, place_in}
+use Rattle.census.proofs.Prelude.{length, has_version}
+use Rattle.census.specs.Versions.{place_in}
 use Rattle.census.proofs.Sets.{none_in}
 use Rattle.census.proofs.versions.Versions.new.Goals as goal
 

@@ -1,5 +1,4 @@
-use Rattle.std.proofs.Common.{◌≡◌, []}
-use Rattle.std.specs.List.{AllByRecursion}
+use Rattle.census.proofs.Prelude.{◌≡◌, [], AllByRecursion}
 use Rattle.census.proofs.Sets.{Set}
 use Rattle.census.proofs.versions.Versions.new.Given as goal
 

@@ -1,10 +1,4 @@
-use Rattle.std.proofs.Common.{◌||◌, ◌&&◌, Bool, List, ap, ◌∙◌}
-use Rattle.std.specs.Prelude.{not}
-use Rattle.session_log.specs.declared.session.Op.{Op}
-use Rattle.census.specs.Reads.{writes_as, passes_over}
-use Rattle.log_definitions.specs.Unknown.{is_committed}
-use Rattle.census.specs.Versions.{has_version}
-use Rattle.census.specs.declared.writes.Writes.{Writes}
+use Rattle.census.proofs.Prelude.{◌||◌, ◌&&◌, Bool, List, ap, ◌∙◌, not, Op, writes_as, passes_over, is_committed, has_version, Writes}
 use Rattle.census.proofs.Knowing.{writes_more}
 use Rattle.census.proofs.writes.Writes.add.Goals as goal
 

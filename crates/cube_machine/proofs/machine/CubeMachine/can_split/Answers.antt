@@ -1,9 +1,4 @@
-use Rattle.std.proofs.Common.{◌<◌, not, ◌&&◌, length, Some, ◌∙◌, sym, ap, arith}
-use Rattle.std.proofs.lemmas.Bool.{lt-ltb}
-use Rattle.std.proofs.lemmas.Option.{slice_get-get_or}
-use Rattle.cube_laws.specs.Cubes.{is_decided}
-use Rattle.cube_machine.specs.Ways.{cube_in}
-use Rattle.cube_machine.specs.Flags.{is_flagged, is_odd}
+use Rattle.cube_machine.proofs.Prelude.{◌<◌, not, ◌&&◌, length, Some, ◌∙◌, sym, ap, arith, lt-ltb, slice_get-get_or, is_decided, cube_in, is_flagged, is_odd}
 use Rattle.cube_machine.proofs.Flags.{flagged_is}
 use Rattle.cube_machine.proofs.machine.CubeMachine.can_split.Goals as goal
 

@@ -1,4 +1,4 @@
-use Rattle.cube_laws.specs.declared.messages.CubeState.TheVariants.{Held}
+use Rattle.cube_machine.proofs.Prelude.{Held}
 use Rattle.cube_machine.proofs.Kept.{kept_marked}
 use Rattle.cube_machine.proofs.machine.CubeMachine.claim.Goals as goal
 

@@ -1,12 +1,5 @@
-use Rattle.std.proofs.Common.{◌≡◌, ℕ, ◌+◌, ◌<◌, ◌||◌, length, Some, ◌∙◌, sym, ap, arith}
-use Rattle.std.specs.List.{list_all, range_with_len}
-use Rattle.std.proofs.lemmas.Option.{slice_get-get_or}
-use Rattle.pruning_laws.specs.declared.side.Side.{Side}
-use Rattle.cube_laws.specs.Cubes.{is_decided}
-use Rattle.cube_machine.specs.Flags.{is_odd}
-use Rattle.cube_machine.specs.declared.decided.SideFlags.{SideFlags}
+use Rattle.cube_machine.proofs.Prelude.{◌≡◌, ℕ, ◌+◌, ◌<◌, ◌||◌, length, Some, ◌∙◌, sym, ap, arith, list_all, range_with_len, slice_get-get_or, Side, is_decided, is_odd, SideFlags, cube_in}
 use Rattle.cube_machine.proofs.Flags.{flagged_is}
-use Rattle.cube_machine.specs.Ways.{cube_in}
 use Rattle.cube_machine.proofs.Orders.{all_noted}
 use Rattle.cube_machine.proofs.machine.CubeMachine.decides_all.Goals as goal
 

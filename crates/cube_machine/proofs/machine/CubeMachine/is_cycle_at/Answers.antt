@@ -1,9 +1,4 @@
-use Rattle.std.proofs.Common.{◌≡◌, Some, refl, ◌∙◌, sym, ap, arith}
-use Rattle.std.proofs.lemmas.Option.{slice_get-get_or}
-use Rattle.reach_laws.specs.Reach.{Graph}
-use Rattle.cube_machine.specs.Ways.{cube_in}
-use Rattle.cube_machine.specs.Flags.{is_odd}
-use Rattle.cube_machine.specs.Cycles.{is_among, is_cycle_by}
+use Rattle.cube_machine.proofs.Prelude.{◌≡◌, Some, refl, ◌∙◌, sym, ap, arith, slice_get-get_or, Graph, cube_in, is_odd, is_among, is_cycle_by}
 use Rattle.cube_machine.proofs.Flags.{odd_once}
 use Rattle.cube_machine.proofs.Listed.{cycle_under}
 use Rattle.cube_machine.proofs.Kept.{kept_went}

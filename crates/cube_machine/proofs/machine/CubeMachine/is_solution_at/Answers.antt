@@ -1,8 +1,4 @@
-use Rattle.std.proofs.Common.{◌∙◌, ◌&&◌, sym, ap}
-use Rattle.cube_laws.specs.State.{State}
-use Rattle.cube_laws.specs.Cubes.{edges_under}
-use Rattle.cube_laws.specs.Steps.{cube_at, decides_all, is_solution, lists_once, keeps_edges}
-use Rattle.cube_machine.specs.Ways.{cube_in}
+use Rattle.cube_machine.proofs.Prelude.{◌∙◌, ◌&&◌, sym, ap, State, edges_under, cube_at, decides_all, is_solution, lists_once, keeps_edges, cube_in}
 use Rattle.cube_machine.proofs.Orders.{keeps_same}
 use Rattle.cube_machine.proofs.machine.CubeMachine.is_solution_at.Goals as goal
 

@@ -1,7 +1,4 @@
-use Rattle.std.proofs.Common.{◌∙◌, [], ◌∷◌, ap, length, subst, arith}
-use Rattle.reach_laws.specs.Reach.{Graph}
-use Rattle.cube_laws.specs.State.{root}
-use Rattle.cube_machine.specs.Noted.{AreNoted}
+use Rattle.cube_machine.proofs.Prelude.{◌∙◌, [], ◌∷◌, ap, length, subst, arith, Graph, root, AreNoted}
 use Rattle.cube_machine.proofs.Kept.{kept_first}
 use Rattle.cube_machine.proofs.machine.CubeMachine.opening.Goals as goal
 

@@ -1,4 +1,4 @@
-use Rattle.cube_laws.specs.declared.messages.CubeState.TheVariants.{Open}
+use Rattle.cube_machine.proofs.Prelude.{Open}
 use Rattle.cube_machine.proofs.Kept.{kept_marked}
 use Rattle.cube_machine.proofs.machine.CubeMachine.release.Goals as goal
 

@@ -1,7 +1,4 @@
-use Rattle.std.proofs.Common.{◌≡◌, ◌∙◌, false, sym, subst}
-use Rattle.cube_laws.specs.State.{State}
-use Rattle.cube_laws.specs.Steps.{is_finished}
-use Rattle.cube_laws.specs.declared.messages.CubeState.TheVariants.{Solved}
+use Rattle.cube_machine.proofs.Prelude.{◌≡◌, ◌∙◌, false, sym, subst, State, is_finished, Solved}
 use Rattle.cube_machine.proofs.Splits.{held_within}
 use Rattle.cube_machine.proofs.Kept.{kept_closed}
 use Rattle.cube_machine.proofs.machine.CubeMachine.solve.Goals as goal

@@ -1,9 +1,4 @@
-use Rattle.std.proofs.Common.{◌≡◌, ◌∙◌, false, sym, ap, subst}
-use Rattle.pruning_laws.specs.declared.side.Side.TheVariants.{One, Two}
-use Rattle.cube_laws.specs.State.{State}
-use Rattle.cube_laws.specs.Steps.{is_finished, child, can_split, cube_at}
-use Rattle.cube_laws.specs.declared.messages.CubeState.TheVariants.{Split}
-use Rattle.cube_machine.specs.Ways.{cube_in}
+use Rattle.cube_machine.proofs.Prelude.{◌≡◌, ◌∙◌, false, sym, ap, subst, One, Two, State, is_finished, child, can_split, cube_at, Split, cube_in}
 use Rattle.cube_laws.proofs.Grown.{splits_of}
 use Rattle.cube_machine.proofs.Splits.{held_within}
 use Rattle.cube_machine.proofs.Noted.{once_children}

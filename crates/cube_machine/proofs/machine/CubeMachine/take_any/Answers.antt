@@ -1,5 +1,4 @@
-use Rattle.std.proofs.Common.{sym}
-use Rattle.cube_laws.specs.declared.messages.CubeState.TheVariants.{Held}
+use Rattle.cube_machine.proofs.Prelude.{sym, Held}
 use Rattle.cube_machine.proofs.Splits.{last_ready}
 use Rattle.cube_machine.proofs.Kept.{kept_marked}
 use Rattle.cube_machine.proofs.machine.CubeMachine.take_any.Goals as goal

@@ -1,4 +1,4 @@
-use Rattle.std.proofs.Common.{◌≡◌, length}
+use Rattle.cube_machine.proofs.Prelude.{◌≡◌, length}
 use Rattle.cube_machine.proofs.row.OriginRow.new.Given as goal
 
 abbrev pub invariant-loop : goal.invariant-loop

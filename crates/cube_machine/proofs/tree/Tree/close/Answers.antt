@@ -1,10 +1,6 @@
-use Rattle.std.proofs.Common.{◌≡◌, ◌∙◌, Some, subst, sym, ap, arith}
-use Rattle.std.proofs.lemmas.Option.{slice_get_read}
-use Rattle.cube_laws.specs.Steps.{held_from}
-use Rattle.cube_machine.specs.Growth.{Growth}
+use Rattle.cube_machine.proofs.Prelude.{◌≡◌, ◌∙◌, Some, subst, sym, ap, arith, slice_get_read, held_from, Growth, ◌||◌}
 use Rattle.cube_machine.proofs.Cubes.{mark_written}
 use Rattle.cube_machine.proofs.Seats.{slot_at}
-use Rattle.std.proofs.Common.{◌||◌}
 use Rattle.cube_machine.proofs.Trees.{tree_close, held_below}
 use Rattle.cube_machine.proofs.tree.Tree.close.Goals as goal
 

@@ -1,6 +1,4 @@
-use Rattle.std.proofs.Common.{◌<◌, ◌∙◌, subst, sym, ap, length, arith}
-use Rattle.cube_machine.specs.Growth.{Growth}
-use Rattle.cube_machine.specs.Ways.{nodes_of}
+use Rattle.cube_machine.proofs.Prelude.{◌<◌, ◌∙◌, subst, sym, ap, length, arith, Growth, nodes_of}
 use Rattle.cube_machine.proofs.Cubes.{length_nodes, leaf_pushed}
 use Rattle.cube_machine.proofs.Places.{open_few}
 use Rattle.cube_machine.proofs.Trees.{tree_grow}

@@ -1,4 +1,4 @@
-use Rattle.std.proofs.Common.{◌∙◌}
+use Rattle.cube_machine.proofs.Prelude.{◌∙◌}
 use Rattle.cube_machine.proofs.Seats.{held_any}
 use Rattle.cube_machine.proofs.tree.Tree.has_held.Goals as goal
 

@@ -1,6 +1,4 @@
-use Rattle.std.proofs.Common.{◌≡◌, ◌∙◌, ap, sym, not, eqb, ◌||◌, length}
-use Rattle.std.specs.Prelude.{is_some}
-use Rattle.std.specs.List.{list_any}
+use Rattle.cube_machine.proofs.Prelude.{◌≡◌, ◌∙◌, ap, sym, not, eqb, ◌||◌, length, is_some, list_any}
 use Rattle.cube_machine.proofs.Seats.{live_is}
 use Rattle.cube_machine.proofs.tree.Tree.has_live.Goals as goal
 

@@ -1,5 +1,4 @@
-use Rattle.std.proofs.Common.{◌∙◌, sym}
-use Rattle.cube_laws.specs.Steps.{is_solved}
+use Rattle.cube_machine.proofs.Prelude.{◌∙◌, sym, is_solved}
 use Rattle.cube_machine.proofs.Cubes.{any_mark}
 use Rattle.cube_machine.proofs.tree.Tree.has_solved.Goals as goal
 

@@ -1,4 +1,4 @@
-use Rattle.std.proofs.Common.{◌∙◌, ap, get_or, None, arith}
+use Rattle.cube_machine.proofs.Prelude.{◌∙◌, ap, get_or, None, arith}
 use Rattle.cube_machine.proofs.Seats.{slot_read}
 use Rattle.cube_machine.proofs.tree.Tree.held.Goals as goal
 

@@ -1,11 +1,4 @@
-use Rattle.std.proofs.Common.{◌≡◌, ◌∙◌, None, false, true, subst, sym, arith}
-use Rattle.std.specs.Prelude.{slice_get}
-use Rattle.std.specs.Option.{option_map_or}
-use Rattle.std.proofs.lemmas.Option.{slice_get_read}
-use Rattle.cube_laws.specs.State.{Node}
-use Rattle.cube_laws.specs.Steps.{is_open, held_from}
-use Rattle.cube_laws.specs.declared.messages.CubeState.TheVariants.{Held}
-use Rattle.cube_machine.specs.Growth.{Growth}
+use Rattle.cube_machine.proofs.Prelude.{◌≡◌, ◌∙◌, None, false, true, subst, sym, arith, slice_get, option_map_or, slice_get_read, Node, is_open, held_from, Held, Growth}
 use Rattle.cube_machine.proofs.Cubes.{mark_written}
 use Rattle.cube_machine.proofs.Places.{IsPlace}
 use Rattle.cube_machine.proofs.Seats.{slot_at}

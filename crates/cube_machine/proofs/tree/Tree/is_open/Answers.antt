@@ -1,6 +1,4 @@
-use Rattle.std.proofs.Common.{◌∙◌, ap, sym, length, arith, false, get_or}
-use Rattle.std.proofs.lemmas.Option.{slice_get_read}
-use Rattle.cube_laws.specs.Steps.{is_open}
+use Rattle.cube_machine.proofs.Prelude.{◌∙◌, ap, sym, length, arith, false, get_or, slice_get_read, is_open}
 use Rattle.cube_machine.proofs.Cubes.{mark_tested, mark_absent}
 use Rattle.cube_machine.proofs.tree.Tree.is_open.Goals as goal
 

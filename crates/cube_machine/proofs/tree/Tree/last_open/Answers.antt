@@ -1,5 +1,4 @@
-use Rattle.std.proofs.Common.{◌∙◌, ap, length, ◌-◌}
-use Rattle.std.specs.Prelude.{slice_get}
+use Rattle.cube_machine.proofs.Prelude.{◌∙◌, ap, length, ◌-◌, slice_get}
 use Rattle.cube_machine.proofs.Places.{last_is}
 use Rattle.cube_machine.proofs.tree.Tree.last_open.Goals as goal
 

@@ -1,4 +1,4 @@
-use Rattle.std.proofs.Common.{◌∙◌, sym}
+use Rattle.cube_machine.proofs.Prelude.{◌∙◌, sym}
 use Rattle.cube_machine.proofs.Cubes.{length_nodes}
 use Rattle.cube_machine.proofs.tree.Tree.len.Goals as goal
 

@@ -1,6 +1,4 @@
-use Rattle.std.proofs.Common.{◌<◌, subst, sym, length, arith}
-use Rattle.std.proofs.lemmas.Option.{slice_get_read}
-use Rattle.cube_machine.specs.Growth.{Growth}
+use Rattle.cube_machine.proofs.Prelude.{◌<◌, subst, sym, length, arith, slice_get_read, Growth}
 use Rattle.cube_machine.proofs.Cubes.{length_nodes, is_way, root_way}
 use Rattle.cube_machine.proofs.tree.Tree.origin.Goals as goal
 

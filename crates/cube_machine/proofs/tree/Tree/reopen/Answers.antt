@@ -1,8 +1,4 @@
-use Rattle.std.proofs.Common.{◌≡◌, ◌∙◌, Some, subst, sym, arith}
-use Rattle.std.proofs.lemmas.Option.{slice_get_read}
-use Rattle.cube_laws.specs.Steps.{held_from}
-use Rattle.cube_laws.specs.declared.messages.CubeState.TheVariants.{Open}
-use Rattle.cube_machine.specs.Growth.{Growth}
+use Rattle.cube_machine.proofs.Prelude.{◌≡◌, ◌∙◌, Some, subst, sym, arith, slice_get_read, held_from, Open, Growth}
 use Rattle.cube_machine.proofs.Cubes.{mark_written}
 use Rattle.cube_machine.proofs.Places.{IsPlace}
 use Rattle.cube_machine.proofs.Seats.{slot_at}

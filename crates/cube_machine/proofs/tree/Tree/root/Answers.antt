@@ -1,5 +1,4 @@
-use Rattle.std.proofs.Common.{◌∙◌, ◌++◌, ◌∷◌, [], refl, ap, arith}
-use Rattle.cube_machine.specs.Ways.{nodes_of, nodes_with, cubes_after}
+use Rattle.cube_machine.proofs.Prelude.{◌∙◌, ◌++◌, ◌∷◌, [], refl, ap, arith, nodes_of, nodes_with, cubes_after}
 use Rattle.cube_machine.proofs.Trees.{tree_root, first}
 use Rattle.cube_machine.proofs.tree.Tree.root.Goals as goal
 

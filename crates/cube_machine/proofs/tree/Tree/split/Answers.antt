@@ -1,10 +1,4 @@
-use Rattle.std.proofs.Common.{◌∙◌, ◌++◌, ◌∷◌, [], List, length, ap, arith}
-use Rattle.std.proofs.lemmas.List.{length_push}
-use Rattle.pruning_laws.specs.declared.side.Side.TheVariants.{One, Two}
-use Rattle.cube_laws.specs.State.{Node}
-use Rattle.cube_laws.specs.Steps.{with_mark, child}
-use Rattle.cube_laws.specs.declared.messages.CubeState.TheVariants.{Split as Divided}
-use Rattle.cube_machine.specs.Ways.{cube_in}
+use Rattle.cube_machine.proofs.Prelude.{◌∙◌, ◌++◌, ◌∷◌, [], List, length, ap, arith, length_push, One, Two, Node, with_mark, child, Split as Divided, cube_in}
 use Rattle.cube_machine.proofs.Splits.{held_within, length_marked, cube_marked, two_more}
 use Rattle.cube_machine.proofs.tree.Tree.split.Goals as goal
 

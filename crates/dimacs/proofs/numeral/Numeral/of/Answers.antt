@@ -1,5 +1,4 @@
-use Rattle.std.proofs.Common.{◌≡◌, ◌++◌, ◌∷◌, [], length, ap, ◌∙◌, sym, arith}
-use Rattle.std.proofs.lemmas.List.{length-take-le}
+use Rattle.dimacs.proofs.Prelude.{◌≡◌, ◌++◌, ◌∷◌, [], length, ap, ◌∙◌, sym, arith, length-take-le}
 use Rattle.std.specs.Fmt.{decimal}
 use Rattle.dimacs.proofs.Numerals.{few_digits, blank, last_byte, text_in_front}
 use Rattle.dimacs.proofs.numeral.Numeral.of.Goals as goal

@@ -1,6 +1,5 @@
-use Rattle.std.proofs.Common.{◌≡◌, true, rules, arith}
+use Rattle.dimacs.proofs.Prelude.{◌≡◌, true, rules, arith, assignment}
 use Rattle.std.proofs.lemmas.Grind.{common_steps}
-use Rattle.dimacs.specs.Answer.{assignment}
 use Rattle.dimacs.proofs.Items.{knows_vars}
 use Rattle.dimacs.proofs.reading.Reading.into_answer.Goals as goal
 

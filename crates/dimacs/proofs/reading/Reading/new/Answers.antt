@@ -1,4 +1,4 @@
-use Rattle.std.proofs.Common.{refl}
+use Rattle.dimacs.proofs.Prelude.{refl}
 use Rattle.dimacs.proofs.Items.{knows_nothing}
 use Rattle.dimacs.proofs.reading.Reading.new.Goals as goal
 

@@ -1,6 +1,4 @@
-use Rattle.std.proofs.Common.{◌∙◌, sym, ap}
-use Rattle.std.specs.Str.{bytes_eq}
-use Rattle.dimacs.specs.Words.{is_blank}
+use Rattle.dimacs.proofs.Prelude.{◌∙◌, sym, ap, bytes_eq, is_blank}
 use Rattle.dimacs.proofs.Items.{takes_indented, takes_unknown}
 use Rattle.dimacs.proofs.reading.Reading.take_line.Goals as goal
 

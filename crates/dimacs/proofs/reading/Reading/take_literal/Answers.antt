@@ -1,4 +1,4 @@
-use Rattle.std.proofs.Common.{refl, arith, ◌∙◌, sym}
+use Rattle.dimacs.proofs.Prelude.{refl, arith, ◌∙◌, sym}
 use Rattle.dimacs.proofs.Items.{takes_out_of_range, takes_both_signs, takes_literal, knows_vars}
 use Rattle.dimacs.proofs.reading.Reading.take_literal.Goals as goal
 

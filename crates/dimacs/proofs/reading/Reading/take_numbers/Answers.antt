@@ -1,4 +1,4 @@
-use Rattle.std.proofs.lemmas.Result.{err_from_is_err_and}
+use Rattle.dimacs.proofs.Prelude.{err_from_is_err_and}
 use Rattle.dimacs.proofs.Takings.{amid_more, amid_fault, amid_all}
 use Rattle.dimacs.proofs.reading.Reading.take_numbers.Goals as goal
 

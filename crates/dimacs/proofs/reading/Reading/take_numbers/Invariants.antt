@@ -1,7 +1,4 @@
-use Rattle.std.proofs.Common.{ℕ, List}
-use Rattle.std.specs.Prelude.{map}
-use Rattle.dimacs.specs.Words.{Item, number_item, words}
-use Rattle.dimacs.specs.Reading.{Knows}
+use Rattle.dimacs.proofs.Prelude.{ℕ, List, map, Item, number_item, words, Knows}
 use Rattle.dimacs.proofs.Takings.{IsAmid}
 use Rattle.dimacs.proofs.reading.Reading.take_numbers.Given as goal
 

@@ -1,4 +1,4 @@
-use Rattle.std.proofs.Common.{Some, refl, arith, ap, ◌∙◌, sym}
+use Rattle.dimacs.proofs.Prelude.{Some, refl, arith, ap, ◌∙◌, sym}
 use Rattle.dimacs.proofs.Items.{takes_broken_number, takes_large_number, takes_zero_number, knows_vars}
 use Rattle.dimacs.proofs.reading.Reading.take_signed.Goals as goal
 

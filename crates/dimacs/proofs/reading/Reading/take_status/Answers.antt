@@ -1,4 +1,4 @@
-use Rattle.std.proofs.Common.{refl, ◌∙◌, sym}
+use Rattle.dimacs.proofs.Prelude.{refl, ◌∙◌, sym}
 use Rattle.dimacs.proofs.Items.{takes_broken, takes_second_status, takes_status}
 use Rattle.dimacs.proofs.reading.Reading.take_status.Goals as goal
 

@@ -1,7 +1,4 @@
-use Rattle.std.proofs.Common.{◌≡◌, [], length, ap, ◌∙◌, sym}
-use Rattle.std.proofs.lemmas.Bool.{eqb-true}
-use Rattle.std.proofs.lemmas.List.{nil_from_length}
-use Rattle.dimacs.specs.Words.{lines_of}
+use Rattle.dimacs.proofs.Prelude.{◌≡◌, [], length, ap, ◌∙◌, sym, eqb-true, nil_from_length, lines_of}
 use Rattle.dimacs.proofs.Cuts.{lines_of_nothing}
 use Rattle.dimacs.proofs.words.LinesIterator.next.Goals as goal
 

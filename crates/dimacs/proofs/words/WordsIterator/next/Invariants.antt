@@ -1,5 +1,4 @@
-use Rattle.std.proofs.Common.{◌≡◌, length}
-use Rattle.dimacs.specs.Words.{words}
+use Rattle.dimacs.proofs.Prelude.{◌≡◌, length, words}
 use Rattle.dimacs.proofs.words.WordsIterator.next.Given as goal
 
 abbrev pub invariant-loop-word : goal.invariant-loop-word

@@ -1,6 +1,4 @@
-use Rattle.std.proofs.Common.{◌++◌, List, take}
-use Rattle.serializability.specs.Polygraph.{Edge}
-use Rattle.ledger_checks.specs.KeptEdges.{HasEdges}
+use Rattle.ledger_checks.proofs.Prelude.{◌++◌, List, take, Edge, HasEdges}
 use Rattle.ledger_checks.proofs.kept.KeptEdges.add_all.Given as goal
 
 abbrev pub invariant-loop-edge : goal.invariant-loop-edge

@@ -1,4 +1,4 @@
-use Rattle.std.proofs.Common.{◌∙◌}
+use Rattle.ledger_checks.proofs.Prelude.{◌∙◌}
 use Rattle.ledger_checks.proofs.KeptBits.{edge_bit}
 use Rattle.ledger_checks.proofs.kept.KeptEdges.has.Goals as goal
 

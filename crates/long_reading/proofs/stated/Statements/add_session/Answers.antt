@@ -1,8 +1,4 @@
-use Rattle.std.proofs.Common.{◌≡◌, ◌+◌, ◌<◌, ◌≤◌, List, length, get_or, refl, subst, arith}
-use Rattle.session_log.specs.Text.{view_txn, txn_lines}
-use Rattle.session_log.specs.declared.session.Txn.{Txn}
-use Rattle.long_reading.specs.declared.repeats.Stated.{Stated}
-use Rattle.long_reading.specs.declared.stated.Statements.{Statements}
+use Rattle.long_reading.proofs.Prelude.{◌≡◌, ◌+◌, ◌<◌, ◌≤◌, List, length, get_or, refl, subst, arith, view_txn, txn_lines, Txn, Stated, Statements}
 use Rattle.long_reading.proofs.Stating.{room_for, one_more, session_length, takes_txns}
 use Rattle.long_reading.proofs.stated.Statements.add_session.Goals as goal
 

@@ -1,7 +1,4 @@
-use Rattle.std.proofs.Common.{◌≡◌, ◌+◌, ◌<◌, ◌≤◌, List, [], ◌∷◌, length, get_or, refl, subst, arith}
-use Rattle.session_log.specs.Text.{op_line}
-use Rattle.session_log.specs.declared.session.Op.{Op}
-use Rattle.long_reading.specs.declared.stated.Statements.{Statements}
+use Rattle.long_reading.proofs.Prelude.{◌≡◌, ◌+◌, ◌<◌, ◌≤◌, List, [], ◌∷◌, length, get_or, refl, subst, arith, op_line, Op, Statements}
 use Rattle.long_reading.proofs.Stating.{room_for, one_more, txn_length, takes_txn}
 use Rattle.long_reading.proofs.stated.Statements.add_txn.Goals as goal
 

@@ -1,7 +1,4 @@
-use Rattle.std.proofs.Common.{take, [], ◌∷◌}
-use Rattle.std.specs.List.{flat_map}
-use Rattle.session_log.specs.Text.{op_line}
-use Rattle.long_reading.specs.Statements.{Takes}
+use Rattle.long_reading.proofs.Prelude.{take, [], ◌∷◌, flat_map, op_line, Takes}
 use Rattle.long_reading.proofs.stated.Statements.add_txn.Given as goal
 
 abbrev pub invariant-loop-op : goal.invariant-loop-op

@@ -1,6 +1,4 @@
-use Rattle.std.proofs.Common.{arith}
-use Rattle.session_log.specs.Text.{view, session_lines}
-use Rattle.session_log.specs.declared.session.Session.{Session}
+use Rattle.long_reading.proofs.Prelude.{arith, view, session_lines, Session}
 use Rattle.long_reading.proofs.Stating.{room_for, one_more, log_length, takes_sessions}
 use Rattle.long_reading.proofs.stated.Statements.of.Goals as goal
 

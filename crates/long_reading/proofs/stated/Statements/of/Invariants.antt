@@ -1,7 +1,4 @@
-use Rattle.std.proofs.Common.{take}
-use Rattle.std.specs.List.{flat_map}
-use Rattle.session_log.specs.Text.{view, session_lines}
-use Rattle.long_reading.specs.Statements.{Takes}
+use Rattle.long_reading.proofs.Prelude.{take, flat_map, view, session_lines, Takes}
 use Rattle.long_reading.proofs.stated.Statements.of.Given as goal
 
 abbrev pub invariant-loop-session : goal.invariant-loop-session

@@ -1,6 +1,4 @@
-use Rattle.std.proofs.Common.{sym, ◌∙◌, arith}
-use Rattle.std.proofs.lemmas.Bool.{false≢true}
-use Rattle.order_cnf.specs.Clauses.{literals}
+use Rattle.order_cnf.proofs.Prelude.{sym, ◌∙◌, arith, false≢true, literals}
 use Rattle.order_cnf.proofs.Passed.{passed_begun, passed_number, passed_one, passed_false, not_all}
 use Rattle.order_cnf.proofs.formula.Formula.satisfied_by.Goals as goal
 

@@ -1,5 +1,4 @@
-use Rattle.std.proofs.Common.{sym, ◌∙◌, refl}
-use Rattle.order_cnf.specs.Clauses.{literals}
+use Rattle.order_cnf.proofs.Prelude.{sym, ◌∙◌, refl, literals}
 use Rattle.order_cnf.proofs.Parts.{unit_step, bipath_step, triple_step, all_sides, last_step, progress, some_progress}
 use Rattle.order_cnf.proofs.layout.ClausesIterator.next.Goals as goal
 

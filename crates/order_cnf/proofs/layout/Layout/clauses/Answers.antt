@@ -1,4 +1,4 @@
-use Rattle.std.proofs.Common.{ap, ◌∙◌}
+use Rattle.order_cnf.proofs.Prelude.{ap, ◌∙◌}
 use Rattle.order_cnf.proofs.Parts.{all_parts}
 use Rattle.order_cnf.proofs.layout.Layout.clauses.Goals as goal
 

@@ -1,7 +1,5 @@
-use Rattle.std.proofs.Common.{◌≡◌, ◌+◌, sym, ap, ◌∙◌, arith, length}
-use Rattle.std.proofs.lemmas.Bool.{false≢true}
+use Rattle.order_cnf.proofs.Prelude.{◌≡◌, ◌+◌, sym, ap, ◌∙◌, arith, length, false≢true, sides_after, last_variable}
 use Rattle.std.proofs.lemmas.Option.{IfSome_then}
-use Rattle.order_cnf.specs.Streams.{sides_after, last_variable}
 use Rattle.order_cnf.proofs.Wholes.{clause_number}
 use Rattle.order_cnf.proofs.layout.Layout.count.Goals as goal
 

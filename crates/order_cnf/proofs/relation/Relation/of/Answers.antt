@@ -1,4 +1,4 @@
-use Rattle.std.proofs.Common.{refl}
+use Rattle.order_cnf.proofs.Prelude.{refl}
 use Rattle.order_cnf.proofs.relation.Relation.of.Goals as goal
 
 pub invariant_of-result : goal.invariant_of-result

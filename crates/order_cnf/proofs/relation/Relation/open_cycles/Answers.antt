@@ -1,8 +1,4 @@
-use Rattle.std.proofs.Common.{ℕ, Bool, get_or, not, sym, subst}
-use Rattle.std.specs.Prelude.{bit_and}
-use Rattle.std.proofs.lemmas.Bool.{not-true, not-false}
-use Rattle.order_cnf.specs.Cycles.{is_open_cycle, IsWord}
-use Rattle.order_cnf.specs.Tables.{Relation, known_in, rows_known}
+use Rattle.order_cnf.proofs.Prelude.{ℕ, Bool, get_or, not, sym, subst, bit_and, not-true, not-false, is_open_cycle, IsWord, Relation, known_in, rows_known}
 use Rattle.order_cnf.proofs.Cycles.{pair_row, pair_read, read_word, closed_word}
 use Rattle.order_cnf.proofs.relation.Relation.open_cycles.Goals as goal
 

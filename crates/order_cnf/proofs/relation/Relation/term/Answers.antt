@@ -1,4 +1,4 @@
-use Rattle.std.proofs.Common.{sym, ◌∙◌}
+use Rattle.order_cnf.proofs.Prelude.{sym, ◌∙◌}
 use Rattle.order_cnf.proofs.Terms.{term_within}
 use Rattle.order_cnf.proofs.relation.Relation.term.Goals as goal
 

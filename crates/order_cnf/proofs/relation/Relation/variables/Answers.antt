@@ -1,5 +1,4 @@
-use Rattle.std.proofs.Common.{arith}
-use Rattle.order_cnf.specs.Tables.{rows_known}
+use Rattle.order_cnf.proofs.Prelude.{arith, rows_known}
 use Rattle.order_cnf.proofs.Counts.{few_pairs}
 use Rattle.order_cnf.proofs.relation.Relation.variables.Goals as goal
 

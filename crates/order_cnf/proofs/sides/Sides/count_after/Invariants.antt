@@ -1,4 +1,4 @@
-use Rattle.std.proofs.Common.{◌≡◌, ◌≤◌, ◌+◌, length}
+use Rattle.order_cnf.proofs.Prelude.{◌≡◌, ◌≤◌, ◌+◌, length}
 use Rattle.order_cnf.proofs.sides.Sides.count_after.Given as goal
 
 abbrev pub invariant-loop-clause : goal.invariant-loop-clause

@@ -1,6 +1,4 @@
-use Rattle.std.proofs.Common.{◌-◌, ◌++◌, ap, sym, ◌∙◌, arith, length}
-use Rattle.std.proofs.lemmas.List.{nil_from_length}
-use Rattle.order_cnf.specs.Streams.{sides_left, rank_of}
+use Rattle.order_cnf.proofs.Prelude.{◌-◌, ◌++◌, ap, sym, ◌∙◌, arith, length, nil_from_length, sides_left, rank_of}
 use Rattle.order_cnf.proofs.Parts.{nothing_left, no_sides, edge_step, side_step, no_step, some_step, kept_step, turned_rank}
 use Rattle.order_cnf.proofs.sides.Sides.next.Goals as goal
 

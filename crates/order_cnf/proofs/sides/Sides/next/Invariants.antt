@@ -1,6 +1,4 @@
-use Rattle.std.proofs.Common.{◌≡◌, ◌+◌, ◌≤◌, length}
-use Rattle.std.specs.List.{AllByRecursion}
-use Rattle.order_cnf.specs.Streams.{IsUnturned, sides_left, rank_of}
+use Rattle.order_cnf.proofs.Prelude.{◌≡◌, ◌+◌, ◌≤◌, length, AllByRecursion, IsUnturned, sides_left, rank_of}
 use Rattle.order_cnf.proofs.sides.Sides.next.Given as goal
 
 abbrev pub invariant-loop-self : goal.invariant-loop-self

@@ -1,4 +1,4 @@
-use Rattle.std.proofs.Common.{◌+◌, ap, sym, ◌∙◌, arith}
+use Rattle.order_cnf.proofs.Prelude.{◌+◌, ap, sym, ◌∙◌, arith}
 use Rattle.order_cnf.proofs.Skipped.{moved_on, moved_to_end}
 use Rattle.order_cnf.proofs.triples.Cursor.advance.Goals as goal
 

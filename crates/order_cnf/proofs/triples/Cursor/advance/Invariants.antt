@@ -1,5 +1,4 @@
-use Rattle.std.proofs.Common.{◌≡◌, ◌≤◌}
-use Rattle.order_cnf.specs.Cursors.{IsCursor, cursor_left, steps_left}
+use Rattle.order_cnf.proofs.Prelude.{◌≡◌, ◌≤◌, IsCursor, cursor_left, steps_left}
 use Rattle.order_cnf.proofs.triples.Cursor.advance.Given as goal
 
 abbrev pub invariant-loop-third : goal.invariant-loop-third

@@ -1,4 +1,4 @@
-use Rattle.std.proofs.Common.{refl, sym, ◌∙◌, arith}
+use Rattle.order_cnf.proofs.Prelude.{refl, sym, ◌∙◌, arith}
 use Rattle.order_cnf.proofs.Walks.{pair_first, pair_second, pair_none}
 use Rattle.order_cnf.proofs.triples.Cursor.next_pair.Goals as goal
 

@@ -1,6 +1,4 @@
-use Rattle.std.proofs.Common.{◌+◌, ◌*◌, ◌/◌, ap, ◌∙◌, arith}
-use Rattle.known_graph.specs.Bits.{row_len}
-use Rattle.order_cnf.specs.Cycles.{is_open_from}
+use Rattle.order_cnf.proofs.Prelude.{◌+◌, ◌*◌, ◌/◌, ap, ◌∙◌, arith, row_len, is_open_from}
 use Rattle.order_cnf.proofs.Counted.{count_in}
 use Rattle.order_cnf.proofs.Cycles.{none_before, word_more, whole_row, row_most, row_begins, row_ended, few_counted}
 use Rattle.order_cnf.proofs.triples.Cursor.row_count.Goals as goal

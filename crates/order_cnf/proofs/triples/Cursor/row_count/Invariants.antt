@@ -1,5 +1,4 @@
-use Rattle.std.proofs.Common.{◌≡◌, ◌+◌, ◌*◌}
-use Rattle.order_cnf.specs.Cycles.{is_open_from}
+use Rattle.order_cnf.proofs.Prelude.{◌≡◌, ◌+◌, ◌*◌, is_open_from}
 use Rattle.order_cnf.proofs.Counted.{count_in}
 use Rattle.order_cnf.proofs.triples.Cursor.row_count.Given as goal
 

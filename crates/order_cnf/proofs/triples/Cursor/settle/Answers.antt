@@ -1,4 +1,4 @@
-use Rattle.std.proofs.Common.{sym, ◌∙◌, arith}
+use Rattle.order_cnf.proofs.Prelude.{sym, ◌∙◌, arith}
 use Rattle.order_cnf.proofs.Walks.{next_second, next_first, no_more}
 use Rattle.order_cnf.proofs.triples.Cursor.settle.Goals as goal
 

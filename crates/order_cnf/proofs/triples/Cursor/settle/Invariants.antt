@@ -1,6 +1,4 @@
-use Rattle.std.proofs.Common.{◌≡◌, ◌+◌, ◌≤◌}
-use Rattle.order_cnf.specs.Cursors.{IsCursor, cursor_left, steps_left}
-use Rattle.order_cnf.specs.Tables.{Relation}
+use Rattle.order_cnf.proofs.Prelude.{◌≡◌, ◌+◌, ◌≤◌, IsCursor, cursor_left, steps_left, Relation}
 use Rattle.order_cnf.proofs.triples.Cursor.settle.Given as goal
 
 abbrev pub invariant-loop-self : goal.invariant-loop-self

@@ -1,4 +1,4 @@
-use Rattle.std.proofs.Common.{◌+◌, ap}
+use Rattle.order_cnf.proofs.Prelude.{◌+◌, ap}
 use Rattle.order_cnf.proofs.Walks.{begun}
 use Rattle.order_cnf.proofs.triples.Triples.new.Goals as goal
 

@@ -1,7 +1,4 @@
-use Rattle.std.proofs.Common.{◌≡◌, ◌∙◌, true, false, sym, subst}
-use Rattle.std.proofs.lemmas.List.Folds.{list_any_at}
-use Rattle.serializability.specs.declared.literal.Literal.{Literal}
-use Rattle.proof_checks.specs.Distinct.{is_among, negated}
+use Rattle.proof_checks.proofs.Prelude.{◌≡◌, ◌∙◌, true, false, sym, subst, list_any_at, Literal, is_among, negated}
 use Rattle.proof_checks.proofs.Once.{none_more, none_in_all}
 use Rattle.proof_checks.proofs.distinct.Marks.is_tautology.Goals as goal
 

@@ -1,6 +1,4 @@
-use Rattle.std.proofs.Common.{◌≡◌, false, take}
-use Rattle.std.specs.List.{list_any}
-use Rattle.proof_checks.specs.Distinct.{is_among, negated}
+use Rattle.proof_checks.proofs.Prelude.{◌≡◌, false, take, list_any, is_among, negated}
 use Rattle.proof_checks.proofs.distinct.Marks.is_tautology.Given as goal
 
 abbrev pub invariant-loop-literal : goal.invariant-loop-literal

@@ -1,6 +1,4 @@
-use Rattle.std.proofs.Common.{◌≡◌, take}
-use Rattle.proof_checks.specs.Distinct.{distinct}
-use Rattle.proof_checks.specs.Marks.{IsMarking}
+use Rattle.proof_checks.proofs.Prelude.{◌≡◌, take, distinct, IsMarking}
 use Rattle.proof_checks.proofs.distinct.Marks.keep.Given as goal
 
 abbrev pub invariant-loop-literal : goal.invariant-loop-literal

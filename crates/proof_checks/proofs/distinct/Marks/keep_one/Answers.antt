@@ -1,4 +1,4 @@
-use Rattle.std.proofs.Common.{◌∙◌, sym}
+use Rattle.proof_checks.proofs.Prelude.{◌∙◌, sym}
 use Rattle.proof_checks.proofs.Once.{same_kept, other_kept}
 use Rattle.proof_checks.proofs.distinct.Marks.keep_one.Goals as goal
 

@@ -1,4 +1,4 @@
-use Rattle.std.proofs.Common.{◌+◌, arith}
+use Rattle.proof_checks.proofs.Prelude.{◌+◌, arith}
 use Rattle.proof_checks.proofs.Rounds.{longer}
 use Rattle.proof_checks.proofs.distinct.Marks.reach.Goals as goal
 

@@ -1,6 +1,4 @@
-use Rattle.std.proofs.Common.{◌≡◌, ◌∙◌, ap, sym, refl, eqb, length, rules, true, false}
-use Rattle.refutation.proofs.Units.{entails_then}
-use Rattle.proof_checks.specs.Distinct.{is_tautology}
+use Rattle.proof_checks.proofs.Prelude.{◌≡◌, ◌∙◌, ap, sym, refl, eqb, length, rules, true, false, entails_then, is_tautology}
 use Rattle.proof_checks.proofs.Passed.{passed_tautology, passed_addition, passed_refutation, stopped, taken_so, taken_not}
 use Rattle.proof_checks.proofs.drat.Drat.add.Goals as goal
 

@@ -1,5 +1,4 @@
-use Rattle.std.proofs.Common.{◌∙◌, ap, refl}
-use Rattle.proof_checks.specs.Distinct.{distinct}
+use Rattle.proof_checks.proofs.Prelude.{◌∙◌, ap, refl, distinct}
 use Rattle.proof_checks.proofs.Passed.{passed_deletion}
 use Rattle.proof_checks.proofs.drat.Drat.take.Goals as goal
 

@@ -1,5 +1,4 @@
-use Rattle.std.proofs.lemmas.Result.{err_from_is_err_and}
-use Rattle.proof_text.specs.declared.drat.DratAction.{DratAction}
+use Rattle.proof_checks.proofs.Prelude.{err_from_is_err_and, DratAction}
 use Rattle.proof_checks.proofs.Passed.{read_stop, next_none, next_on, next_fault}
 use Rattle.proof_checks.proofs.Taken.{read_step}
 use Rattle.proof_checks.proofs.drat.Drat.take_next.Goals as goal

@@ -1,6 +1,4 @@
-use Rattle.std.proofs.Common.{◌≡◌, ◌∙◌, length, ap, eqb, rules}
-use Rattle.proof_checks.specs.Distinct.{distinct}
-use Rattle.proof_checks.specs.Kept.{proof_of}
+use Rattle.proof_checks.proofs.Prelude.{◌≡◌, ◌∙◌, length, ap, eqb, rules, distinct, proof_of}
 use Rattle.proof_checks.proofs.Taken.{added_so}
 use Rattle.proof_checks.proofs.lrat.Lrat.add.Goals as goal
 

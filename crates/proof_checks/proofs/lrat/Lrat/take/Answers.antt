@@ -1,6 +1,4 @@
-use Rattle.std.proofs.Common.{◌≡◌, refl, ap, Some, length}
-use Rattle.proof_checks.specs.Kept.{proof_of}
-use Rattle.proof_checks.specs.Lrat.{numbers_at}
+use Rattle.proof_checks.proofs.Prelude.{◌≡◌, refl, ap, Some, length, proof_of, numbers_at}
 use Rattle.proof_checks.proofs.Taken.{not_all_stand, all_stand, taken_deletion, taken_addition, fault_of_addition}
 use Rattle.proof_checks.proofs.lrat.Lrat.take.Goals as goal
 

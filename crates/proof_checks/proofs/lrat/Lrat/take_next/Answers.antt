@@ -1,7 +1,4 @@
-use Rattle.std.proofs.Common.{length}
-use Rattle.std.proofs.lemmas.Result.{err_from_is_err_and}
-use Rattle.proof_text.specs.declared.lrat.LratAction.{LratAction}
-use Rattle.proof_checks.specs.Kept.{proof_of}
+use Rattle.proof_checks.proofs.Prelude.{length, err_from_is_err_and, LratAction, proof_of}
 use Rattle.proof_checks.proofs.Taken.{read_fault, read_end, read_step, goes_on, stops}
 use Rattle.proof_checks.proofs.lrat.Lrat.take_next.Goals as goal
 

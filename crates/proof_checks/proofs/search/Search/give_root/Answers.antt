@@ -1,5 +1,4 @@
-use Rattle.std.proofs.Common.{ap, [], ◌∷◌}
-use Rattle.refutation.specs.Standing.{Standing}
+use Rattle.proof_checks.proofs.Prelude.{ap, [], ◌∷◌, Standing}
 use Rattle.proof_checks.proofs.Hints.{entails_added, root_follows}
 use Rattle.proof_checks.proofs.Propagating.{holds_root}
 use Rattle.proof_checks.proofs.search.Search.give_root.Goals as goal

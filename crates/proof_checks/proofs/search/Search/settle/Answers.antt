@@ -1,4 +1,4 @@
-use Rattle.refutation.proofs.Units.{entails_then}
+use Rattle.proof_checks.proofs.Prelude.{entails_then}
 use Rattle.proof_checks.proofs.search.Search.settle.Goals as goal
 
 pub returns-in_err-take_root-clause-follows : goal.returns-in_err-take_root-clause-follows

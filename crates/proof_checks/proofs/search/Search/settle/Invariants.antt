@@ -1,7 +1,4 @@
-use Rattle.std.proofs.Common.{List, Option}
-use Rattle.serializability.specs.declared.literal.Literal.{Literal}
-use Rattle.refutation.specs.Follows.{Entails}
-use Rattle.proof_checks.specs.Held.{Holds}
+use Rattle.proof_checks.proofs.Prelude.{List, Option, Literal, Entails, Holds}
 use Rattle.proof_checks.proofs.search.Search.settle.Given as goal
 
 abbrev pub invariant-loop-index : goal.invariant-loop-index

@@ -1,4 +1,4 @@
-use Rattle.std.proofs.Common.{length}
+use Rattle.proof_checks.proofs.Prelude.{length}
 use Rattle.proof_checks.proofs.Hints.{found_by}
 use Rattle.proof_checks.proofs.search.Search.take_found.Goals as goal
 

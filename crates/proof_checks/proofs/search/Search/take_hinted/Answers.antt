@@ -1,6 +1,4 @@
-use Rattle.std.proofs.Common.{subst}
-use Rattle.refutation.proofs.Units.{entails_then}
-use Rattle.proof_checks.specs.Passed.{IsFound}
+use Rattle.proof_checks.proofs.Prelude.{subst, entails_then, IsFound}
 use Rattle.proof_checks.proofs.search.Search.take_hinted.Goals as goal
 
 pub returns-then-branch-clause-found : goal.returns-then-branch-clause-found

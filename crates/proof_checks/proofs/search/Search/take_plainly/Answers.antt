@@ -1,5 +1,4 @@
-use Rattle.std.proofs.Common.{ap}
-use Rattle.refutation.specs.Standing.{Standing}
+use Rattle.proof_checks.proofs.Prelude.{ap, Standing}
 use Rattle.proof_checks.proofs.Hints.{plainly_follows, plainly_taken, plainly_not}
 use Rattle.proof_checks.proofs.search.Search.take_plainly.Goals as goal
 

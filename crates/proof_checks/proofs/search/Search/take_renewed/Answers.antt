@@ -1,4 +1,4 @@
-use Rattle.refutation.proofs.Units.{entails_then}
+use Rattle.proof_checks.proofs.Prelude.{entails_then}
 use Rattle.proof_checks.proofs.search.Search.take_renewed.Goals as goal
 
 pub returns-clause-follows : goal.returns-clause-follows

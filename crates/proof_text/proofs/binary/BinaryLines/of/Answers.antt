@@ -1,5 +1,4 @@
-use Rattle.std.proofs.Common.{◌+◌, ◌^◌, ◌≤◌, length, arith, rules}
-use Rattle.proof_text.specs.Binary.{binary_words}
+use Rattle.proof_text.proofs.Prelude.{◌+◌, ◌^◌, ◌≤◌, length, arith, rules, binary_words}
 use Rattle.proof_text.proofs.Packing.{binary_fewer}
 use Rattle.proof_text.proofs.binary.BinaryLines.of.Goals as goal
 

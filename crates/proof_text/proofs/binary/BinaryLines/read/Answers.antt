@@ -1,7 +1,4 @@
-use Rattle.std.proofs.Common.{◌+◌, ◌^◌, ◌<◌, length, None, arith, sym, ap, ◌∙◌}
-use Rattle.std.proofs.lemmas.Bool.{eqb-false}
-use Rattle.proof_text.specs.Binary.{binary_words, behind_line, binary_step}
-use Rattle.proof_text.specs.Steps.{steps_by}
+use Rattle.proof_text.proofs.Prelude.{◌+◌, ◌^◌, ◌<◌, length, None, arith, sym, ap, ◌∙◌, eqb-false, binary_words, behind_line, binary_step, steps_by}
 use Rattle.proof_text.proofs.Packing.{steps_at, steps_first, behind_within}
 use Rattle.proof_text.proofs.binary.BinaryLines.read.Goals as goal
 

@@ -1,8 +1,4 @@
-use Rattle.std.proofs.Common.{◌∙◌, length, sym, subst, ap, arith}
-use Rattle.std.specs.List.{AllByRecursion}
-use Rattle.polygraph.specs.Polygraphs.{JoinsBoth}
-use Rattle.prune_ledger.specs.State.{State}
-use Rattle.prune_ledger.specs.Pruned.{unrefused}
+use Rattle.prune_ledger.proofs.Prelude.{◌∙◌, length, sym, subst, ap, arith, AllByRecursion, JoinsBoth, State, unrefused}
 use Rattle.prune_ledger.proofs.Flags.{unrefused_each, unrefused_few}
 use Rattle.prune_ledger.proofs.machine.PruneMachine.into_open.Goals as goal
 

@@ -1,6 +1,4 @@
-use Rattle.std.proofs.Common.{◌≡◌, ◌∙◌, ap, length}
-use Rattle.std.specs.Prelude.{replicate}
-use Rattle.prune_ledger.specs.Opening.{no_mark}
+use Rattle.prune_ledger.proofs.Prelude.{◌≡◌, ◌∙◌, ap, length, replicate, no_mark}
 use Rattle.prune_ledger.proofs.Marks.{kept_opening}
 use Rattle.prune_ledger.proofs.machine.PruneMachine.opening.Goals as goal
 

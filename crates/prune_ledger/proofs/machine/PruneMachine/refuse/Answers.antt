@@ -1,11 +1,5 @@
-use Rattle.std.proofs.Common.{◌∙◌, ◌<◌, sym, ap, subst, arith, length}
-use Rattle.std.proofs.lemmas.Option.{slice_get_read}
-use Rattle.reach_laws.specs.Reach.{Graph}
-use Rattle.pruning_laws.specs.Forced.{edges_of}
-use Rattle.prune_ledger.specs.State.{State}
-use Rattle.prune_ledger.specs.Steps.{refuses, with_edges}
+use Rattle.prune_ledger.proofs.Prelude.{◌∙◌, ◌<◌, sym, ap, subst, arith, length, slice_get_read, Graph, edges_of, State, refuses, with_edges, the_view}
 use Rattle.prune_ledger.proofs.Marks.{side_joins, kept_refused, state_refused}
-use Rattle.prune_ledger.specs.contracts.machine.PruneMachine.{the_view}
 use Rattle.prune_ledger.proofs.machine.PruneMachine.refuse.Goals as goal
 
 pub add_all-requires : goal.add_all-requires

@@ -1,8 +1,5 @@
-use Rattle.std.proofs.Common.{◌∙◌, ap, arith}
-use Rattle.std.proofs.lemmas.Option.{slice_get_read}
-use Rattle.prune_ledger.specs.Steps.{free_from}
+use Rattle.prune_ledger.proofs.Prelude.{◌∙◌, ap, arith, slice_get_read, free_from, the_view}
 use Rattle.prune_ledger.proofs.Marks.{kept_taken, state_taken}
-use Rattle.prune_ledger.specs.contracts.machine.PruneMachine.{the_view}
 use Rattle.prune_ledger.proofs.machine.PruneMachine.take.Goals as goal
 
 pub invariant_of-self : goal.invariant_of-self

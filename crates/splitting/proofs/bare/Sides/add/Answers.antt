@@ -1,5 +1,4 @@
-use Rattle.std.proofs.Common.{◌∷◌, ◌++◌, [], sym, ap, ◌∙◌, refl, subst}
-use Rattle.splitting.specs.Sides.{AreSides}
+use Rattle.splitting.proofs.Prelude.{◌∷◌, ◌++◌, [], sym, ap, ◌∙◌, refl, subst, AreSides}
 use Rattle.splitting.proofs.Keys.{has_more}
 use Rattle.splitting.proofs.Sides.{own_read, other_read, one_write}
 use Rattle.splitting.proofs.bare.Sides.add.Goals as goal

@@ -1,6 +1,4 @@
-use Rattle.std.proofs.Common.{◌+◌, refl, subst}
-use Rattle.std.specs.Prelude.{drop}
-use Rattle.splitting.specs.Sides.{AreSides}
+use Rattle.splitting.proofs.Prelude.{◌+◌, refl, subst, drop, AreSides}
 use Rattle.splitting.proofs.Named.{item_behind}
 use Rattle.splitting.proofs.bare.Sides.of.Goals as goal
 

@@ -1,5 +1,4 @@
-use Rattle.std.specs.Prelude.{drop}
-use Rattle.splitting.specs.Sides.{AreSides}
+use Rattle.splitting.proofs.Prelude.{drop, AreSides}
 use Rattle.splitting.proofs.bare.Sides.of.Given as goal
 
 abbrev pub invariant-loop-op : goal.invariant-loop-op

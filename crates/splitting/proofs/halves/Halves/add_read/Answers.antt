@@ -1,6 +1,4 @@
-use Rattle.std.proofs.Common.{◌∷◌, ◌++◌, [], sym, ap, ◌∙◌, refl}
-use Rattle.session_log.specs.declared.session.Op.TheVariants.{Read}
-use Rattle.splitting.specs.Halves.{lists_in}
+use Rattle.splitting.proofs.Prelude.{◌∷◌, ◌++◌, [], sym, ap, ◌∙◌, refl, Read, lists_in}
 use Rattle.splitting.proofs.Steps.{read_behind, read_before}
 use Rattle.splitting.proofs.halves.Halves.add_read.Goals as goal
 

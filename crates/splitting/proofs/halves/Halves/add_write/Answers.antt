@@ -1,7 +1,4 @@
-use Rattle.std.proofs.Common.{◌∷◌, ◌++◌, [], ap, ◌∙◌}
-use Rattle.session_log.specs.declared.session.Op.TheVariants.{Read, Write}
-use Rattle.splitting.specs.Names.{lock_by}
-use Rattle.splitting.specs.Halves.{lists_in, has}
+use Rattle.splitting.proofs.Prelude.{◌∷◌, ◌++◌, [], ap, ◌∙◌, Read, Write, lock_by, lists_in, has}
 use Rattle.splitting.proofs.Keys.{has_more, was_in, was_not_in}
 use Rattle.splitting.proofs.Steps.{write_behind, write_first}
 use Rattle.splitting.proofs.halves.Halves.add_write.Goals as goal

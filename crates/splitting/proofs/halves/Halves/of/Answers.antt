@@ -1,9 +1,4 @@
-use Rattle.std.proofs.Common.{◌≡◌, ◌∷◌, ◌+◌, sym, subst}
-use Rattle.std.specs.Prelude.{drop}
-use Rattle.session_log.specs.declared.session.Op.TheVariants.{Read, Write}
-use Rattle.level_laws.specs.Split.{Locks}
-use Rattle.splitting.specs.Room.{Fit, AreNamed}
-use Rattle.splitting.specs.Halves.{ComesTo}
+use Rattle.splitting.proofs.Prelude.{◌≡◌, ◌∷◌, ◌+◌, sym, subst, drop, Read, Write, Locks, Fit, AreNamed, ComesTo}
 use Rattle.splitting.proofs.Named.{fit_read, fit_write, named_read, named_write, item_behind}
 use Rattle.splitting.proofs.halves.Halves.of.Goals.{in-Read+in_ok-add_read-in-Read, in-Write+in_ok-add_write-in-Write}
 use Rattle.splitting.proofs.halves.Halves.of.Goals as goal

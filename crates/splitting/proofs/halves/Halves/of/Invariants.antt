@@ -1,7 +1,4 @@
-use Rattle.std.specs.Prelude.{drop}
-use Rattle.level_laws.specs.Split.{Locks}
-use Rattle.splitting.specs.Room.{Fit, AreNamed}
-use Rattle.splitting.specs.Halves.{ComesTo}
+use Rattle.splitting.proofs.Prelude.{drop, Locks, Fit, AreNamed, ComesTo}
 use Rattle.splitting.proofs.halves.Halves.of.Given as goal
 
 abbrev pub invariant-loop-op : goal.invariant-loop-op

@@ -1,6 +1,4 @@
-use Rattle.std.proofs.Common.{◌≡◌, ℕ, length, arith, sym, ap, ◌∙◌, subst}
-use Rattle.std.specs.Prelude.{decimal}
-use Rattle.session_log.specs.Key.{IsKey}
+use Rattle.splitting.proofs.Prelude.{◌≡◌, ℕ, length, arith, sym, ap, ◌∙◌, subst, decimal, IsKey}
 use Rattle.splitting.proofs.Decimals.{decimal_is_key}
 use Rattle.splitting.proofs.names.Names.lock.Goals as goal
 

@@ -1,4 +1,4 @@
-use Rattle.std.proofs.Common.{not, sym, ap, ◌∙◌}
+use Rattle.splitting.proofs.Prelude.{not, sym, ap, ◌∙◌}
 use Rattle.splitting.proofs.KeyNumbers.{none_of, added}
 use Rattle.splitting.proofs.numbers.KeyNumbers.add_key.Goals as goal
 

@@ -1,7 +1,4 @@
-use Rattle.std.proofs.Common.{◌∷◌, [], map, take, sym, subst}
-use Rattle.list_lemmas.proofs.Lists.{front_more}
-use Rattle.session_log.specs.Text.{key_of}
-use Rattle.splitting.specs.Names.{Adds}
+use Rattle.splitting.proofs.Prelude.{◌∷◌, [], map, take, sym, subst, front_more, key_of, Adds}
 use Rattle.splitting.proofs.KeyNumbers.{adds_none, adds_join}
 use Rattle.splitting.proofs.numbers.KeyNumbers.add_ops.Goals as goal
 

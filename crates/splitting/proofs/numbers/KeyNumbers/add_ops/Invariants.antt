@@ -1,6 +1,4 @@
-use Rattle.std.proofs.Common.{take, map}
-use Rattle.session_log.specs.Text.{key_of}
-use Rattle.splitting.specs.Names.{Adds}
+use Rattle.splitting.proofs.Prelude.{take, map, key_of, Adds}
 use Rattle.splitting.proofs.numbers.KeyNumbers.add_ops.Given as goal
 
 abbrev pub invariant-loop-op : goal.invariant-loop-op

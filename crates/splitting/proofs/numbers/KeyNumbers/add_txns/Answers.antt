@@ -1,7 +1,4 @@
-use Rattle.std.proofs.Common.{take, map, sym, subst}
-use Rattle.session_log.specs.Text.{view_txn, Transaction, key_of}
-use Rattle.splitting.specs.Names.{Adds}
-use Rattle.splitting.specs.Halves.{ops_by}
+use Rattle.splitting.proofs.Prelude.{take, map, sym, subst, view_txn, Transaction, key_of, Adds, ops_by}
 use Rattle.splitting.proofs.KeyNumbers.{adds_none, adds_join}
 use Rattle.splitting.proofs.Walks.{flat_front}
 use Rattle.splitting.proofs.numbers.KeyNumbers.add_txns.Goals as goal

@@ -1,7 +1,4 @@
-use Rattle.std.proofs.Common.{take, map}
-use Rattle.session_log.specs.Text.{key_of, view_txn}
-use Rattle.splitting.specs.Halves.{ops_by}
-use Rattle.splitting.specs.Names.{Adds}
+use Rattle.splitting.proofs.Prelude.{take, map, key_of, view_txn, ops_by, Adds}
 use Rattle.splitting.proofs.numbers.KeyNumbers.add_txns.Given as goal
 
 abbrev pub invariant-loop-txn : goal.invariant-loop-txn

@@ -1,10 +1,4 @@
-use Rattle.std.proofs.Common.{◌+◌, ◌++◌, [], take, map, sym, subst, ap, ◌∙◌}
-use Rattle.std.proofs.lemmas.List.{take_all}
-use Rattle.session_log.specs.Text.{view, view_txn, ClientSession, key_of}
-use Rattle.log_definitions.specs.Unknown.{ops_in}
-use Rattle.log_definitions.specs.WellFormed.{first_seen, keys_in}
-use Rattle.splitting.specs.Names.{AreNumbers}
-use Rattle.splitting.specs.Halves.{ops_by}
+use Rattle.splitting.proofs.Prelude.{◌+◌, ◌++◌, [], take, map, sym, subst, ap, ◌∙◌, take_all, view, view_txn, ClientSession, key_of, ops_in, first_seen, keys_in, AreNumbers, ops_by}
 use Rattle.splitting.proofs.KeyNumbers.{seen_ops}
 use Rattle.splitting.proofs.Walks.{flat_front, ops_in_is}
 use Rattle.splitting.proofs.numbers.KeyNumbers.of.Goals as goal

@@ -1,8 +1,4 @@
-use Rattle.std.proofs.Common.{[], take, map}
-use Rattle.session_log.specs.Text.{key_of, view}
-use Rattle.log_definitions.specs.Unknown.{ops_in}
-use Rattle.log_definitions.specs.WellFormed.{first_seen}
-use Rattle.splitting.specs.Names.{AreNumbers}
+use Rattle.splitting.proofs.Prelude.{[], take, map, key_of, view, ops_in, first_seen, AreNumbers}
 use Rattle.splitting.proofs.numbers.KeyNumbers.of.Given as goal
 
 abbrev pub invariant-loop-session : goal.invariant-loop-session

@@ -1,6 +1,4 @@
-use Rattle.std.proofs.Common.{◌∷◌, [], take, sym, subst}
-use Rattle.list_lemmas.proofs.Lists.{front_more}
-use Rattle.splitting.specs.Room.{Finds}
+use Rattle.splitting.proofs.Prelude.{◌∷◌, [], take, sym, subst, front_more, Finds}
 use Rattle.splitting.proofs.Greatest.{finds_join}
 use Rattle.splitting.proofs.survey.Survey.add_ops.Goals as goal
 

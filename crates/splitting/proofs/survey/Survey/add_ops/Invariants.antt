@@ -1,5 +1,4 @@
-use Rattle.std.proofs.Common.{take}
-use Rattle.splitting.specs.Room.{Finds}
+use Rattle.splitting.proofs.Prelude.{take, Finds}
 use Rattle.splitting.proofs.survey.Survey.add_ops.Given as goal
 
 abbrev pub invariant-loop-op : goal.invariant-loop-op

@@ -1,7 +1,4 @@
-use Rattle.std.proofs.Common.{take, map, sym, subst}
-use Rattle.session_log.specs.Text.{view_txn, Transaction}
-use Rattle.splitting.specs.Room.{Finds}
-use Rattle.splitting.specs.Halves.{ops_by}
+use Rattle.splitting.proofs.Prelude.{take, map, sym, subst, view_txn, Transaction, Finds, ops_by}
 use Rattle.splitting.proofs.Greatest.{finds_join}
 use Rattle.splitting.proofs.Walks.{flat_front}
 use Rattle.splitting.proofs.survey.Survey.add_txns.Goals as goal

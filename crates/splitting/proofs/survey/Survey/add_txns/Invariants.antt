@@ -1,7 +1,4 @@
-use Rattle.std.proofs.Common.{take, map}
-use Rattle.session_log.specs.Text.{view_txn}
-use Rattle.splitting.specs.Room.{Finds}
-use Rattle.splitting.specs.Halves.{ops_by}
+use Rattle.splitting.proofs.Prelude.{take, map, view_txn, Finds, ops_by}
 use Rattle.splitting.proofs.survey.Survey.add_txns.Given as goal
 
 abbrev pub invariant-loop-txn : goal.invariant-loop-txn

@@ -1,8 +1,4 @@
-use Rattle.std.proofs.Common.{◌+◌, ◌++◌, [], take, map, sym, subst, ap, ◌∙◌}
-use Rattle.session_log.specs.Text.{view, view_txn, ClientSession}
-use Rattle.log_definitions.specs.Unknown.{ops_in}
-use Rattle.splitting.specs.Room.{Finds}
-use Rattle.splitting.specs.Halves.{ops_by}
+use Rattle.splitting.proofs.Prelude.{◌+◌, ◌++◌, [], take, map, sym, subst, ap, ◌∙◌, view, view_txn, ClientSession, ops_in, Finds, ops_by}
 use Rattle.splitting.proofs.Greatest.{base, finds_none, finds_join}
 use Rattle.splitting.proofs.Walks.{flat_front, ops_in_is}
 use Rattle.splitting.proofs.survey.Survey.of.Goals as goal

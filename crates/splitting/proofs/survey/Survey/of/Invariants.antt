@@ -1,7 +1,4 @@
-use Rattle.std.proofs.Common.{take, map}
-use Rattle.session_log.specs.Text.{view}
-use Rattle.log_definitions.specs.Unknown.{ops_in}
-use Rattle.splitting.specs.Room.{Finds}
+use Rattle.splitting.proofs.Prelude.{take, map, view, ops_in, Finds}
 use Rattle.splitting.proofs.survey.Survey.of.Given as goal
 
 abbrev pub invariant-loop-session : goal.invariant-loop-session

@@ -1,9 +1,4 @@
-use Rattle.std.proofs.Common.{List, map, MatchResult, subst}
-use Rattle.session_log.specs.Text.{view}
-use Rattle.session_log.specs.Faults.{IsFault}
-use Rattle.session_log.specs.Blocks.{blocks_of}
-use Rattle.session_log.specs.declared.block.Block.{Block}
-use Rattle.long_reading.specs.Reading.{AreRead, fault_of_blocks}
+use Rattle.long_reading.proofs.Prelude.{List, map, MatchResult, subst, view, IsFault, blocks_of, Block, AreRead, fault_of_blocks}
 use Rattle.long_reading.proofs.Read.{part_is, part_within}
 use Rattle.long_reading.proofs.reading.fn.read_blocks.part.Goals as goal
 
