@@ -7,9 +7,11 @@ sys.path.insert(0, HERE)
 import explained, reference, small_logs
 
 COUNTS = ('sessions', 'committed', 'aborted', 'unknown', 'taken', 'keys', 'operations', 'part')
+# The last one stands behind no name.
+OVERLOOKED = 'what they read rules it out'
 TITLES = {'A1 unknown read', 'A2 aborted read', 'A3 intermediate read', 'A4 own write missed', 'A5 future read', 'A6 split read', 'A7 lost update',
           'A8 cycle of known edges', 'A9 pruning ends in a cycle', 'every order of its versions closes a cycle', 'the formula is refuted',
-          'what they read rules it out'}
+          OVERLOOKED}
 SHORT = {title.split()[0] if title[0] == 'A' else title: title for title in TITLES}
 # What the field calls the anomalies.
 NAMES = {'A2': 'aborted read (G1a)', 'A3': 'intermediate read (G1b)', 'A4': 'own write missed (internal)', 'A5': 'future read (internal)',
@@ -95,7 +97,7 @@ def counted(sessions):
 ORDER = 'check first: did the client record its operations in their order?'
 HINTS = {'A1': 'check first: does the log have each write of all clients, under its own key?', 'A2': 'check first: is the abort certain?', 'A4': ORDER, 'A5': ORDER}
 # What is said of a part that has an order without that of sessions.
-SERIAL_APART = 'these have a serial order if the order of sessions does not count; of the rest of the log this says nothing'
+SERIAL_APART = 'the order of each session counts at this level; without it these transactions have a serial order (of the whole log this is not known)'
 # What is said where a log has an order without its moments, and none with them.
 TIME_ALONE = ['only real time was broken: the whole log has a serial order, but none in the order of its moments', 'check first: do the clients share a clock?']
 # What is said of a store where no level was named: whether the log has an order without its moments, or keeps a weaker level.
@@ -114,6 +116,8 @@ class Part:
     def __init__(self, heading, listed, why):
         count, found = HEADING.fullmatch(heading).groups()
         name, _, short = found.rpartition(', ')
+        if not name and found not in TITLES:
+            name, short = found, OVERLOOKED
         self.known_as = name or None
         self.title = SHORT.get(short) if name else found
         must(self.title in TITLES, 'why the part is refuted: %r' % found)
@@ -127,8 +131,8 @@ class Part:
         hint = HINTS.get(self.code)
         must(hint is None or why[-1:] == [hint], 'behind a part of %s stands %r' % (self.code, why[-1:]))
         self.why = why[:-1] if hint else why
-        self.is_serial_apart = self.why[-1:] == [SERIAL_APART]
-        self.why = self.why[:-1] if self.is_serial_apart else self.why
+        self.is_serial_apart = self.why[:1] == [SERIAL_APART]
+        self.why = self.why[1:] if self.is_serial_apart else self.why
         told = [line[len('known as: '):] for line in why if line.startswith('known as: ')]
         must(not told or self.known_as in told, 'known as %r, and told as %r' % (self.known_as, told))
         must(self.code not in NAMES or self.known_as in (None, NAMES[self.code]), 'A %s known as %r' % (self.code, self.known_as))

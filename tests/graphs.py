@@ -12,7 +12,7 @@ import argparse, collections, concurrent.futures, os, re, shutil, subprocess, sy
 HERE = os.path.dirname(os.path.abspath(__file__))
 sys.path.insert(0, HERE)
 import generate, level_model, levels
-from certificates import call, must
+from certificates import SERIAL_APART, call, must
 
 CASES, SEED, SHOWN, DRAWN, LONG = 60, 1, 20, 120, 3000
 # The words by which both commands search alike, and with one worker tell the same part.
@@ -114,7 +114,7 @@ def closes(arrows):
 
 def told_part(said):
     """The lines of the first part that is told, behind its headline and the line of its transactions."""
-    lines = said.split('\n')
+    lines = [line for line in said.split('\n') if line != SERIAL_APART]
     start = next(place for place, line in enumerate(lines) if line.startswith('shown by '))
     end = next(place for place, line in enumerate(lines) if re.match('sessions [0-9]+$', line))
     return lines[start:start + 2], '\n'.join(lines[start + 2:end])

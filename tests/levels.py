@@ -48,7 +48,7 @@ ONE_FAULT = [
 # What a stronger level may find in transactions of which a weaker one tells something else: what weaker levels allow; a read or writes that
 # break each level by themselves; and of moments, or of a session, what one of the levels does not have.
 OTHER_FAULTS = re.compile(r'lost update|.*\(G2-|.*\(internal|.*\(G1|.*\(G0|.*real ?time')
-SHOWN_BY = re.compile(r'^shown by \d+ transactions?: (.+), (?:A\d|%s)\n(transactions .+)$' % '|'.join(map(re.escape, certificates.SHORT.values())), re.M)
+SHOWN_BY = re.compile(r'^shown by \d+ transactions?: (?!(?:{0})\n)(.+?)(?:, (?:A\d|{0}))?\n(transactions .+)$'.format('|'.join(map(re.escape, certificates.SHORT.values()))), re.M)
 ROW = re.compile(r'\| `(\w+\.log)` \| [^|]+ \|((?: (?:yes|no|-) \|){%d})\n' % len(LEVELS))
 
 

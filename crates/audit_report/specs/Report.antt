@@ -10,6 +10,7 @@ use Rattle.isolation.specs.Levels.{level_title}
 use Rattle.audit_report.specs.Words.{code_number, finding_title, hint_text, word_text, word_of}
 use Rattle.audit_report.specs.Words.{verdict_text, kept_text, is_kept}
 use Rattle.judging.specs.declared.judged.Finding.{Finding}
+use Rattle.judging.specs.declared.judged.Finding.TheVariants as finding
 use Rattle.isolation.specs.declared.level.Isolation.{Isolation}
 use Rattle.isolation.specs.declared.level.Isolation.TheVariants.{StrictSnapshot, Snapshot, Prefix}
 use Rattle.isolation.specs.declared.level.Isolation.TheVariants.{Causal, ReadAtomic}
@@ -87,10 +88,15 @@ noun_of n = if n == 1 then codes " transaction: " else codes " transactions: "
 unfoldable pub short_title : Finding → List ℕ
 short_title f = if code_number f == 0 then finding_title f else field (codes "A") (code_number f)
 
+-- what stands behind what the field calls a finding: nothing where that is all that is to say
+unfoldable pub behind_name : Finding → List ℕ
+behind_name finding.Overlooked = []
+behind_name f = codes ", " ++ short_title f
+
 -- what was found of a part: what the field calls it and the code, or the code and its name
 unfoldable pub found_text : Option (String Global) → Finding → List ℕ
 found_text None f = finding_title f
-found_text (Some name) f = string_bytes name ++ codes ", " ++ short_title f
+found_text (Some name) f = string_bytes name ++ behind_name f
 
 -- how many transactions it has, and what was found of it
 abbrev pub heading_of : ToldPart → List ℕ
@@ -104,12 +110,12 @@ listed txns = codes "transactions " ++ txns_text txns ++ 10 ∷ []
 -- that it has a serial order without that of sessions
 abbrev pub sessions_line : Bool → List ℕ
 sessions_line told = if told
-    then codes "these have a serial order if the order of sessions does not count; of the rest of the log this says nothing\n"
+    then codes "the order of each session counts at this level; without it these transactions have a serial order (of the whole log this is not known)\n"
     else []
 
 -- why it has no order, and what to check first
 unfoldable pub why_text : ToldPart → List ℕ
-why_text p = p.why.items ++ sessions_line p.is_serial_apart ++ hint_text p.refuted.finding
+why_text p = sessions_line p.is_serial_apart ++ p.why.items ++ hint_text p.refuted.finding
 
 -- these
 unfoldable pub part_text : ToldPart → List ℕ

@@ -8,7 +8,8 @@ ghost use Rattle.audit_report.specs.Report.{middle_text, without_text, without_r
 ghost use Rattle.audit_report.specs.Report.{without_line, time_text, sessions_line, why_text};
 ghost use Rattle.audit_report.specs.Report.{parts_text, first_size, report_text, too_few, heading_of};
 ghost use Rattle.audit_report.specs.Report.{listed, codes_where, behind_first, level_text, reason_line};
-ghost use Rattle.audit_report.specs.Report.{level_row, weaker_text, short_title, found_text};
+ghost use Rattle.audit_report.specs.Report.{level_row, weaker_text, short_title, behind_name};
+ghost use Rattle.audit_report.specs.Report.{found_text};
 ghost use Rattle.audit_report.specs.Report.{kept_line, shown_by, snapshot_row, broken_text, last_part};
 ghost use Rattle.audit_report.specs.Report.{lower_text, title_of, why_lowest, lowest_part};
 ghost use Rattle.audit_report.specs.Report.{weaker_words, is_some_kept, is_open, is_order_refuted, is_some_open};
@@ -22,6 +23,7 @@ use crate::codes::{
 use crate::lines::{put, put_count, put_line, put_lines, put_name, put_number};
 use crate::told::{Answer, Lower, Told, ToldPart, ToldTxn, Totals, Word};
 use isolation::Isolation;
+use judging::Finding;
 use std::alloc::{AllocError, Global};
 
 /// Appends how many committed transactions there are, and how many must be.
@@ -139,6 +141,21 @@ fn put_short_title(out: &mut Vec<u8>, part: &ToldPart) -> Result<(), AllocError>
     }
 }
 
+/// Appends what stands behind what the field calls a part.
+#[tactic(auto, unfolding(crate::specs::Report::behind_name))]
+fn put_behind_name(out: &mut Vec<u8>, part: &ToldPart) -> Result<(), AllocError>
+    ensures put { OnOk result (out.new.items
+        ≡ out.old.items ++ behind_name part.now.refuted.finding) }
+{
+    match &part.refuted.finding {
+        Finding::Overlooked => Ok(()),
+        _ => {
+            put(out, b", ")?;
+            put_short_title(out, part)
+        }
+    }
+}
+
 /// Appends what was found of a part: what the field calls it and the code, or the code and its name.
 #[tactic(auto, unfolding(crate::specs::Report::found_text))]
 fn put_found(out: &mut Vec<u8>, part: &ToldPart) -> Result<(), AllocError>
@@ -149,8 +166,7 @@ fn put_found(out: &mut Vec<u8>, part: &ToldPart) -> Result<(), AllocError>
         None => put(out, finding_title(part.refuted.finding).as_bytes()),
         Some(name) => {
             put(out, name.as_bytes())?;
-            put(out, b", ")?;
-            put_short_title(out, part)
+            put_behind_name(out, part)
         }
     }
 }
@@ -181,7 +197,7 @@ fn put_sessions(out: &mut Vec<u8>, is_serial_apart: bool) -> Result<(), AllocErr
     if is_serial_apart {
         put(
             out,
-            b"these have a serial order if the order of sessions does not count; of the rest of the log this says nothing\n",
+            b"the order of each session counts at this level; without it these transactions have a serial order (of the whole log this is not known)\n",
         )
     } else {
         Ok(())
@@ -193,8 +209,8 @@ fn put_sessions(out: &mut Vec<u8>, is_serial_apart: bool) -> Result<(), AllocErr
 fn put_why(out: &mut Vec<u8>, part: &ToldPart) -> Result<(), AllocError>
     ensures put { OnOk result (out.new.items ≡ out.old.items ++ why_text part.now) }
 {
-    put(out, &part.why)?;
     put_sessions(out, part.is_serial_apart)?;
+    put(out, &part.why)?;
     put(out, hint_text(part.refuted.finding).as_bytes())
 }
 

@@ -181,10 +181,10 @@ fn circles_with_a_forced_edge(rt: HostRuntime) {
     let log = "session 1\nbegin\nw x 4\ncommit\nbegin\nw x 5\nw y 9\ncommit\n\
         session 2\nbegin\nr y 9\nr x 4\ncommit\n";
     let text = "in short: 2.1 sees 1.2, which wrote x, but reads the older x of 1.1\n\
-        1.2 wrote x (line 6)\n\
+        1.2 wrote x 5 (line 6)\n\
         2.1 reads y 9 (line 11), which 1.2 wrote (line 7)\n\
         2.1 reads x 4 (line 12), which 1.1 wrote (line 3)\n\
-        so the x of 1.2 has to be older than the x of 1.1\n\
+        so this level needs the x of 1.2 to be older than the x of 1.1\n\
         1.2 comes after 1.1 in session 1\n\
         so 1.2 comes before 1.1, and 1.1 comes before 1.2\n";
     let hops = [reads(txn(0, 1), 1, txn(1, 0), 0)];
@@ -219,7 +219,7 @@ fn circles_with_a_forced_edge(rt: HostRuntime) {
         "in short: 2.1 reads two versions of x: that of 1.2, and the older one of 1.1\n\
         2.1 reads x 5 (line 10), which 1.2 wrote (line 6)\n\
         2.1 reads x 4 (line 11), which 1.1 wrote (line 3)\n\
-        so the x of 1.2 has to be older than the x of 1.1\n\
+        so this level needs the x of 1.2 to be older than the x of 1.1\n\
         1.2 comes after 1.1 in session 1\n\
         so 1.2 comes before 1.1, and 1.1 comes before 1.2\n",
         Some("non-repeatable read (internal)"),
@@ -250,7 +250,7 @@ fn initial_values(rt: HostRuntime) {
         Level::ReadAtomic,
         &Evidence::Initial(overlooked(rt, alloc, op(1, 0, 0), op(0, 0, 0), &hops)),
         "in short: 2.1 sees 1.1, which wrote x, but reads the initial value of x\n\
-        1.1 wrote x (line 3)\n\
+        1.1 wrote x 1 (line 3)\n\
         2.1 reads y 2 (line 9), which 1.1 wrote (line 4)\n\
         2.1 reads x 0 (line 8), the initial value\n\
         so 2.1 should read the x of 1.1 or a later one\n",
@@ -269,7 +269,7 @@ fn paths_by_sessions(rt: HostRuntime) {
         Level::ReadAtomic,
         &Evidence::Initial(overlooked(rt, alloc, op(0, 1, 0), op(0, 0, 0), &hops)),
         "in short: 1.2 comes after 1.1, which wrote x, but reads the initial value of x\n\
-        1.1 wrote x (line 3)\n\
+        1.1 wrote x 1 (line 3)\n\
         1.2 comes after 1.1 in session 1\n\
         1.2 reads x 0 (line 6), the initial value\n\
         so 1.2 should read the x of 1.1 or a later one\n",
@@ -287,7 +287,7 @@ fn paths_by_sessions(rt: HostRuntime) {
         Level::Causal,
         &Evidence::Initial(overlooked(rt, alloc, op(1, 0, 1), op(0, 0, 0), &hops)),
         "in short: 7.1 comes after 1.1, which wrote x, but reads the initial value of x\n\
-        1.1 wrote x (line 3)\n\
+        1.1 wrote x 1 (line 3)\n\
         1.2 comes after 1.1 in session 1\n\
         7.1 reads y 2 (line 10), which 1.2 wrote (line 6)\n\
         7.1 reads x 0 (line 11), the initial value\n\

@@ -18,12 +18,13 @@ abbrev pub sight_lines : Table → List ClientSession → Overlooked → List �
 sight_lines table ss o = path_lines table ss o.write o.path.items
 
 -- by which path a read sees the other write, what it names, and which of the two is the earlier:
--- `so the x of 1.3 has to be older than the x of 1.2`
+-- `so this level needs the x of 1.3 to be older than the x of 1.2`
 unfoldable pub forced_text : Table → List ClientSession → Overlooked → OpAt → List ℕ
 forced_text table ss o found =
     sight_lines table ss o ++ (does_text table ss (codes " reads ") o.read
-    ++ (wrote_text table ss found ++ (codes "\nso " ++ (version_text table ss o.write
-    ++ (codes " has to be older than " ++ (version_text table ss found ++ codes "\n"))))))
+    ++ (wrote_text table ss found ++ (codes "\nso this level needs "
+    ++ (version_text table ss o.write ++ (codes " to be older than "
+    ++ (version_text table ss found ++ codes "\n"))))))
 
 -- a read overlooks a write that its own transaction reads too
 abbrev pub is_read_too : Overlooked → Bool

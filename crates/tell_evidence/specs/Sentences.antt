@@ -65,10 +65,10 @@ abbrev pub reads_it : OpAt → List Hop → Bool
 reads_it write [] = false
 reads_it write (hop ∷ hops) = is_of_write write.op hop.step
 
--- that a write is there, where its path does not tell it: `1.3 wrote x (line 19)`
+-- that a write is there, where its path does not tell it: `1.3 wrote x 7 (line 19)`
 unfoldable pub write_line : Table → List ClientSession → OpAt → List Hop → List ℕ
-write_line table ss write path = if reads_it write path then [] else name_text table ss write.txn
-    ++ codes " wrote " ++ key_at ss write ++ in_line (line_of table write) ++ codes "\n"
+write_line table ss write path = if reads_it write path then []
+    else does_text table ss (codes " wrote ") write ++ codes "\n"
 
 -- a write, and each hop of the path from it to the transaction that overlooks it
 abbrev pub path_lines : Table → List ClientSession → OpAt → List Hop → List ℕ

@@ -82,8 +82,8 @@ fn put_edge(out: &mut Vec<u8>, log: &Log<'_>, edge: &Edge) -> Result<(), AllocEr
             overlooked: it,
             found,
         } => tell!(out, log;
-            Path(it), Does(b" reads ", it.read), Wrote(*found), Text(b"\nso "),
-            Version(it.write), Text(b" has to be older than "), Version(*found), Text(b"\n")),
+            Path(it), Does(b" reads ", it.read), Wrote(*found), Text(b"\nso this level needs "),
+            Version(it.write), Text(b" to be older than "), Version(*found), Text(b"\n")),
     }
 }
 

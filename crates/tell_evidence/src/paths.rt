@@ -6,8 +6,8 @@ ghost use Rattle.log_lines.specs.Rows.{rows_of};
 ghost use Rattle.level_refutations.specs.Edges.{op_of};
 ghost use Rattle.tell_evidence.specs.Sentences as spec;
 
-use crate::phrases::{Log, put, put_does, put_in_line, put_name, put_number, put_wrote};
-use crate::places::{key_at, line_of, number_at};
+use crate::phrases::{Log, put, put_does, put_name, put_number, put_wrote};
+use crate::places::number_at;
 use level_refutations::{Hop, OpAt, Step, TxnAt};
 use std::alloc::AllocError;
 
@@ -87,10 +87,7 @@ fn put_write(out: &mut Vec<u8>, log: &Log<'_>, write: OpAt, path: &[Hop]) -> Res
     if reads_it(write, path) {
         return Ok(());
     }
-    put_name(out, log, write.txn)?;
-    put(out, b" wrote ")?;
-    put(out, key_at(log.sessions, write))?;
-    put_in_line(out, line_of(log.places, write))?;
+    put_does(out, log, b" wrote ", write)?;
     put(out, b"\n")
 }
 
