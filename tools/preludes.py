@@ -16,6 +16,12 @@ def listed(text):
     return [it for it in re.split(', *', text.strip()) if it]
 
 
+def parted(module, name):
+    """A module and a name, of which the name may begin with modules below that."""
+    path, name = re.fullmatch(r'((?:[A-Za-z_0-9]+\.)*)(.*)', name).groups()
+    return '.'.join(filter(None, [module, path.rstrip('.')])), name
+
+
 def bare(name):
     """The name that a module gives, of `a as b`."""
     return name.partition(' as ')[0]
@@ -72,7 +78,8 @@ class Proofs:
         for path, lines in self.files.items():
             rows = [(place, USE.fullmatch(line)) for place, line in enumerate(lines)]
             rows = [(place, row[1], listed(row[2])) for place, row in rows if row and (row[1] == self.own + '.Prelude' or not row[1].startswith(self.own))]
-            self.taken[path] = [(place, before.get(bare(name), module), name) for place, module, names in rows for name in names]
+            rows = [(place, *parted(module, name)) for place, module, names in rows for name in names]
+            self.taken[path] = [(place, before.get(bare(name), module), name) for place, module, name in rows]
             self.unfolded.update(name for them in UNFOLDS.findall('\n'.join(lines)) for name in ' '.join(them).split())
 
     def homes(self, modules):

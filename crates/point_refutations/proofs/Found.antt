@@ -1,16 +1,24 @@
 -- What an external read finds, by the places of points.
-use Rattle.point_refutations.proofs.Prelude.{◌≡◌, ◌≢◌, ◌⊎◌, ℕ, suc, ◌*◌, ◌<◌, ◌≤◌, Bool, true, false, List, ◌∷◌, length, map, eqb-true, Option, Some, None, refl, sym, ap, ◌∙◌, subst, inl, inr, arith, take, List.Contains}
-use Rattle.point_refutations.proofs.Prelude.{Option.option_map_or, Bool.cases_order, Bool.and_parts, Bool.false≢true, Slice.Eq.bytes_eq-Decides, ClientSession, Transaction, Op.TheVariants.Read, Op.TheVariants.Write, IsSoundLog, IsLearntLog}
-use Rattle.point_refutations.proofs.Prelude.{Point, snapshot, commit, number, IsPointOrder, Arith.same_commit, Arith.commit_snapshot, Intervals.place, Nodes.is_node, Nodes.op_in_log, Places.txn_at, Places.op_at, Places.is_named}
-use Rattle.point_refutations.proofs.Prelude.{Places.is_external_in, Places.is_external, Places.is_of_key, Laws.Stands, Standing.standing, Standing.within, Steps.has_op, Steps.node_of_op, Steps.named, both_are, reads_same, is_same_read}
+use Rattle.std.proofs.Common.{◌≡◌, ◌≢◌, ◌⊎◌, ℕ, suc, ◌*◌, ◌<◌, ◌≤◌, Bool, true, false, List, ◌∷◌, length, map, eqb-true, Option, Some, None, refl, sym, ap, ◌∙◌, subst, inl, inr, arith, take}
+use Rattle.std.specs.{List.Contains, Option.option_map_or}
+use Rattle.std.proofs.lemmas.{Bool.cases_order, Bool.and_parts, Bool.false≢true, Slice.Eq.bytes_eq-Decides}
+use Rattle.session_log.specs.Text.{ClientSession, Transaction}
+use Rattle.session_log.specs.declared.session.{Op.TheVariants.Read, Op.TheVariants.Write}
 use Rattle.serializability.proofs.{Places.Apart-from_IsDistinct, Once.places_apart, Serial.behind_zero}
 use Rattle.log_definitions.specs.{Unknown.ops_in, WellFormed.written, Serial.committed_in, Serial.ops_of}
 use Rattle.log_definitions.proofs.{Members.member, Chosen.Has-written}
+use Rattle.log_laws.specs.Logs.{IsSoundLog, IsLearntLog}
+use Rattle.level_laws.specs.Snapshot.{Point, snapshot, commit, number, IsPointOrder}
+use Rattle.level_laws.proofs.{Arith.same_commit, Arith.commit_snapshot, Intervals.place, Nodes.is_node, Nodes.op_in_log}
 use Rattle.level_laws.proofs.Orders.{before_place, lo_snapshot, lo_commit}
 use Rattle.seen_laws.{specs.Seen.WritesKey, proofs.Snapshots.met}
 use Rattle.level_refutations.specs.declared.evidence.OpAt.{OpAt}
+use Rattle.level_refutations.specs.{Places.txn_at, Places.op_at, Places.is_named, Places.is_external_in}
+use Rattle.level_refutations.specs.{Places.is_external, Places.is_of_key, Laws.Stands}
+use Rattle.level_refutations.proofs.{Standing.standing, Standing.within, Steps.has_op, Steps.node_of_op, Steps.named}
 use Rattle.level_refutations.proofs.Sights.{External, external_at, of_key, same_read}
 use Rattle.level_refutations.proofs.Forced.{last_written, wrote_once}
+use Rattle.point_refutations.specs.Edges.{both_are, reads_same, is_same_read}
 
 -- ---- an order of points, where keys are locked or not
 pub record Given (ss : List ClientSession) : Type 0 where

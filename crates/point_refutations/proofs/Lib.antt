@@ -1,4 +1,3 @@
-mod Prelude
 mod Found
 mod Ways
 mod Orderless

@@ -1,13 +1,24 @@
 -- Where a refutation is right, the points have no order.
-use Rattle.point_refutations.proofs.Prelude.{◌≡◌, ◌≢◌, ◌⊎◌, ℕ, ◌<◌, ◌≤◌, Bool, true, false, not, ◌==◌, ◌&&◌, List, [], ◌∷◌, ◌++◌, length, Option, Some, None, sym, ap, ◌∙◌, subst, inl, inr, arith, append_assoc, append-nil, Bool.and_parts}
-use Rattle.point_refutations.proofs.Prelude.{Bool.false≢true, Bool.not-true, Slice.Eq.bytes_eq-Decides, ClientSession, Op.Op, Op.TheVariants.Read, Op.TheVariants.Write, ops_of, IsSoundLog, IsLearntLog, snapshot, commit, HasPointOrder}
-use Rattle.point_refutations.proofs.Prelude.{Intervals.place, Nodes.is_node, Orders.before_place, Orders.lo_snapshot, Orders.lo_commit, WritesKey, Places.op_at, Places.is_same, Laws.Stands, Standing.one_node, Standing.within, Steps.same_at}
-use Rattle.point_refutations.proofs.Prelude.{Steps.nodes_apart, Steps.has_op, Steps.node_of_op, Snapshot, Commit, Shown, Forced, Later, PointAt.PointAt, Both.Both, Overwritten.Overwritten, Edge.Edge, Step.Step, Ending.Ending}
-use Rattle.point_refutations.proofs.Prelude.{Refutation.Refutation, edge_from, txn_of, is_way, is_simple, is_simple_way, writes_same, is_both, is_overwritten, is_against_by, is_step, are_steps, is_circle, is_ending, is_refuted}
+use Rattle.std.proofs.Common.{◌≡◌, ◌≢◌, ◌⊎◌, ℕ, ◌<◌, ◌≤◌, Bool, true, false, not, ◌==◌, ◌&&◌, List, [], ◌∷◌, ◌++◌, length, Option, Some, None, sym, ap, ◌∙◌, subst, inl, inr, arith, append_assoc, append-nil}
 use Rattle.std.specs.List.{AllByRecursion, Contains}
+use Rattle.std.proofs.lemmas.{Bool.and_parts, Bool.false≢true, Bool.not-true, Slice.Eq.bytes_eq-Decides}
+use Rattle.session_log.specs.Text.{ClientSession}
+use Rattle.session_log.specs.declared.session.{Op.Op, Op.TheVariants.Read, Op.TheVariants.Write}
 use Rattle.serializability.proofs.Places.{each_from_append}
+use Rattle.log_definitions.specs.Serial.{ops_of}
+use Rattle.log_laws.specs.Logs.{IsSoundLog, IsLearntLog}
+use Rattle.level_laws.specs.Snapshot.{snapshot, commit, HasPointOrder}
+use Rattle.level_laws.proofs.{Intervals.place, Nodes.is_node, Orders.before_place, Orders.lo_snapshot, Orders.lo_commit}
+use Rattle.seen_laws.specs.Seen.{WritesKey}
 use Rattle.level_refutations.specs.declared.evidence.TxnAt.{TxnAt}
+use Rattle.level_refutations.specs.{Places.op_at, Places.is_same, Laws.Stands}
+use Rattle.level_refutations.proofs.{Standing.one_node, Standing.within, Steps.same_at, Steps.nodes_apart, Steps.has_op, Steps.node_of_op}
+use Rattle.point_refutations.specs.declared.refutation.PointAt.TheVariants.{Snapshot, Commit}
+use Rattle.point_refutations.specs.declared.refutation.Step.TheVariants.{Shown, Forced, Later}
 use Rattle.point_refutations.specs.declared.refutation.Ending.TheVariants.{Circle, Neither}
+use Rattle.point_refutations.specs.declared.refutation.{PointAt.PointAt, Both.Both, Overwritten.Overwritten, Edge.Edge, Step.Step, Ending.Ending, Refutation.Refutation}
+use Rattle.point_refutations.specs.Edges.{edge_from, txn_of, is_way, is_simple, is_simple_way}
+use Rattle.point_refutations.specs.Refuted.{writes_same, is_both, is_overwritten, is_against_by, is_step, are_steps, is_circle, is_ending, is_refuted}
 use Rattle.point_refutations.proofs.Found.{Given, begins, one_commits, finds_write, there, reader, writer, writer_of_key}
 use Rattle.point_refutations.proofs.Ways.{point_of, Comes, between, StepComes, way_comes, way_leads}
 

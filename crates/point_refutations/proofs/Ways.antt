@@ -1,19 +1,28 @@
 -- Edges and ways hold in each order of points.
-use Rattle.point_refutations.proofs.Prelude.{◌≡◌, ℕ, ◌<◌, ◌≤◌, true, false, ◌&&◌, cond, List, [], ◌∷◌, length, eqb-true, Option, Some, None, sym, ap, ◌∙◌, subst, inl, inr, arith, slice_get, option_and_then, List.AllByRecursion}
-use Rattle.point_refutations.proofs.Prelude.{List.Contains, Option.option_map_or, Bool.and_parts, Bool.false≢true, Bool.ltb-true, Option.same_Some, Committed, committed_in, ops_of, begun_of, ended_of, Point, snapshot, commit, StandsBefore}
-use Rattle.point_refutations.proofs.Prelude.{Intervals.place, Orders.before_place, Orders.lo_snapshot, Orders.lo_commit, WritesKey, Edges.op_of, Laws.Stands, Steps.same_at, Steps.ends_of_step, Sights.External, Sights.external_at, Snapshot}
-use Rattle.point_refutations.proofs.Prelude.{Commit, Shown, Forced, Later, PointAt.PointAt, Since.Since, Why.Why, Edge.Edge, Step.Step, first_of, second_of, says_snapshot, is_order, is_later, is_by_step, is_found, is_since, is_why, is_edge}
-use Rattle.point_refutations.proofs.Prelude.{is_missed, ends_in_commit, edge_from, edge_to, txn_of, leads_on, is_way}
+use Rattle.std.proofs.Common.{◌≡◌, ℕ, ◌<◌, ◌≤◌, true, false, ◌&&◌, cond, List, [], ◌∷◌, length, eqb-true, Option, Some, None, sym, ap, ◌∙◌, subst, inl, inr, arith}
+use Rattle.std.specs.Prelude.{slice_get, option_and_then}
+use Rattle.std.specs.{List.AllByRecursion, List.Contains, Option.option_map_or}
+use Rattle.std.proofs.lemmas.{Bool.and_parts, Bool.false≢true, Bool.ltb-true, Option.same_Some}
 use Rattle.list_lemmas.proofs.Elements.{contains_at, same_item}
 use Rattle.session_log.specs.{Moments.is_earlier, Text.ClientSession, Text.Transaction}
 use Rattle.session_log.specs.declared.session.Op.TheVariants.{Write}
+use Rattle.log_definitions.specs.Serial.{Committed, committed_in, ops_of, begun_of, ended_of}
 use Rattle.log_definitions.proofs.Members.{member}
+use Rattle.level_laws.specs.Snapshot.{Point, snapshot, commit, StandsBefore}
+use Rattle.level_laws.proofs.{Intervals.place, Orders.before_place, Orders.lo_snapshot, Orders.lo_commit}
+use Rattle.seen_laws.specs.Seen.{WritesKey}
 use Rattle.level_refutations.specs.declared.evidence.{TxnAt.TxnAt, OpAt.OpAt}
 use Rattle.level_refutations.specs.declared.evidence.Step.TheVariants as hop_step
 use Rattle.level_refutations.specs.Places.{txn_at, is_same, is_of_initial}
+use Rattle.level_refutations.specs.{Edges.op_of, Laws.Stands}
 use Rattle.level_refutations.proofs.Standing.{standing, session_is, one_node, in_session, within}
+use Rattle.level_refutations.proofs.{Steps.same_at, Steps.ends_of_step, Sights.External, Sights.external_at}
+use Rattle.point_refutations.specs.declared.refutation.PointAt.TheVariants.{Snapshot, Commit}
 use Rattle.point_refutations.specs.declared.refutation.Since.TheVariants as since
 use Rattle.point_refutations.specs.declared.refutation.Why.TheVariants as why
+use Rattle.point_refutations.specs.declared.refutation.Step.TheVariants.{Shown, Forced, Later}
+use Rattle.point_refutations.specs.declared.refutation.{PointAt.PointAt, Since.Since, Why.Why, Edge.Edge, Step.Step}
+use Rattle.point_refutations.specs.Edges.{first_of, second_of, says_snapshot, is_order, is_later, is_by_step, is_found, is_since, is_why, is_edge, is_missed, ends_in_commit, edge_from, edge_to, txn_of, leads_on, is_way}
 use Rattle.point_refutations.proofs.Found.{Given, begins, finds, writes_zero, finds_write, some_where, There, there, reader, writer, writer_of_key, same_reads}
 
 -- ---- points of places

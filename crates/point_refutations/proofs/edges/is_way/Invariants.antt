@@ -1,4 +1,7 @@
-use Rattle.point_refutations.proofs.Prelude.{◌≡◌, map, drop, view, is_way}
+use Rattle.std.proofs.Common.{◌≡◌, map}
+use Rattle.std.specs.Prelude.{drop}
+use Rattle.session_log.specs.Text.{view}
+use Rattle.point_refutations.specs.Edges.{is_way}
 use Rattle.point_refutations.proofs.edges.is_way.Given as goal
 
 abbrev pub invariant-loop-edge : goal.invariant-loop-edge

@@ -1,4 +1,7 @@
-use Rattle.point_refutations.proofs.Prelude.{◌≡◌, map, [], take, drop, view, are_steps}
+use Rattle.std.proofs.Common.{◌≡◌, map, []}
+use Rattle.std.specs.Prelude.{take, drop}
+use Rattle.session_log.specs.Text.{view}
+use Rattle.point_refutations.specs.Refuted.{are_steps}
 use Rattle.point_refutations.proofs.refuting.are_steps.Given as goal
 
 abbrev pub invariant-loop-i : goal.invariant-loop-i

@@ -1,4 +1,5 @@
-use Rattle.point_refutations.proofs.Prelude.{map, sym, ◌∙◌, view}
+use Rattle.std.proofs.Common.{map, sym, ◌∙◌}
+use Rattle.session_log.specs.Text.{view}
 use Rattle.point_refutations.proofs.Orderless.{no_order}
 use Rattle.point_refutations.proofs.refuting.refutes.Goals as goal
 
