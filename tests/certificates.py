@@ -97,7 +97,7 @@ def counted(sessions):
 ORDER = 'check first: did the client record its operations in their order?'
 HINTS = {'A1': 'check first: does the log have each write of all clients, under its own key?', 'A2': 'check first: is the abort certain?', 'A4': ORDER, 'A5': ORDER}
 # What is said of a part that has an order without that of sessions.
-SERIAL_APART = 'the order of each session counts at this level; without it these transactions have a serial order (of the whole log this is not known)'
+SERIAL_APART = 'this level keeps the order of each session, and that is what these transactions break: without it they have a serial order (whether the whole log has one is not known)'
 # What is said where a log has an order without its moments, and none with them.
 TIME_ALONE = ['only real time was broken: the whole log has a serial order, but none in the order of its moments', 'check first: do the clients share a clock?']
 # What is said of a store where no level was named: whether the log has an order without its moments, or keeps a weaker level.

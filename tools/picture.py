@@ -559,7 +559,7 @@ class Page:
         if it.known_as:
             head += element('p', escape('Known as: ' + it.known_as))
         if it.is_serial_apart:
-            head += element('p', 'The order of each session counts at this level. Without the order of sessions these have a serial order (of the whole log this is not known).', class_='meaning')
+            head += element('p', 'This level keeps the order of each session, and that is what these transactions break. Without the order of sessions they have a serial order (whether the whole log has one is not known).', class_='meaning')
         if it.pairs:
             lines = ''.join(self.line(pair.line) for pair in it.pairs)
             head += element('p', escape(it.lines[it.pairs[0].line - 2])) + element('ul', lines, class_='lines')

@@ -1,6 +1,6 @@
 //! What is told of a judged log.
 
-ghost use Rattle.std.specs.Prelude.{◌≡◌, ◌⊎◌, ◌+◌, ◌<◌, ◌≤◌, ℕ, List, length, map, IfOk, OnOk};
+ghost use Rattle.std.specs.Prelude.{◌≡◌, ◌⊎◌, ◌+◌, ◌<◌, ◌≤◌, ℕ, List, length, map, IfOk, IfSome, OnOk};
 ghost use Rattle.std.specs.List.{AllByRecursion};
 ghost use Rattle.session_log.specs.Text.{ClientSession, IsLegal, view};
 ghost use Rattle.session_log.specs.Version.{first_line};
@@ -34,6 +34,9 @@ use std::io::Eprint;
 use std::sync::Wait;
 use std::thread::Threads;
 use std::time::Clock;
+
+/// Of so many further parts one is told in place of a part that only the order of sessions breaks.
+const FURTHER_PARTS: usize = 2;
 
 /// An answer, and the text of the order, where there is one and it is asked for.
 #[derive(Drop)]
@@ -140,6 +143,70 @@ fn put_least_first(told: &mut Vec<ToldPart>) -> Result<(), AllocError>
     told.sort_by_key(|part| part.txns.len())
 }
 
+/// The last of these parts that has no order even without that of sessions, where there is one.
+fn last_plain<R: Threads + Wait + Clock + Sync>(
+    rt: &R,
+    alloc: Global,
+    _log: &JudgedLog<'_>,
+    parts: Vec<RefutedPart>,
+    options: &AuditOptions<'_>,
+) -> Result<Option<RefutedPart>, AllocError>
+    requires parts { AllByRecursion (IsPartOf (map view _log.now.sessions.now)) parts.items }
+    ensures part { IfOk result (λ found.
+        IfSome found (IsPartOf (map view _log.now.sessions.now))) }
+    ensures told { (ss : List ClientSession)
+        → AllByRecursion (IsToldPart options.now.means.level ss) parts.items
+        → IfOk result (λ found. IfSome found (IsToldPart options.now.means.level ss)) }
+{
+    let mut left = parts;
+    'parts: for _ in 0..left.len() {
+        let Some(part) = left.pop() else {
+            break 'parts;
+        };
+        if !is_serial_apart(rt, alloc, &part.part, &options.means)? {
+            return Ok(Some(part));
+        }
+    }
+    Ok(None)
+}
+
+/// The part that is told where one is asked for: this one, or, where it has an order without that of
+/// sessions, a further one that has none.
+fn plainest<R: Threads + Wait + Clock + Eprint + Sync, P: Progress>(
+    rt: &R,
+    alloc: Global,
+    log: &JudgedLog<'_>,
+    first: RefutedPart,
+    options: &AuditOptions<'_>,
+    progress: &mut P,
+) -> Result<RefutedPart, AllocError>
+    requires log { IsLog (map view log.now.sessions.now) }
+    requires known { IsResolved (map view log.now.sessions.now) }
+    requires first { IsPartOf (map view log.now.sessions.now) first }
+    ensures part { IfOk result (IsPartOf (map view log.now.sessions.now)) }
+    ensures told { (ss : List ClientSession) → AllByRecursion IsLegal ss → IsSoundLog ss
+        → map view log.now.sessions.now ≡ resolved ss → IsToldPart options.now.means.level ss first
+        → IfOk result (IsToldPart options.now.means.level ss) }
+{
+    if options.faults > 1 || !is_serial_apart(rt, alloc, &first.part, &options.means)? {
+        return Ok(first);
+    }
+    let more = more_parts(
+        rt,
+        alloc,
+        log.sessions,
+        log.at,
+        &first,
+        FURTHER_PARTS,
+        &options.means,
+        progress,
+    )?;
+    match last_plain(rt, alloc, log, more, options)? {
+        Some(part) => Ok(part),
+        None => Ok(first),
+    }
+}
+
 /// The parts that are told, the least one first and each once: this one, and further ones where
 /// several are asked for.
 fn told_parts<R: Threads + Wait + Clock + Eprint + Sync, P: Progress>(
@@ -159,18 +226,19 @@ fn told_parts<R: Threads + Wait + Clock + Eprint + Sync, P: Progress>(
         told.items) }
 {
     let count = options.faults.saturating_sub(1);
+    let plain = plainest(rt, alloc, log, first, options, progress)?;
     let more = more_parts(
         rt,
         alloc,
         log.sessions,
         log.at,
-        &first,
+        &plain,
         count,
         &options.means,
         progress,
     )?;
     let mut told = Vec::new(alloc);
-    let first = told_part(rt, alloc, log.version, log.sessions, first, options)?;
+    let first = told_part(rt, alloc, log.version, log.sessions, plain, options)?;
     told.push(first)?;
     add_parts(rt, alloc, log, more, options, &mut told)?;
     put_least_first(&mut told)?;

@@ -110,7 +110,7 @@ listed txns = codes "transactions " ++ txns_text txns ++ 10 ∷ []
 -- that it has a serial order without that of sessions
 abbrev pub sessions_line : Bool → List ℕ
 sessions_line told = if told
-    then codes "the order of each session counts at this level; without it these transactions have a serial order (of the whole log this is not known)\n"
+    then codes "this level keeps the order of each session, and that is what these transactions break: without it they have a serial order (whether the whole log has one is not known)\n"
     else []
 
 -- why it has no order, and what to check first

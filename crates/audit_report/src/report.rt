@@ -197,7 +197,7 @@ fn put_sessions(out: &mut Vec<u8>, is_serial_apart: bool) -> Result<(), AllocErr
     if is_serial_apart {
         put(
             out,
-            b"the order of each session counts at this level; without it these transactions have a serial order (of the whole log this is not known)\n",
+            b"this level keeps the order of each session, and that is what these transactions break: without it they have a serial order (whether the whole log has one is not known)\n",
         )
     } else {
         Ok(())
