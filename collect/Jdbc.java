@@ -8,6 +8,7 @@ import java.sql.SQLTransientException;
 import java.util.Arrays;
 import java.util.HashSet;
 import java.util.Set;
+import java.util.regex.Pattern;
 
 /**
  * One client of a store by JDBC, whose transactions a Recorder logs: it begins them, commits, and says what became of them. Put this file and
@@ -52,9 +53,9 @@ public final class Jdbc implements AutoCloseable {
     private static final Set<String> IN_THE_WAY = new HashSet<>(Arrays.asList("90007", "90067", "90098", "90121", "90131", "XCL16", "55P03"));
     /** MariaDB has no code of its own for: changed since the snapshot, waited too long for a lock. */
     private static final Set<Integer> OF_MARIADB = new HashSet<>(Arrays.asList(1020, 1205));
-    /** H2 has none for: another client rolls this transaction back. It is a general error, and its words say so. */
+    /** H2 has none for: another client rolls this transaction back, or ends its session. It is a general error, and its words say so. */
     private static final int OF_H2 = 50000;
-    private static final String ROLLING_BACK = "has status ROLLING_BACK";
+    private static final Pattern ENDED = Pattern.compile("has status (ROLLING_BACK|CLOSED)|Transaction [0-9]+ is closed");
     /** SQLite has no code of SQLSTATE, so its own name stands in front: another client holds the lock. Its commit() leaves all undone then. */
     private static final String OF_SQLITE = "[SQLITE_BUSY";
 
@@ -63,7 +64,7 @@ public final class Jdbc implements AutoCloseable {
     private final Recorder.Session session;
     private final Connecting connecting;
     private Connection connection, watched;
-    private boolean failed;
+    private boolean failed, gone;
     /** What a driver threw last that is no SQLException. */
     private Throwable strange;
 
@@ -85,7 +86,7 @@ public final class Jdbc implements AutoCloseable {
         String state = String.valueOf(fault.getSQLState());
         return isRolledBack(fault) || state.startsWith("40") || state.startsWith("08") || state.startsWith("57") || state.startsWith("HYT") || IN_THE_WAY.contains(state)
                 || OF_MARIADB.contains(fault.getErrorCode()) && state.startsWith("HY")
-                || fault.getErrorCode() == OF_H2 && String.valueOf(fault.getMessage()).contains(ROLLING_BACK)
+                || fault.getErrorCode() == OF_H2 && ENDED.matcher(String.valueOf(fault.getMessage())).find()
                 || fault instanceof SQLTransientException || fault instanceof SQLRecoverableException;
     }
 
@@ -133,6 +134,7 @@ public final class Jdbc implements AutoCloseable {
             throw isGone ? new SQLException("the connection was closed as it was made", "08003", fault) : fault;
         }
         connection = its;
+        gone = false;
         watched = (Connection) watched(its, Connection.class);
     }
 
@@ -142,6 +144,7 @@ public final class Jdbc implements AutoCloseable {
         } catch (Throwable fault) {
             if (fault instanceof SQLException && isRolledBack((SQLException) fault)) {
                 txn.abort();
+                gone |= saysGone(fault);
                 rollBack();
                 return;
             }
@@ -176,6 +179,7 @@ public final class Jdbc implements AutoCloseable {
             } catch (InvocationTargetException fault) {
                 failed = true;
                 strange = fault.getCause();
+                gone |= saysGone(strange);
                 throw strange;
             }
         });
@@ -187,9 +191,14 @@ public final class Jdbc implements AutoCloseable {
         return java.sql.Statement.class.isAssignableFrom(kind) || kind == java.sql.ResultSet.class;
     }
 
+    /** Whether an exception says that the connection is gone. HSQLDB's driver says so in the exception alone. */
+    private static boolean saysGone(Throwable fault) {
+        return fault instanceof SQLException && String.valueOf(((SQLException) fault).getSQLState()).startsWith("08");
+    }
+
     private void rollBack() {
         try {
-            if (!connection.isClosed()) {
+            if (!gone && !connection.isClosed()) {
                 connection.rollback();
                 return;
             }

@@ -26,7 +26,7 @@ commit 40XL1: abort, 1 connected
 commit 40003: unknown, 2 connected, broken off
 commit 23505: abort, 1 connected
 commit 25P02: abort, 1 connected
-commit 08003: abort, 1 connected
+commit 08003: abort, 2 connected, broken off
 commit 08006: unknown, 2 connected, broken off
 commit 08007: unknown, 2 connected, broken off
 commit 57P01: unknown, 2 connected, broken off
@@ -51,12 +51,14 @@ prepareStatement HY000: thrown as it was, 1 connected
 createStatement HY000: abort, 1 connected
 prepareStatement HY000: abort, 1 connected
 createStatement HY000: abort, 1 connected
+prepareStatement HY000: abort, 1 connected
+createStatement HY000: abort, 1 connected
 prepareStatement HY000: thrown as it was, 1 connected
 createStatement HY000: abort, 1 connected
 prepareStatement 42S02: thrown as it was, 1 connected
 createStatement 42S02: abort, 1 connected
-prepareStatement 08006: abort, 1 connected
-createStatement 08006: abort, 1 connected
+prepareStatement 08006: abort, 2 connected, broken off
+createStatement 08006: abort, 2 connected, broken off
 prepareStatement 57014: abort, 1 connected
 createStatement 57014: abort, 1 connected
 prepareStatement null: abort, 1 connected

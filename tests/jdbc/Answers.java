@@ -55,7 +55,7 @@ public final class Answers {
             ask(run, "commit", new IllegalStateException("made"), false, writes);
             ask(run, "commit", new IllegalStateException("made"), true, writes);
             for (SQLException fault : Arrays.asList(new SQLException("made", "40001"), new SQLException("made", "XCL16"), new SQLException("made", "90131"),
-                    new SQLException("made", "HY000", 1020), new SQLException("made", "HY000", 7), new SQLException("Transaction 2 has status ROLLING_BACK, not OPEN", "HY000", 50000), new SQLException("made", "HY000", 50000), new SQLException("made", "42S02"), new SQLException("made", "08006"), new SQLException("made", "57014"),
+                    new SQLException("made", "HY000", 1020), new SQLException("made", "HY000", 7), new SQLException("Transaction 2 has status ROLLING_BACK, not OPEN", "HY000", 50000), new SQLException("General error: MVStoreException: Transaction 2 is closed", "HY000", 50000), new SQLException("made", "HY000", 50000), new SQLException("made", "42S02"), new SQLException("made", "08006"), new SQLException("made", "57014"),
                     new SQLException("[SQLITE_BUSY_SNAPSHOT] Another database connection has already written to the database"))) {
                 ask(run, "prepareStatement", fault, false, (connection, txn) -> {
                     txn.write("x");
