@@ -82,7 +82,7 @@ setAutoCommit null: abort, 2 connected
 setAutoCommit 42000: thrown as it was, 2 connected
 """
 # How the log has them, each with a second transaction: those that are thrown have their outcome too, and a commit that is rolled back is so again.
-OUTCOMES = {'commit': 54, 'abort': 52, 'unknown': 12}
+OUTCOMES = {'commit': 57, 'abort': 53, 'unknown': 12}
 
 
 def compiled(folder):
