@@ -41,13 +41,14 @@ impl<'a> Edge<'a> {
         matches!(self.why, Why::Missed(..))
     }
 
-    /// How much it takes to tell it. What clients saw counts less than the order of a session, and
-    /// that less than the clock.
+    /// How much it takes to tell it. What clients saw counts less than what they missed, that less
+    /// than the order of a session, and that less than the clock.
     fn cost(&self) -> usize {
         match self.why {
             _ if self.step.is_some() => 3_000_000,
-            Why::Session => 1_000_001,
+            Why::Session => 1_000_030,
             Why::Moments => 1_001_000,
+            Why::Missed(..) => 1_000_001,
             _ => 1_000_000,
         }
     }

@@ -258,22 +258,25 @@ impl<'a, 'b> Search<'a, 'b> {
 }
 
 /// Why the points of a part have no order: the steps that follow from what is known of them, and to
-/// what they lead; `None` where these do not show it. Where keys are locked a lost update comes first.
-/// Else in each round a circle is sought, then steps that what is known shows, then those that are
-/// forced.
+/// what they lead; `None` where these do not show it. In each round a circle is sought; else, where
+/// keys are locked and there are no steps yet, a lost update; else steps that what is known shows;
+/// else those that are forced.
 pub fn refute<'a>(
     alloc: Global,
     part: &Part<'a>,
     is_locked: bool,
 ) -> Result<Option<(Vec<Step<'a>>, Ending<'a>)>, AllocError> {
     let mut search = Search::of(alloc, part, is_locked)?;
-    if is_locked && let Some(two) = search.lost()? {
-        return Ok(Some((search.steps, Ending::Neither(two))));
-    }
     for _ in 0..MANY_ROUNDS {
         search.graph.learn_costs();
         if let Some(circle) = search.graph.circle(alloc)? {
             return Ok(Some((search.steps, Ending::Circle(circle))));
+        }
+        if is_locked
+            && search.steps.is_empty()
+            && let Some(two) = search.lost()?
+        {
+            return Ok(Some((search.steps, Ending::Neither(two))));
         }
         let mut steps = search.shown()?;
         if steps.is_empty() {
