@@ -12,3 +12,9 @@ parts-preserved g c =
       parts = (all_front (IsPartOf known) c.pop.new.self.items c.in-Some.part
           (subst (AllByRecursion (IsPartOf known)) c.in-Some.ensures.items c.parts.invariant.parts)).0;
     }
+
+pub returns-then-not-branch-clause-told : goal.returns-then-not-branch-clause-told
+returns-then-not-branch-clause-told g c =
+    let level = c.args.options.now.means.level in
+    λ ss all. (all_front (IsToldPart level ss) c.pop.new.self.items c.in-Some.part
+    (subst (AllByRecursion (IsToldPart level ss)) c.in-Some.ensures.items (c.parts.invariant.told ss all))).1
