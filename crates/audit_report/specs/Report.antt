@@ -13,6 +13,7 @@ use Rattle.judging.specs.declared.judged.Finding.{Finding}
 use Rattle.judging.specs.declared.judged.Finding.TheVariants as finding
 use Rattle.isolation.specs.declared.level.Isolation.{Isolation}
 use Rattle.isolation.specs.declared.level.Isolation.TheVariants.{StrictSnapshot, Snapshot, Prefix}
+use Rattle.isolation.specs.declared.level.Isolation.TheVariants.{StrictSerializable, Serializable}
 use Rattle.isolation.specs.declared.level.Isolation.TheVariants.{Causal, ReadAtomic}
 use Rattle.isolation.specs.declared.level.Isolation.TheVariants.{MonotonicAtomicView, ReadCommitted}
 use Rattle.audit_report.specs.Lower.{weakest_of}
@@ -121,6 +122,30 @@ why_text p = sessions_line p.is_serial_apart ++ p.why.items ++ hint_text p.refut
 unfoldable pub part_text : ToldPart → List ℕ
 part_text p = heading_of p ++ listed p.txns.items ++ why_text p
 
+-- what a level asks for, in a sentence; where none is named, that is serializability in the order of stated moments
+abbrev pub level_asks : Isolation → List ℕ
+level_asks StrictSerializable = codes "strict serializability asks for an order in which each transaction reads what was written last before it; sessions and stated moments keep their order\n"
+level_asks Serializable = codes "serializability asks for an order in which each transaction reads what was written last before it; each session keeps its order\n"
+level_asks StrictSnapshot = codes "strict snapshot isolation asks that each transaction reads one state between commits, and that of two writers of a key one commits before the other's snapshot; sessions and stated moments keep their order\n"
+level_asks Snapshot = codes "snapshot isolation asks that each transaction reads one state between commits, and that of two writers of a key one commits before the other's snapshot\n"
+level_asks Prefix = codes "prefix consistency asks that each transaction reads one state between commits\n"
+level_asks Causal = codes "causal consistency asks that who sees a transaction sees all that came before it by sessions and reads; the order of reads in a transaction does not count\n"
+level_asks ReadAtomic = codes "read atomic asks that who sees a transaction, or follows it in a session, sees all that it wrote; the order of reads in a transaction does not count\n"
+level_asks MonotonicAtomicView = codes "monotonic atomic view asks that a read sees all that was written by each transaction that an earlier read of its own one has seen\n"
+level_asks ReadCommitted = codes "read committed asks that nobody reads what was not committed, or what its writer overwrote\n"
+
+unfoldable pub rule_text : Option Isolation → List ℕ
+rule_text None = codes "serializability asks for an order in which each transaction reads what was written last before it; sessions and stated moments keep their order\n"
+rule_text (Some level) = level_asks level
+
+-- that stands above a part of which it is told why it has no order
+abbrev pub rule_above : Option Isolation → ToldPart → List ℕ
+rule_above level p = if length p.why.items == 0 then [] else rule_text level
+
+abbrev pub first_rule : Option Isolation → List ToldPart → List ℕ
+first_rule level [] = []
+first_rule level (p ∷ ps) = rule_above level p
+
 -- so many of the parts have the code of this number, or none
 abbrev pub code_count : List ToldPart → ℕ → ℕ
 code_count parts n = count_by (λ p. code_number p.refuted.finding == n) parts
@@ -148,11 +173,11 @@ abbrev pub codes_where : ℕ → List ToldPart → List ℕ
 codes_where faults parts = if nat_lt 1 faults then codes_text parts else []
 
 -- the lines behind the first; those of codes where several parts were asked for
-unfoldable pub middle_text : ℕ → Answer → List ℕ
-middle_text faults (answer.NotSerializable parts) = parts_text parts.items
-    ++ codes_where faults parts.items
-middle_text faults (answer.Undecided reason advice) = lines_of advice.items
-middle_text faults _ = []
+unfoldable pub middle_text : ℕ → Option Isolation → Answer → List ℕ
+middle_text faults level (answer.NotSerializable parts) = first_rule level parts.items
+    ++ parts_text parts.items ++ codes_where faults parts.items
+middle_text faults level (answer.Undecided reason advice) = lines_of advice.items
+middle_text faults level _ = []
 
 -- what holds of the log without moments
 abbrev pub without_line : Word → List ℕ
@@ -249,7 +274,8 @@ weaker_text told = without_row (word_of told.answer) told.without_moments
 
 -- a part that shows that snapshot isolation was not kept
 abbrev pub broken_text : ToldPart → List ℕ
-broken_text p = codes "why snapshot isolation was not kept:\n" ++ part_text p
+broken_text p = codes "why snapshot isolation was not kept:\n" ++ rule_above (Some Snapshot) p
+    ++ part_text p
 
 -- the same, where the answer has none
 abbrev pub last_part : Option ToldPart → List ℕ
@@ -262,7 +288,8 @@ title_of None = []
 title_of (Some level) = level_title level
 
 abbrev pub why_lowest : Option Isolation → ToldPart → List ℕ
-why_lowest level p = codes "why " ++ title_of level ++ codes " was not kept:\n" ++ part_text p
+why_lowest level p = codes "why " ++ title_of level ++ codes " was not kept:\n"
+    ++ rule_above level p ++ part_text p
 
 abbrev pub lowest_part : Option Isolation → Option ToldPart → List ℕ
 lowest_part level None = []
@@ -289,7 +316,7 @@ counts_text t part =
     ++ count_line (codes "part") part
 
 abbrev pub behind_first : ℕ → Told → List ℕ
-behind_first faults told = weaker_text told ++ middle_text faults told.answer
+behind_first faults told = weaker_text told ++ middle_text faults told.level told.answer
     ++ last_part told.shown ++ lowest_part (weakest_of told.lower) told.lowest
     ++ counts_text told.totals (part_size told.answer)
 

@@ -9,7 +9,7 @@ ghost use Rattle.audit_report.specs.Report.{without_line, time_text, sessions_li
 ghost use Rattle.audit_report.specs.Report.{parts_text, first_size, report_text, too_few, heading_of};
 ghost use Rattle.audit_report.specs.Report.{listed, codes_where, behind_first, level_text, reason_line};
 ghost use Rattle.audit_report.specs.Report.{level_row, weaker_text, short_title, behind_name};
-ghost use Rattle.audit_report.specs.Report.{found_text};
+ghost use Rattle.audit_report.specs.Report.{found_text, level_asks, rule_text, rule_above, first_rule};
 ghost use Rattle.audit_report.specs.Report.{kept_line, shown_by, snapshot_row, broken_text, last_part};
 ghost use Rattle.audit_report.specs.Report.{lower_text, title_of, why_lowest, lowest_part};
 ghost use Rattle.audit_report.specs.Report.{weaker_words, is_some_kept, is_open, is_order_refuted, is_some_open};
@@ -223,6 +223,70 @@ fn put_part(out: &mut Vec<u8>, part: &ToldPart) -> Result<(), AllocError>
     put_why(out, part)
 }
 
+/// What a level asks for, in a sentence.
+fn level_asks(level: Isolation) -> &'static str
+    ensures asks { result.now ≡ level_asks level }
+{
+    match level {
+        Isolation::StrictSerializable =>
+            "strict serializability asks for an order in which each transaction reads what was written last before it; sessions and stated moments keep their order\n",
+        Isolation::Serializable =>
+            "serializability asks for an order in which each transaction reads what was written last before it; each session keeps its order\n",
+        Isolation::StrictSnapshot =>
+            "strict snapshot isolation asks that each transaction reads one state between commits, and that of two writers of a key one commits before the other's snapshot; sessions and stated moments keep their order\n",
+        Isolation::Snapshot =>
+            "snapshot isolation asks that each transaction reads one state between commits, and that of two writers of a key one commits before the other's snapshot\n",
+        Isolation::Prefix =>
+            "prefix consistency asks that each transaction reads one state between commits\n",
+        Isolation::Causal =>
+            "causal consistency asks that who sees a transaction sees all that came before it by sessions and reads; the order of reads in a transaction does not count\n",
+        Isolation::ReadAtomic =>
+            "read atomic asks that who sees a transaction, or follows it in a session, sees all that it wrote; the order of reads in a transaction does not count\n",
+        Isolation::MonotonicAtomicView =>
+            "monotonic atomic view asks that a read sees all that was written by each transaction that an earlier read of its own one has seen\n",
+        Isolation::ReadCommitted =>
+            "read committed asks that nobody reads what was not committed, or what its writer overwrote\n",
+    }
+}
+
+/// The same of the level that is asked for by name; where none is, that is serializability in the
+/// order of stated moments.
+#[tactic(auto, unfolding(crate::specs::Report::rule_text))]
+fn rule_text(level: Option<Isolation>) -> &'static str
+    ensures rule { result.now ≡ rule_text level }
+{
+    match level {
+        None =>
+            "serializability asks for an order in which each transaction reads what was written last before it; sessions and stated moments keep their order\n",
+        Some(level) => level_asks(level),
+    }
+}
+
+/// Appends what a level asks for, above a part of which it is told why it has no order.
+fn put_rule(out: &mut Vec<u8>, level: Option<Isolation>, part: &ToldPart) -> Result<(), AllocError>
+    ensures put { OnOk result (out.new.items ≡ out.old.items ++ rule_above level part.now) }
+{
+    if part.why.len() == 0 {
+        Ok(())
+    } else {
+        put(out, rule_text(level).as_bytes())
+    }
+}
+
+/// The same above the first of these parts.
+fn put_first_rule(
+    out: &mut Vec<u8>,
+    level: Option<Isolation>,
+    parts: &[ToldPart],
+) -> Result<(), AllocError>
+    ensures put { OnOk result (out.new.items ≡ out.old.items ++ first_rule level parts.now) }
+{
+    match parts {
+        [] => Ok(()),
+        [first, ..] => put_rule(out, level, first),
+    }
+}
+
 /// How many of the parts have the code of this number.
 fn code_count(parts: &[ToldPart], number: usize) -> usize
     ensures count { result ≡ code_count parts.now number }
@@ -293,11 +357,18 @@ fn put_parts(out: &mut Vec<u8>, parts: &[ToldPart]) -> Result<(), AllocError>
 
 /// Appends the lines behind the first, where so many parts were asked for.
 #[tactic(auto, unfolding(crate::specs::Report::middle_text))]
-fn put_middle(out: &mut Vec<u8>, faults: usize, answer: &Answer) -> Result<(), AllocError>
-    ensures put { OnOk result (out.new.items ≡ out.old.items ++ middle_text faults answer.now) }
+fn put_middle(
+    out: &mut Vec<u8>,
+    faults: usize,
+    level: Option<Isolation>,
+    answer: &Answer,
+) -> Result<(), AllocError>
+    ensures put { OnOk result (out.new.items
+        ≡ out.old.items ++ middle_text faults level answer.now) }
 {
     match answer {
         Answer::NotSerializable(parts) => {
+            put_first_rule(out, level, parts)?;
             put_parts(out, parts)?;
             put_codes_where(out, faults, parts)
         }
@@ -422,6 +493,7 @@ fn put_broken(out: &mut Vec<u8>, part: &ToldPart) -> Result<(), AllocError>
     ensures put { OnOk result (out.new.items ≡ out.old.items ++ broken_text part.now) }
 {
     put(out, b"why snapshot isolation was not kept:\n")?;
+    put_rule(out, Some(Isolation::Snapshot), part)?;
     put_part(out, part)
 }
 
@@ -496,6 +568,7 @@ fn put_why_lowest(
     put(out, b"why ")?;
     put_title(out, level)?;
     put(out, b" was not kept:\n")?;
+    put_rule(out, level, part)?;
     put_part(out, part)
 }
 
@@ -653,7 +726,7 @@ fn put_behind_first(out: &mut Vec<u8>, faults: usize, told: &Told) -> Result<(),
     ensures put { OnOk result (out.new.items ≡ out.old.items ++ behind_first faults told.now) }
 {
     put_weaker(out, told)?;
-    put_middle(out, faults, &told.answer)?;
+    put_middle(out, faults, told.level, &told.answer)?;
     put_last(out, &told.shown)?;
     put_lowest(out, weakest_of(&told.lower), &told.lowest)?;
     put_counts(out, &told.totals, part_size(&told.answer))?;
