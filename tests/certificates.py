@@ -107,6 +107,8 @@ NO_BLAME = {True: 'a store that promises no strict level did nothing wrong: name
 OPEN_BLAME = 'a store that promises less may have done nothing wrong: name its level by --level'
 # What stands before what holds without moments, and before a last part, which breaks a weaker level.
 WITHOUT, WHY_NOT = 'without real time: ', 'why %s was not kept:'
+# What stands above what is told of a part: what its level asks for.
+RULE = re.compile('([a-z ]+) asks (?:for|that) .+')
 
 
 class Part:
@@ -136,6 +138,14 @@ class Part:
         told = [line[len('known as: '):] for line in why if line.startswith('known as: ')]
         must(not told or self.known_as in told, 'known as %r, and told as %r' % (self.known_as, told))
         must(self.code not in NAMES or self.known_as in (None, NAMES[self.code]), 'A %s known as %r' % (self.code, self.known_as))
+
+
+def rule_above(lines, level):
+    """Takes what this level asks for from the front of these, where it stands there; whether it does."""
+    rule = RULE.fullmatch(lines[0]) if lines else None
+    must(rule is None or rule[1] == level, 'what %s asks: %r' % (level, lines[:1]))
+    del lines[:bool(rule)]
+    return bool(rule)
 
 
 class Answer:
@@ -199,17 +209,22 @@ class Answer:
         if why not in middle:
             return None
         place = middle.index(why)
-        part = Part(*middle[place + 1:place + 3], middle[place + 3:])
+        told = middle[place + 1:]
         del middle[place:]
+        rule = rule_above(told, level)
+        part = Part(*told[:2], told[2:])
+        must(rule == bool(part.why), 'above the part of %s: %r' % (level, told))
         return part
 
     def refuted(self, middle, faults):
         self.below(middle)
+        rule = rule_above(middle, 'serializability')
         heads = [place for place, line in enumerate(middle) if HEADING.fullmatch(line)]
         must(heads[:1] == [0] and len(heads) <= faults, 'told of the parts: %r' % middle)
         while faults > 1 and re.fullmatch(r'(A[1-9]|no code) [1-9][0-9]*', middle[-1]):
             self.codes.insert(0, middle.pop())
         self.parts = [Part(middle[at], middle[at + 1], middle[at + 2:end]) for at, end in zip(heads, heads[1:] + [len(middle)])]
+        must(rule == bool(self.parts[0].why), 'above the first part: %r' % middle)
         told = self.parts + [part for part in (self.shown, self.weakest) if part is not None]
         must(len({(tuple(sorted(part.lines)), part.known_as) for part in told}) == len(told), 'a part is told twice')
         codes = sorted(part.code or 'no code' for part in self.parts)

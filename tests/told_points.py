@@ -12,7 +12,7 @@ import argparse, collections, concurrent.futures, itertools, json, os, random, r
 HERE = os.path.dirname(os.path.abspath(__file__))
 sys.path.insert(0, HERE)
 import generate, level_model, reference
-from certificates import Part, call, must
+from certificates import RULE, Part, call, must
 
 CASES, SEED, SHOWN = 600, 1, 20
 LANES = min(4, os.cpu_count())
@@ -315,6 +315,7 @@ def told(program, text, level):
         return set()
     must(error == '', error)
     lines = said.split('\n')
+    must(RULE.fullmatch(lines.pop(1)), 'no line says what the level asks for: %r' % said)
     names = set(re.findall(NAME + ' \\(lines', lines[2]))
     why = lines[3:next(at for at, line in enumerate(lines) if line.startswith('sessions '))]
     part = Part(*lines[1:3], why)

@@ -6,4 +6,5 @@ returns c =
     let old = c.args.out.now.items in
     let title = appended_twice old _ _ c.put.new.out.items c.put_title.new.out.items c.in_ok-put.ensures.put c.in_ok-put_title.ensures.put in
     let not_kept = appended_twice old _ _ c.put_title.new.out.items c.put-2.new.out.items title c.in_ok-put-2.ensures.put in
-    record { put = on_ok_weaker c.put_part.result (λ e. appended_twice old _ _ c.put-2.new.out.items c.put_part.new.out.items not_kept e) c.put_part.ensures.put }
+    let rule = appended_twice old _ _ c.put-2.new.out.items c.put_rule.new.out.items not_kept c.in_ok-put_rule.ensures.put in
+    record { put = on_ok_weaker c.put_part.result (λ e. appended_twice old _ _ c.put_rule.new.out.items c.put_part.new.out.items rule e) c.put_part.ensures.put }
