@@ -235,17 +235,17 @@ fn level_asks(level: Isolation) -> &'static str
         Isolation::StrictSnapshot =>
             "strict snapshot isolation asks that each transaction reads one state between commits, and that of two writers of a key one commits before the other's snapshot; sessions and stated moments keep their order\n",
         Isolation::Snapshot =>
-            "snapshot isolation asks that each transaction reads one state between commits, and that of two writers of a key one commits before the other's snapshot\n",
+            "snapshot isolation asks that each transaction reads one state between commits, and that of two writers of a key one commits before the other's snapshot; each session keeps its order\n",
         Isolation::Prefix =>
-            "prefix consistency asks that each transaction reads one state between commits\n",
+            "prefix consistency asks that each transaction reads one state between commits; each session keeps its order\n",
         Isolation::Causal =>
-            "causal consistency asks that who sees a transaction sees all that came before it by sessions and reads; the order of reads in a transaction does not count\n",
+            "causal consistency asks that who sees a transaction sees all that came before it by sessions and reads, or later versions; the order of reads in a transaction does not count\n",
         Isolation::ReadAtomic =>
-            "read atomic asks that who sees a transaction, or follows it in a session, sees all that it wrote; the order of reads in a transaction does not count\n",
+            "read atomic asks that who sees a transaction, or follows it in a session, sees all that it wrote or later versions; the order of reads in a transaction does not count\n",
         Isolation::MonotonicAtomicView =>
-            "monotonic atomic view asks that a read sees all that was written by each transaction that an earlier read of its own one has seen\n",
+            "monotonic atomic view asks that a transaction, from the read on by which it sees another one, sees all that this wrote or later versions\n",
         Isolation::ReadCommitted =>
-            "read committed asks that nobody reads what was not committed, or what its writer overwrote\n",
+            "read committed asks that each read sees its own transaction's last write, or the last one of a committed transaction; none comes before itself by sessions and reads\n",
     }
 }
 
