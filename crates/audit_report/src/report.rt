@@ -239,11 +239,11 @@ fn level_asks(level: Isolation) -> &'static str
         Isolation::Prefix =>
             "prefix consistency asks that each transaction reads one state between commits; each session keeps its order\n",
         Isolation::Causal =>
-            "causal consistency asks that who sees a transaction sees all that came before it by sessions and reads, or later versions; the order of reads in a transaction does not count\n",
+            "causal consistency asks that reads are of committed transactions, and that who sees one sees all that came before it by sessions and reads, or later versions; the order of reads in a transaction does not count\n",
         Isolation::ReadAtomic =>
-            "read atomic asks that who sees a transaction, or follows it in a session, sees all that it wrote or later versions; the order of reads in a transaction does not count\n",
+            "read atomic asks that reads are of committed transactions, and that who sees one, or follows it in a session, sees all that it wrote or later versions; the order of reads in a transaction does not count\n",
         Isolation::MonotonicAtomicView =>
-            "monotonic atomic view asks that a transaction, from the read on by which it sees another one, sees all that this wrote or later versions\n",
+            "monotonic atomic view asks that reads are of committed transactions, and that from the read on by which a transaction sees one it sees all that this one wrote or later versions\n",
         Isolation::ReadCommitted =>
             "read committed asks that each read sees its own transaction's last write, or the last one of a committed transaction; none comes before itself by sessions and reads\n",
     }
