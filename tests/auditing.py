@@ -416,12 +416,13 @@ def time_is_up(program, folder):
         maker = os.path.join(os.path.dirname(HERE), 'bench', 'long_log.py')
         subprocess.run([sys.executable, maker, log, '--transactions', str(count)], check=True)
         words = ['audit', '--no-moments', '--workers', '1', '--seconds', '1']
-        status, said, error = call(program, *words, log)
-        if status != 0:
+        text, of_json = call(program, *words, log), call(program, *words, '--format', 'json', log)
+        if text[0] != 0 and of_json[0] != 0:
             break
+    status, said, error = text
     must((status, error) == (3, '') and said.startswith('unknown: the time was up\n') and '\nmore --seconds may help\n' in said,
          'status %d, says %r, on standard error %r' % (status, said[:200], error))
-    status, said, error = call(program, *words, '--format', 'json', log)
+    status, said, error = of_json
     answer = json.loads(said)
     must((status, answer['verdict'], answer['reason']) == (3, 'unknown', 'the time was up'), 'JSON: status %d, says %r' % (status, said[:200]))
     os.remove(log)
