@@ -1,20 +1,10 @@
 -- A log has no anomaly exactly where it is clean.
-use Rattle.std.proofs.Common.{◌≡◌, ◌≢◌, ℕ, ◌<◌, ◌≤◌, Bool, true, false, eqb, not, ◌&&◌, cond, List, ◌∷◌, ◌++◌, Option, None, Some, refl, sym, ap, ◌∙◌, subst, inl, inr, arith, eqb-true, eq-eqb, ne_eqb, append_assoc}
-use Rattle.std.specs.Prelude.{is_some}
-use Rattle.std.specs.List.{find, list_any}
-use Rattle.std.specs.Option.{option_map, option_map_or}
-use Rattle.std.proofs.lemmas.Bool.{cases_eq, cases_order, cases_Bool, false≢true, and_parts, and_from, and_cases, not-false, not_from_false, false_from_ne_true}
-use Rattle.serializability.specs.declared.event.Event.{Event}
-use Rattle.serializability.specs.declared.event.Event.TheVariants.{Read, Write}
-use Rattle.serializability.specs.declared.anomaly.ReadAnomaly.{ReadAnomaly}
+use Rattle.anomaly_laws.proofs.Prelude.{◌≡◌, ◌≢◌, ℕ, ◌<◌, ◌≤◌, Bool, true, false, eqb, not, ◌&&◌, cond, List, ◌∷◌, ◌++◌, Option, None, Some, refl, sym, ap, ◌∙◌, subst, inl, inr, arith, eqb-true, eq-eqb, ne_eqb, append_assoc, is_some, find}
+use Rattle.anomaly_laws.proofs.Prelude.{list_any, option_map, option_map_or, cases_eq, cases_order, cases_Bool, false≢true, and_parts, and_from, and_cases, not-false, not_from_false, false_from_ne_true, Event, Read, Write, ReadAnomaly, Log}
+use Rattle.anomaly_laws.proofs.Prelude.{last_write, external_read, IsFinal, ReadsAfter, WritesAfter, IsNumbered, IsClean, committed, wrote, writer_of, source, writes_as, is_unknown, is_aborted, is_intermediate, is_other_read}
+use Rattle.anomaly_laws.proofs.Prelude.{external_anomaly, internal_anomaly, read_anomaly, updates, anomaly_of, Has, range-from_Has, any_found, any_from, external_read_split, external_read_some, wrote_is, wrote_from, SourceOf, source_is}
+use Rattle.anomaly_laws.proofs.Prelude.{writer_within, one_final, is_some_from, some_cases, none_not_some}
 use Rattle.serializability.specs.declared.anomaly.ReadAnomaly.TheVariants as read
-use Rattle.serializability.specs.Log.{Log}
-use Rattle.serializability.specs.Reads.{last_write, external_read, IsFinal, ReadsAfter, WritesAfter, IsNumbered, IsClean}
-use Rattle.serializability.specs.Polygraph.{committed, wrote, writer_of, source}
-use Rattle.serializability.specs.Anomalies.{writes_as, is_unknown, is_aborted, is_intermediate, is_other_read, external_anomaly, internal_anomaly, read_anomaly, updates, anomaly_of}
-use Rattle.serializability.proofs.Places.{Has}
-use Rattle.serializability.proofs.Sources.{range-from_Has, any_found, any_from, external_read_split, external_read_some, wrote_is, wrote_from, SourceOf, source_is, writer_within, one_final}
-use Rattle.serializability.proofs.Serial.{is_some_from, some_cases, none_not_some}
 use Rattle.anomaly_laws.proofs.Lists.{two_places}
 use Rattle.anomaly_laws.proofs.Writes.{writes_split, writes_behind, none_earlier, other_split, other_at, final_writes, final_apart}
 use Rattle.anomaly_laws.proofs.Tests.{written_nowhere, aborted_writes, intermediate_write}

@@ -1,20 +1,9 @@
 -- The anomalies of a log, as what holds of each read and of each two nodes.
-use Rattle.std.proofs.Common.{◌≡◌, ℕ, ◌+◌, ◌<◌, ◌≤◌, true, List, [], ◌∷◌, ◌++◌, length, Option, None, Some, refl, sym, ap, ◌∙◌, subst, arith, append_assoc}
-use Rattle.std.specs.Prelude.{map}
-use Rattle.std.specs.List.{AllByRecursion, filter, flat_map}
-use Rattle.std.specs.Option.{option_map, option_or}
-use Rattle.std.proofs.lemmas.List.{append-nil}
-use Rattle.serializability.specs.declared.event.Event.{Event}
-use Rattle.serializability.specs.declared.event.Event.TheVariants.{Read, Write}
-use Rattle.serializability.specs.declared.anomaly.Anomaly.{Anomaly}
+use Rattle.anomaly_laws.proofs.Prelude.{◌≡◌, ℕ, ◌+◌, ◌<◌, ◌≤◌, true, List, [], ◌∷◌, ◌++◌, length, Option, None, Some, refl, sym, ap, ◌∙◌, subst, arith, append_assoc, map, AllByRecursion, filter, flat_map, option_map, option_or, append-nil}
+use Rattle.anomaly_laws.proofs.Prelude.{Event, Read, Write, Anomaly, ReadAnomaly, Log, last_write, all_nodes, all_keys, committed, read_anomaly, Place, places_from, places, anomaly_at, first_some, updates, lost_update, lost_updates}
+use Rattle.anomaly_laws.proofs.Prelude.{anomaly_of, each_of_range, each_from_range, each_of_flat_map, each_from_flat_map, each_of_map, each_from_map}
 use Rattle.serializability.specs.declared.anomaly.Anomaly.TheVariants as anomaly
-use Rattle.serializability.specs.declared.anomaly.ReadAnomaly.{ReadAnomaly}
-use Rattle.serializability.specs.Log.{Log}
-use Rattle.serializability.specs.Reads.{last_write}
-use Rattle.serializability.specs.Polygraph.{all_nodes, all_keys, committed}
 use Rattle.serializability.specs.Pairs.{pairs_of}
-use Rattle.serializability.specs.Anomalies.{read_anomaly, Place, places_from, places, anomaly_at, first_some, updates, lost_update, lost_updates, anomaly_of}
-use Rattle.serializability.proofs.Places.{each_of_range, each_from_range, each_of_flat_map, each_from_flat_map, each_of_map, each_from_map}
 use Rattle.serializability.proofs.EachPair.{each_pair_from, each_pair_of}
 
 -- no read is an anomaly

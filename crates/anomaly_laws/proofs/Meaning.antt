@@ -1,22 +1,9 @@
 -- What the reported anomaly says of its read, or of its two nodes.
-use Rattle.std.proofs.Common.{◌≡◌, ◌≢◌, ◌⊎◌, ℕ, ◌+◌, ◌<◌, ◌≤◌, Bool, true, false, eqb, cond, List, [], ◌∷◌, ◌++◌, length, Option, None, Some, refl, sym, ap, ◌∙◌, subst, inl, inr, arith}
-use Rattle.std.specs.Prelude.{map, is_some}
-use Rattle.std.specs.List.{AllByRecursion, list_any}
-use Rattle.std.specs.Option.{option_map, option_map_or}
-use Rattle.std.proofs.lemmas.Bool.{and_parts, eqb-false}
-use Rattle.serializability.specs.declared.event.Event.{Event}
-use Rattle.serializability.specs.declared.event.Event.TheVariants.{Read, Write}
-use Rattle.serializability.specs.declared.anomaly.Anomaly.{Anomaly}
+use Rattle.anomaly_laws.proofs.Prelude.{◌≡◌, ◌≢◌, ◌⊎◌, ℕ, ◌+◌, ◌<◌, ◌≤◌, Bool, true, false, eqb, cond, List, [], ◌∷◌, ◌++◌, length, Option, None, Some, refl, sym, ap, ◌∙◌, subst, inl, inr, arith, map, is_some, AllByRecursion, list_any}
+use Rattle.anomaly_laws.proofs.Prelude.{option_map, option_map_or, and_parts, eqb-false, Event, Read, Write, Anomaly, ReadAnomaly, Unknown, Aborted, Intermediate, OwnWriteMissed, Future, Split, Log, last_write, source, writes_as}
+use Rattle.anomaly_laws.proofs.Prelude.{is_unknown, is_aborted, is_intermediate, is_other_read, external_anomaly, read_anomaly, places_from, places, anomaly_at, first_some, updates, lost_update, lost_updates, anomaly_of, wrote_is}
+use Rattle.anomaly_laws.proofs.Prelude.{some_cases, none_not_some, ReadAt, IsExternal, IsUnknownRead, IsAbortedRead, IsIntermediateRead, IsOwnWriteMissed, IsFutureRead, IsSplitRead, IsNoAnomaly, IsUpdate}
 use Rattle.serializability.specs.declared.anomaly.Anomaly.TheVariants as anomaly
-use Rattle.serializability.specs.declared.anomaly.ReadAnomaly.{ReadAnomaly}
-use Rattle.serializability.specs.declared.anomaly.ReadAnomaly.TheVariants.{Unknown, Aborted, Intermediate, OwnWriteMissed, Future, Split}
-use Rattle.serializability.specs.Log.{Log}
-use Rattle.serializability.specs.Reads.{last_write}
-use Rattle.serializability.specs.Polygraph.{source}
-use Rattle.serializability.specs.Anomalies.{writes_as, is_unknown, is_aborted, is_intermediate, is_other_read, external_anomaly, read_anomaly, places_from, places, anomaly_at, first_some, updates, lost_update, lost_updates, anomaly_of}
-use Rattle.serializability.proofs.Sources.{wrote_is}
-use Rattle.serializability.proofs.Serial.{some_cases, none_not_some}
-use Rattle.anomaly_laws.specs.Meaning.{ReadAt, IsExternal, IsUnknownRead, IsAbortedRead, IsIntermediateRead, IsOwnWriteMissed, IsFutureRead, IsSplitRead, IsNoAnomaly, IsUpdate}
 use Rattle.anomaly_laws.proofs.Lists.{contains_at}
 use Rattle.anomaly_laws.proofs.Writes.{writes_split, other_split}
 use Rattle.anomaly_laws.proofs.Tests.{written_nowhere, aborted_writes, intermediate_write}

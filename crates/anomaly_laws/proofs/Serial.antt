@@ -1,16 +1,9 @@
 -- A log with a serial order is clean.
-use Rattle.std.proofs.Common.{◌≡◌, ◌≢◌, ◌⊎◌, ℕ, ◌<◌, ◌≤◌, List, ◌∷◌, ◌++◌, Option, None, Some, refl, sym, ap, ◌∙◌, subst, inl, inr, arith, unwrap_or, append_assoc}
-use Rattle.std.specs.List.{flat_map}
+use Rattle.anomaly_laws.proofs.Prelude.{◌≡◌, ◌≢◌, ◌⊎◌, ℕ, ◌<◌, ◌≤◌, List, ◌∷◌, ◌++◌, Option, None, Some, refl, sym, ap, ◌∙◌, subst, inl, inr, arith, unwrap_or, append_assoc, flat_map, Event, Anomaly, Log, later, last_write, IsFinal}
+use Rattle.anomaly_laws.proofs.Prelude.{ReadsAfter, IsNumbered, IsClean, anomaly_of, Has, Apart, Has-from_Contains, Apart-from_IsDistinct, Has-append_front, Has-append_back, Has-append_cases, Apart-not_both, Has-split, after_is}
+use Rattle.anomaly_laws.proofs.Prelude.{last_write-append, Meets_read, Meets_node, last_writer, node_of, some_cases}
 use Rattle.std.proofs.lemmas.List.Concat.{flat_map-append}
-use Rattle.serializability.specs.declared.event.Event.{Event}
-use Rattle.serializability.specs.declared.anomaly.Anomaly.{Anomaly}
-use Rattle.serializability.specs.Log.{Log}
 use Rattle.serializability.specs.Replay.{after, empty, Meets, IsSerial}
-use Rattle.serializability.specs.Reads.{later, last_write, IsFinal, ReadsAfter, IsNumbered, IsClean}
-use Rattle.serializability.specs.Anomalies.{anomaly_of}
-use Rattle.serializability.proofs.Places.{Has, Apart, Has-from_Contains, Apart-from_IsDistinct, Has-append_front, Has-append_back, Has-append_cases, Apart-not_both, Has-split}
-use Rattle.serializability.proofs.Replays.{after_is, last_write-append, Meets_read, Meets_node, last_writer}
-use Rattle.serializability.proofs.Serial.{node_of, some_cases}
 use Rattle.anomaly_laws.proofs.Writes.{final_writes, final_apart}
 use Rattle.anomaly_laws.proofs.Clean.{none_from_clean}
 

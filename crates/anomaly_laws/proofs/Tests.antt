@@ -1,17 +1,7 @@
 -- What the tests of an identity that is read mean.
-use Rattle.std.proofs.Common.{◌≡◌, ℕ, true, false, eqb, not, ◌&&◌, Some, sym, ap, ◌∙◌, arith}
-use Rattle.std.specs.List.{list_any}
-use Rattle.std.specs.Option.{option_map_or}
-use Rattle.std.proofs.lemmas.Bool.{false≢true, and_parts, not-true, eqb-false}
-use Rattle.std.proofs.lemmas.List.Folds.{list_any-from_Any}
-use Rattle.serializability.specs.declared.event.Event.TheVariants.{Write}
-use Rattle.serializability.specs.Log.{Log}
-use Rattle.serializability.specs.Reads.{last_write}
-use Rattle.serializability.specs.Polygraph.{committed}
-use Rattle.serializability.specs.Anomalies.{is_write_of, writes_as, is_unknown, is_aborted, is_intermediate}
-use Rattle.serializability.proofs.Sources.{Has-from_range, range-from_Has, any_found, any_from, wrote_from, is_write-self}
+use Rattle.anomaly_laws.proofs.Prelude.{◌≡◌, ℕ, true, false, eqb, not, ◌&&◌, Some, sym, ap, ◌∙◌, arith, list_any, option_map_or, false≢true, and_parts, not-true, eqb-false, list_any-from_Any, Write, Log, last_write, committed, is_write_of}
+use Rattle.anomaly_laws.proofs.Prelude.{writes_as, is_unknown, is_aborted, is_intermediate, Has-from_range, range-from_Has, any_found, any_from, wrote_from, is_write-self, IsWrittenNowhere, IsIntermediateWrite}
 use Rattle.anomaly_laws.specs.Aborted.{WritesAborted}
-use Rattle.anomaly_laws.specs.Meaning.{IsWrittenNowhere, IsIntermediateWrite}
 use Rattle.anomaly_laws.proofs.Lists.{any_split, contains_at}
 use Rattle.anomaly_laws.proofs.Writes.{writes_split, writes_at, some_last_write}
 

@@ -1,16 +1,7 @@
 -- Writes and reads among the operations of a transaction.
-use Rattle.std.proofs.Common.{◌≡◌, ◌≢◌, ◌⊎◌, ℕ, ◌<◌, ◌≤◌, Bool, true, false, eqb, cond, not, List, [], ◌∷◌, ◌++◌, Option, None, Some, refl, sym, ap, ◌∙◌, inl, inr, arith, eqb-true, eq-eqb, ne_eqb}
-use Rattle.std.specs.List.{list_any}
-use Rattle.std.proofs.lemmas.Bool.{false≢true, and_parts, and_from, and_left, or_from, or_left, or_right, or_cases, not-true, not_from_false, eqb-false}
-use Rattle.std.proofs.lemmas.List.Folds.{list_any-append}
-use Rattle.serializability.specs.declared.event.Event.{Event}
-use Rattle.serializability.specs.declared.event.Event.TheVariants.{Read, Write}
-use Rattle.serializability.specs.Log.{Log}
-use Rattle.serializability.specs.Reads.{later, last_write, IsFinal, WritesAfter, IsNumbered}
-use Rattle.serializability.specs.Anomalies.{is_write_of, writes_as, is_other_read}
-use Rattle.serializability.proofs.Replays.{last_write-append}
-use Rattle.serializability.proofs.Serial.{some_cases}
-use Rattle.serializability.proofs.Sources.{later_none_parts, is_write, is_write-self}
+use Rattle.anomaly_laws.proofs.Prelude.{◌≡◌, ◌≢◌, ◌⊎◌, ℕ, ◌<◌, ◌≤◌, Bool, true, false, eqb, cond, not, List, [], ◌∷◌, ◌++◌, Option, None, Some, refl, sym, ap, ◌∙◌, inl, inr, arith, eqb-true, eq-eqb, ne_eqb, list_any, false≢true, and_parts}
+use Rattle.anomaly_laws.proofs.Prelude.{and_from, and_left, or_from, or_left, or_right, or_cases, not-true, not_from_false, eqb-false, list_any-append, Event, Read, Write, Log, later, last_write, IsFinal, WritesAfter, IsNumbered}
+use Rattle.anomaly_laws.proofs.Prelude.{is_write_of, writes_as, is_other_read, last_write-append, some_cases, later_none_parts, is_write, is_write-self}
 use Rattle.anomaly_laws.proofs.Lists.{any_split, any_at}
 
 -- ---- the later of two

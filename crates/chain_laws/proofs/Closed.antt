@@ -1,14 +1,7 @@
 -- Chains that close on themselves.
-use Rattle.std.proofs.Common.{◌≡◌, ℕ, ◌<◌, ◌≤◌, List, [], ◌∷◌, ◌++◌, length, Some, refl, sym, ap, ◌∙◌, subst, arith, length-append}
-use Rattle.std.specs.List.{Contains}
-use Rattle.serializability.specs.Log.{Log}
-use Rattle.serializability.specs.Reads.{IsClean}
-use Rattle.serializability.specs.Polygraph.{arcs, source}
-use Rattle.serializability.proofs.Sources.{source_is, reads_from_source}
-use Rattle.serializability.proofs.Serial.{each_of_arcs, arc_from_read, source_within}
+use Rattle.chain_laws.proofs.Prelude.{◌≡◌, ℕ, ◌<◌, ◌≤◌, List, [], ◌∷◌, ◌++◌, length, Some, refl, sym, ap, ◌∙◌, subst, arith, length-append, Contains, Log, IsClean, arcs, source, source_is, reads_from_source, each_of_arcs, arc_from_read}
+use Rattle.chain_laws.proofs.Prelude.{source_within, each_from_contained, IsLinked, last, IsClosedChain}
 use Rattle.reach_laws.specs.Reach.{Walk, IsCyclic, IsCycle}
-use Rattle.reach_laws.proofs.Walks.{each_from_contained}
-use Rattle.chain_laws.specs.Chains.{IsLinked, last, IsClosedChain}
 use Rattle.chain_laws.proofs.Walks.{IsNext}
 
 -- one writer or more behind u, of which the last is w

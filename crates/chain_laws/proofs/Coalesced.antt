@@ -1,20 +1,10 @@
 -- An order fits the chains of a clean history exactly when it fits its bipaths.
-use Rattle.std.proofs.Common.{◌≡◌, ◌≢◌, ◌⊎◌, ℕ, zero, suc, ◌+◌, ◌<◌, ◌≤◌, true, eqb, not, List, [], ◌∷◌, ◌++◌, Option, None, Some, refl, sym, ap, ◌∙◌, subst, inl, inr, arith, ne_eqb}
-use Rattle.std.specs.Prelude.{is_some, map}
-use Rattle.std.specs.List.{filter, flat_map, AllByRecursion}
-use Rattle.std.proofs.lemmas.Bool.{cases_eq, cases_order, and_parts, not-true, not_from_false, eqb-false}
-use Rattle.serializability.specs.Log.{Log}
-use Rattle.serializability.specs.Replay.{Before}
-use Rattle.serializability.specs.Reads.{last_write, IsClean}
-use Rattle.std.specs.Option.{option_map_or}
-use Rattle.list_lemmas.proofs.Options.{none_of}
-use Rattle.serializability.specs.Polygraph.{Edge, Keeps, KeepsOne, Fits, arcs, bipath_polygraph, all_nodes, committed, all_keys, source}
-use Rattle.serializability.proofs.Places.{each_of_range, each_from_range, each_of_append, each_from_append, each_of_flat_map, each_from_flat_map, each_of_map, each_from_map, each_of_filter, each_from_filter}
-use Rattle.serializability.proofs.Sources.{source_is, wrote_is, wrote_from}
-use Rattle.serializability.proofs.Serial.{KeepsBipaths, arcs_kept, bipaths_kept, keeps_bipaths, rival_from, rival_is, source_within, some_cases, none_not_some, zero_first}
+use Rattle.chain_laws.proofs.Prelude.{◌≡◌, ◌≢◌, ◌⊎◌, ℕ, zero, suc, ◌+◌, ◌<◌, ◌≤◌, true, eqb, not, List, [], ◌∷◌, ◌++◌, Option, None, Some, refl, sym, ap, ◌∙◌, subst, inl, inr, arith, ne_eqb, is_some, map, filter, flat_map, AllByRecursion}
+use Rattle.chain_laws.proofs.Prelude.{cases_eq, cases_order, and_parts, not-true, not_from_false, eqb-false, Log, Before, last_write, IsClean, option_map_or, none_of, Edge, Keeps, KeepsOne, Fits, arcs, bipath_polygraph, all_nodes}
+use Rattle.chain_laws.proofs.Prelude.{committed, all_keys, source, each_of_range, each_from_range, each_of_append, each_from_append, each_of_flat_map, each_from_flat_map, each_of_map, each_from_map, each_of_filter, each_from_filter}
+use Rattle.chain_laws.proofs.Prelude.{source_is, wrote_is, wrote_from, KeepsBipaths, arcs_kept, bipaths_kept, keeps_bipaths, rival_from, rival_is, source_within, some_cases, none_not_some, zero_first, writes, reads_key, readers, next}
+use Rattle.chain_laws.proofs.Prelude.{tail_from, tail, is_head, heads, inner_at, inner_edges, edges_to, chain_first, initial_first, chain_choice, chain_choices, chain_polygraph, at, places_apart}
 use Rattle.serializability.specs.Pairs.{pairs_of}
-use Rattle.chain_laws.specs.Chains.{writes, reads_key, readers, next, tail_from, tail, is_head, heads, inner_at, inner_edges, edges_to, chain_first, initial_first, chain_choice, chain_choices, chain_polygraph}
-use Rattle.serializability.proofs.Once.{at, places_apart}
 use Rattle.serializability.proofs.EachPair.{each_pair_from, each_pair_of}
 use Rattle.chain_laws.proofs.Walks.{next_is, Setting, reader_behind, next_behind, tail_next, tail_none, tail_behind, Steps, one_step, followed, Head, head_of}
 

@@ -1,3 +1,4 @@
+mod Prelude
 pub mod Walks
 pub mod Coalesced
 pub mod Maximal

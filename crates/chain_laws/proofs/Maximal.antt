@@ -1,16 +1,7 @@
 -- Heads and tails are those of maximal lists of writers.
-use Rattle.std.proofs.Common.{◌≡◌, ◌⊎◌, ℕ, zero, suc, ◌+◌, ◌<◌, ◌≤◌, true, false, eqb, List, [], ◌∷◌, length, None, Some, refl, sym, ap, ◌∙◌, subst, inl, inr, arith, eqb-true, ne_eqb}
-use Rattle.std.specs.Prelude.{nat_eq, is_some}
-use Rattle.std.specs.List.{list_any, Contains, AllByRecursion, IsDistinct}
-use Rattle.std.proofs.lemmas.Bool.{false≢true, or_cases, and_from, not_from_false}
-use Rattle.std.proofs.lemmas.Map.Steps.{length-le_from_distinct_below}
-use Rattle.serializability.specs.Log.{Log}
-use Rattle.serializability.specs.Reads.{IsClean}
-use Rattle.serializability.specs.Polygraph.{committed, source}
-use Rattle.serializability.proofs.Places.{each_of_filter, each_from_filter, each_of_range, each_from_range}
-use Rattle.serializability.proofs.Serial.{some_cases}
-use Rattle.reach_laws.proofs.Walks.{each_contained, each_from_contained}
-use Rattle.chain_laws.specs.Chains.{writes, next, tail_from, tail, is_head, heads, IsWriter, IsLinked, last, IsChain, NoneCloses}
+use Rattle.chain_laws.proofs.Prelude.{◌≡◌, ◌⊎◌, ℕ, zero, suc, ◌+◌, ◌<◌, ◌≤◌, true, false, eqb, List, [], ◌∷◌, length, None, Some, refl, sym, ap, ◌∙◌, subst, inl, inr, arith, eqb-true, ne_eqb, nat_eq, is_some, list_any, Contains}
+use Rattle.chain_laws.proofs.Prelude.{AllByRecursion, IsDistinct, false≢true, or_cases, and_from, not_from_false, length-le_from_distinct_below, Log, IsClean, committed, source, each_of_filter, each_from_filter, each_of_range}
+use Rattle.chain_laws.proofs.Prelude.{each_from_range, some_cases, each_contained, each_from_contained, writes, next, tail_from, tail, is_head, heads, IsWriter, IsLinked, last, IsChain, NoneCloses}
 use Rattle.chain_laws.proofs.Closed.{Leads, leads_once, leads_on, closed_from}
 use Rattle.chain_laws.proofs.Walks.{IsNext, next_is, next_from, no_next, step_some, step_none, Head}
 use Rattle.chain_laws.proofs.Coalesced.{head_parts}

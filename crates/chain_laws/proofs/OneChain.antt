@@ -1,15 +1,6 @@
 -- Each writer of a key is in exactly one of its chains.
-use Rattle.std.proofs.Common.{◌≡◌, ◌⊎◌, ℕ, zero, suc, ◌+◌, ◌<◌, ◌≤◌, true, false, List, [], ◌∷◌, ◌++◌, length, None, Some, refl, sym, ap, ◌∙◌, subst, inl, inr, arith, ne_eqb}
-use Rattle.std.specs.Prelude.{nat_eq, is_some}
-use Rattle.std.specs.List.{Contains, AllByRecursion, IsDistinct}
-use Rattle.std.proofs.lemmas.Map.Steps.{length-le_from_distinct_below}
-use Rattle.serializability.specs.Log.{Log}
-use Rattle.serializability.specs.Reads.{IsClean}
-use Rattle.serializability.specs.Polygraph.{source}
-use Rattle.serializability.proofs.Places.{Has, Has-from_Contains, Contains-from_Has}
-use Rattle.serializability.proofs.Sources.{source_is}
-use Rattle.serializability.proofs.Serial.{some_cases, source_within}
-use Rattle.chain_laws.specs.Chains.{writes, IsWriter, IsLinked, last, IsChain, NoneCloses}
+use Rattle.chain_laws.proofs.Prelude.{◌≡◌, ◌⊎◌, ℕ, zero, suc, ◌+◌, ◌<◌, ◌≤◌, true, false, List, [], ◌∷◌, ◌++◌, length, None, Some, refl, sym, ap, ◌∙◌, subst, inl, inr, arith, ne_eqb, nat_eq, is_some, Contains, AllByRecursion, IsDistinct}
+use Rattle.chain_laws.proofs.Prelude.{length-le_from_distinct_below, Log, IsClean, source, Has, Has-from_Contains, Contains-from_Has, source_is, some_cases, source_within, writes, IsWriter, IsLinked, last, IsChain, NoneCloses}
 use Rattle.chain_laws.proofs.Walks.{IsNext, one_next, some_one}
 use Rattle.chain_laws.proofs.Closed.{Leads, leads_once, leads_from, last_push, linked_push, closed_from}
 use Rattle.chain_laws.proofs.Maximal.{alone, cons_apart, below_all, made, writer_within}

@@ -1,17 +1,7 @@
 -- Walks along the chains of a key, in an order that keeps the arcs.
-use Rattle.std.proofs.Common.{◌≡◌, ◌⊎◌, ℕ, zero, suc, ◌+◌, ◌<◌, ◌≤◌, true, ◌&&◌, List, Option, None, Some, refl, sym, ap, ◌∙◌, subst, inl, inr, arith}
-use Rattle.std.specs.Prelude.{is_some}
-use Rattle.std.specs.Option.{option_map_or}
-use Rattle.std.proofs.lemmas.Bool.{cases_eq, cases_lt, false≢true, and_parts, and_from, not_from_false}
-use Rattle.list_lemmas.proofs.Options.{some_of}
-use Rattle.serializability.specs.Log.{Log}
-use Rattle.serializability.specs.Replay.{ListsOnce}
-use Rattle.serializability.specs.Reads.{last_write, ReadsAfter, IsClean}
-use Rattle.serializability.specs.Polygraph.{committed, source}
-use Rattle.serializability.proofs.Sources.{source_is, reads_from_source, find_some, find_none, wrote_is, wrote_from, Has-from_range, range-from_Has, one_final}
-use Rattle.serializability.proofs.Serial.{KeepsArcs, arc_from_read, source_within, some_cases}
-use Rattle.chain_laws.specs.Chains.{writes, reads_key, next, tail_from, tail, is_head}
-use Rattle.serializability.proofs.Once.{at, place_within}
+use Rattle.chain_laws.proofs.Prelude.{◌≡◌, ◌⊎◌, ℕ, zero, suc, ◌+◌, ◌<◌, ◌≤◌, true, ◌&&◌, List, Option, None, Some, refl, sym, ap, ◌∙◌, subst, inl, inr, arith, is_some, option_map_or, cases_eq, cases_lt, false≢true, and_parts, and_from}
+use Rattle.chain_laws.proofs.Prelude.{not_from_false, some_of, Log, ListsOnce, last_write, ReadsAfter, IsClean, committed, source, source_is, reads_from_source, find_some, find_none, wrote_is, wrote_from, Has-from_range, range-from_Has}
+use Rattle.chain_laws.proofs.Prelude.{one_final, KeepsArcs, arc_from_read, source_within, some_cases, writes, reads_key, next, tail_from, tail, is_head, at, place_within}
 
 -- ---- the next of a chain
 pub record IsNext (log : Log) (x w v : ℕ) : Type 0 where

@@ -1,24 +1,12 @@
 -- An order that fits keeps the cube of some node that is neither split nor refuted; and what solves a node fits.
-use Rattle.std.proofs.Common.{◌≡◌, ◌⊎◌, ℕ, suc, ◌<◌, Bool, true, false, cond, ◌||◌, not, List, [], ◌∷◌, ◌++◌, length, Option, None, Some, refl, sym, ap, ◌∙◌, subst, inl, inr}
-use Rattle.std.specs.Prelude.{slice_get, slice_set, slice_index}
-use Rattle.std.proofs.lemmas.Bool.{false≢true, cases_eq, and_parts, not-true}
-use Rattle.list_lemmas.proofs.Elements.{get_put}
-use Rattle.serializability.specs.Polygraph.{Choice, Polygraph, KeepsOne, Fits}
+use Rattle.cube_laws.proofs.Prelude.{◌≡◌, ◌⊎◌, ℕ, suc, ◌<◌, Bool, true, false, cond, ◌||◌, not, List, [], ◌∷◌, ◌++◌, length, Option, None, Some, refl, sym, ap, ◌∙◌, subst, inl, inr, slice_get, slice_set, slice_index, false≢true, cases_eq}
+use Rattle.cube_laws.proofs.Prelude.{and_parts, not-true, get_put, Choice, Polygraph, KeepsOne, Fits, One, Two, Entry, IsLegal, replay, Cube, edges_under, Node, State, root, is_open, is_solved, is_held, has_solved, has_live, is_finished}
+use Rattle.cube_laws.proofs.Prelude.{is_exhausted, node_held, is_cycle, is_solution, cube_at, child, solve_reply, next_of, reply_of, CubeState, Open, Held, Split as Divided, Refuted, Solved as Ended, CubeEvent, Claim, TakeAny, Refute}
+use Rattle.cube_laws.proofs.Prelude.{Solve, Release, CubeReply, Finished, NoCube, BadOrder, SolvesRightly, EachSolvesRightly}
 use Rattle.reach_laws.proofs.Walks.{no_cycle_kept}
 use Rattle.known_graph.proofs.Tested.{walk_of}
-use Rattle.pruning_laws.specs.declared.side.Side.TheVariants.{One, Two}
-use Rattle.desk.specs.declared.history.Entry.{Entry}
-use Rattle.desk.specs.History.{IsLegal, replay}
-use Rattle.cube_laws.specs.Cubes.{Cube, edges_under}
-use Rattle.cube_laws.specs.State.{Node, State, root}
-use Rattle.cube_laws.specs.Steps.{is_open, is_solved, is_held, has_solved, has_live, is_finished, is_exhausted, node_held, is_cycle, is_solution, cube_at, child, solve_reply, next_of, reply_of}
-use Rattle.cube_laws.specs.declared.messages.CubeState.{CubeState}
-use Rattle.cube_laws.specs.declared.messages.CubeState.TheVariants.{Open, Held, Split as Divided, Refuted, Solved as Ended}
-use Rattle.cube_laws.specs.declared.messages.CubeEvent.{CubeEvent}
-use Rattle.cube_laws.specs.declared.messages.CubeEvent.TheVariants.{Claim, TakeAny, Split, Refute, Solve, Release}
-use Rattle.cube_laws.specs.declared.messages.CubeReply.{CubeReply}
-use Rattle.cube_laws.specs.declared.messages.CubeReply.TheVariants.{Finished, NoCube, BadOrder, Solved}
-use Rattle.cube_laws.specs.Runs.{SolvesRightly, EachSolvesRightly}
+use Rattle.cube_laws.specs.declared.messages.CubeEvent.TheVariants.{Split}
+use Rattle.cube_laws.specs.declared.messages.CubeReply.TheVariants.{Solved}
 use Rattle.cube_laws.proofs.Nodes.{one_value, get_other, get_front, get_first, get_second, get_below, each_at, any_at}
 use Rattle.cube_laws.proofs.Ways.{marked, ways}
 use Rattle.cube_laws.proofs.Grown.{Grown, grown_next, splits_of}

@@ -1,22 +1,8 @@
 -- Each node is closed at most once, and each closing is counted.
-use Rattle.std.proofs.Common.{◌≡◌, ℕ, ◌+◌, Bool, true, false, cond, List, [], ◌∷◌, ◌++◌, length, Option, None, Some, refl, sym, ap, ◌∙◌, subst, inl, inr, arith, length-append}
-use Rattle.std.specs.Prelude.{slice_get, slice_set, nat_eq}
-use Rattle.std.specs.List.{IsDistinct}
-use Rattle.std.proofs.lemmas.Bool.{false≢true, cases_eq}
-use Rattle.list_lemmas.proofs.Elements.{get_put}
-use Rattle.serializability.proofs.Places.{Has, Apart, Has-append_cases, Apart-append}
-use Rattle.serializability.proofs.Listed.{IsDistinct-from_Apart}
-use Rattle.pruning_laws.specs.declared.side.Side.TheVariants.{One, Two}
-use Rattle.desk.specs.declared.history.Entry.{Entry}
-use Rattle.desk.specs.History.{IsLegal, replay}
-use Rattle.cube_laws.specs.State.{Node, State}
-use Rattle.cube_laws.specs.Steps.{is_open, is_held_by, node_held, child, next_of, reply_of}
-use Rattle.cube_laws.specs.declared.messages.CubeState.{CubeState}
-use Rattle.cube_laws.specs.declared.messages.CubeState.TheVariants.{Open, Held, Split as Divided, Refuted, Solved as Ended}
-use Rattle.cube_laws.specs.declared.messages.CubeEvent.{CubeEvent}
-use Rattle.cube_laws.specs.declared.messages.CubeReply.{CubeReply}
-use Rattle.cube_laws.specs.declared.messages.CubeReply.TheVariants.{Cube as Given, Children, Closed, Solved, Released}
-use Rattle.cube_laws.specs.Runs.{is_closing, as_list, closings}
+use Rattle.cube_laws.proofs.Prelude.{◌≡◌, ℕ, ◌+◌, Bool, true, false, cond, List, [], ◌∷◌, ◌++◌, length, Option, None, Some, refl, sym, ap, ◌∙◌, subst, inl, inr, arith, length-append, slice_get, slice_set, nat_eq, IsDistinct, false≢true}
+use Rattle.cube_laws.proofs.Prelude.{cases_eq, get_put, Has, Apart, Has-append_cases, Apart-append, IsDistinct-from_Apart, One, Two, Entry, IsLegal, replay, Node, State, is_open, is_held_by, node_held, child, next_of, reply_of, CubeState}
+use Rattle.cube_laws.proofs.Prelude.{Open, Held, Split as Divided, Refuted, Solved as Ended, CubeEvent, CubeReply, Children, Closed, Released, is_closing, as_list, closings}
+use Rattle.cube_laws.specs.declared.messages.CubeReply.TheVariants.{Cube as Given, Solved}
 use Rattle.cube_laws.proofs.Nodes.{Marked, one_value, get_other, get_front}
 use Rattle.cube_laws.proofs.Ways.{marked, noted, counted, divided, ways, held_node}
 

@@ -1,25 +1,12 @@
 -- The closed nodes are as many as are counted, and the solved ones were solved by steps.
-use Rattle.std.proofs.Common.{◌≡◌, ℕ, zero, suc, ◌+◌, ◌-◌, ◌^◌, ◌<◌, ◌≤◌, Bool, true, false, cond, ◌||◌, List, [], ◌∷◌, ◌++◌, length, Option, None, Some, refl, sym, ap, ◌∙◌, inl, inr, arith}
-use Rattle.std.specs.Prelude.{slice_get, slice_set}
-use Rattle.std.specs.List.{list_any}
+use Rattle.cube_laws.proofs.Prelude.{◌≡◌, ℕ, zero, suc, ◌+◌, ◌-◌, ◌^◌, ◌<◌, ◌≤◌, Bool, true, false, cond, ◌||◌, List, [], ◌∷◌, ◌++◌, length, Option, None, Some, refl, sym, ap, ◌∙◌, inl, inr, arith, slice_get, slice_set, list_any}
+use Rattle.cube_laws.proofs.Prelude.{false≢true, or_cases, same_Some, Polygraph, One, Two, Entry, IsLegal, replay, Node, State, opening_state, is_open, is_solved, is_held, has_solved, has_live, node_held, last_open, is_open_at, is_finished}
+use Rattle.cube_laws.proofs.Prelude.{cube_at, can_split, is_cycle, child, claim_reply, any_reply, split_reply, refute_reply, next_of, reply_of, CubeState, Open, Held, Split as Divided, Refuted, Solved as Ended, CubeEvent, Claim, TakeAny}
+use Rattle.cube_laws.proofs.Prelude.{Refute, Solve, Release, CubeReply, Finished, HasCube, NotOpen, NoneNow, NoCube, BadChoice, Children, BadCycle, Closed, BadOrder, Released, edges_under, is_closing, is_solving, solves}
 use Rattle.std.proofs.Math.Bool.{or-false, or-true, or_assoc}
-use Rattle.std.proofs.lemmas.Bool.{false≢true, or_cases}
 use Rattle.std.proofs.lemmas.List.Folds.{list_any-append}
-use Rattle.std.proofs.lemmas.Option.{same_Some}
-use Rattle.serializability.specs.Polygraph.{Polygraph}
-use Rattle.pruning_laws.specs.declared.side.Side.TheVariants.{One, Two}
-use Rattle.desk.specs.declared.history.Entry.{Entry}
-use Rattle.desk.specs.History.{IsLegal, replay}
-use Rattle.cube_laws.specs.State.{Node, State, opening_state}
-use Rattle.cube_laws.specs.Steps.{is_open, is_solved, is_held, has_solved, has_live, node_held, last_open, is_open_at, is_finished, cube_at, can_split, is_cycle, child, claim_reply, any_reply, split_reply, refute_reply, next_of, reply_of}
-use Rattle.cube_laws.specs.declared.messages.CubeState.{CubeState}
-use Rattle.cube_laws.specs.declared.messages.CubeState.TheVariants.{Open, Held, Split as Divided, Refuted, Solved as Ended}
-use Rattle.cube_laws.specs.declared.messages.CubeEvent.{CubeEvent}
-use Rattle.cube_laws.specs.declared.messages.CubeEvent.TheVariants.{Claim, TakeAny, Split, Refute, Solve, Release}
-use Rattle.cube_laws.specs.declared.messages.CubeReply.{CubeReply}
-use Rattle.cube_laws.specs.declared.messages.CubeReply.TheVariants.{Finished, HasCube, NotOpen, NoneNow, Cube as Given, NoCube, BadChoice, Children, BadCycle, Closed, BadOrder, Solved, Released}
-use Rattle.cube_laws.specs.Cubes.{edges_under}
-use Rattle.cube_laws.specs.Runs.{is_closing, is_solving, solves}
+use Rattle.cube_laws.specs.declared.messages.CubeEvent.TheVariants.{Split}
+use Rattle.cube_laws.specs.declared.messages.CubeReply.TheVariants.{Cube as Given, Solved}
 use Rattle.cube_laws.proofs.Nodes.{none-some}
 use Rattle.cube_laws.proofs.Ways.{marked, ways}
 use Rattle.cube_laws.proofs.Closings.{is_shut, open_not_shut, held_not_shut}

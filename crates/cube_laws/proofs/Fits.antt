@@ -1,26 +1,17 @@
 -- Orders that keep the edges of a cube, and those that solve one.
-use Rattle.std.proofs.Common.{◌≡◌, ◌⊎◌, ℕ, zero, suc, ◌+◌, ◌<◌, ◌≤◌, Bool, true, cond, eqb, ◌&&◌, List, [], ◌∷◌, ◌++◌, length, Some, refl, sym, ap, ◌∙◌, subst, inl, inr, arith, append_assoc}
-use Rattle.std.specs.Prelude.{slice_get, nat_lt}
-use Rattle.std.specs.List.{AllByRecursion, list_any, list_all, range_with_len}
-use Rattle.std.proofs.lemmas.Bool.{cases_eq, cases_lt, false≢true, and_parts, and_from, or_cases, or_left, or_right, ltb-true, eqb-true}
+use Rattle.cube_laws.proofs.Prelude.{◌≡◌, ◌⊎◌, ℕ, zero, suc, ◌+◌, ◌<◌, ◌≤◌, Bool, true, cond, eqb, ◌&&◌, List, [], ◌∷◌, ◌++◌, length, Some, refl, sym, ap, ◌∙◌, subst, inl, inr, arith, append_assoc, slice_get, nat_lt, AllByRecursion}
+use Rattle.cube_laws.proofs.Prelude.{list_any, list_all, range_with_len, cases_eq, cases_lt, false≢true, and_parts, and_from, or_cases, or_left, or_right, ltb-true, eqb-true, length-append, same_Some, Edge, Choice, Polygraph, Keeps}
+use Rattle.cube_laws.proofs.Prelude.{KeepsOne, Fits, Has, Apart, Has-split, Has-append_front, Has-append_back, Has-append_cases, each_of_append, each_from_append, IsDistinct-from_Apart, Has-from_any, any-from_Has, once_from, Apart_range}
+use Rattle.cube_laws.proofs.Prelude.{Side, One, Two, same_side, sides_in, Cube, is_decided, edges_under, decides_all, lists_once, keeps_edges, is_solution}
 use Rattle.std.proofs.lemmas.Cmp.{nat_eq_equiv}
-use Rattle.std.proofs.lemmas.List.{length-append}
 use Rattle.std.proofs.lemmas.List.FromFn.{length-range_with_len}
 use Rattle.std.proofs.lemmas.Map.Made.{length-le_from_is_member}
-use Rattle.std.proofs.lemmas.Option.{same_Some}
 use Rattle.serializability.specs.Replay.{place_of, Before, ListsOnce}
-use Rattle.serializability.specs.Polygraph.{Edge, Choice, Polygraph, Keeps, KeepsOne, Fits}
-use Rattle.serializability.proofs.Places.{Has, Apart, Has-split, Has-append_front, Has-append_back, Has-append_cases, each_of_append, each_from_append}
 use Rattle.serializability.proofs.Sources.{any_found, range-from_Has}
-use Rattle.serializability.proofs.Listed.{IsDistinct-from_Apart, Has-from_any, any-from_Has, once_from, Apart_range}
-use Rattle.pruning_laws.specs.declared.side.Side.{Side}
-use Rattle.pruning_laws.specs.declared.side.Side.TheVariants.{One, Two}
 use Rattle.pruning_laws.specs.Forced.{edges_of, Sides, kept_from}
-use Rattle.pruning_laws.specs.Ledger.{same_side, Entry as Decision, sides_in}
+use Rattle.pruning_laws.specs.Ledger.{Entry as Decision}
 use Rattle.pruning_laws.proofs.Ledgers.{same_is, same_itself}
 use Rattle.pruning_laws.proofs.Pruned.{part_kept, part_of}
-use Rattle.cube_laws.specs.Cubes.{Cube, is_decided, edges_under}
-use Rattle.cube_laws.specs.Steps.{decides_all, lists_once, keeps_edges, is_solution}
 use Rattle.cube_laws.proofs.Nodes.{none-some, one_value, each_indexed}
 
 -- ---- the sides of a cube

@@ -1,25 +1,10 @@
 -- What every list of steps keeps.
-use Rattle.std.proofs.Common.{◌≡◌, ℕ, zero, suc, ◌+◌, ◌-◌, ◌*◌, ◌^◌, ◌<◌, ◌≤◌, Bool, true, false, cond, eqb, ◌||◌, not, List, [], ◌∷◌, ◌++◌, length, map, Some, refl, sym, ap, ◌∙◌, subst, inl, inr, arith, pow-suc}
-use Rattle.std.specs.Prelude.{slice_get, slice_set}
-use Rattle.std.specs.List.{AllByRecursion}
-use Rattle.std.proofs.lemmas.Bool.{false≢true, and_parts, or_parts, or_cases, or_left, or_right, not-true, ltb-true, eqb-false, eq-eqb}
+use Rattle.cube_laws.proofs.Prelude.{◌≡◌, ℕ, zero, suc, ◌+◌, ◌-◌, ◌*◌, ◌^◌, ◌<◌, ◌≤◌, Bool, true, false, cond, eqb, ◌||◌, not, List, [], ◌∷◌, ◌++◌, length, map, Some, refl, sym, ap, ◌∙◌, subst, inl, inr, arith, pow-suc, slice_get}
+use Rattle.cube_laws.proofs.Prelude.{slice_set, AllByRecursion, false≢true, and_parts, or_parts, or_cases, or_left, or_right, not-true, ltb-true, eqb-false, eq-eqb, same_Some, Polygraph, Has, Apart, each_from_append, IsDistinct-from_Apart}
+use Rattle.cube_laws.proofs.Prelude.{Has-from_any, Side, One, Two, Entry, replay, Cube, is_decided, Node, State, opening_state, is_open, is_solved, is_held_by, is_held, has_solved, has_live, is_finished, is_choice, can_split, child}
+use Rattle.cube_laws.proofs.Prelude.{next_of, CubeState, Open, Held, Split as Divided, Refuted, Solved as Ended, CubeEvent, CubeReply}
 use Rattle.std.proofs.lemmas.Map.Steps.{length-le_from_distinct_below}
-use Rattle.std.proofs.lemmas.Option.{same_Some}
-use Rattle.serializability.specs.Polygraph.{Polygraph}
-use Rattle.serializability.proofs.Places.{Has, Apart, each_from_append}
-use Rattle.serializability.proofs.Listed.{IsDistinct-from_Apart, Has-from_any}
-use Rattle.pruning_laws.specs.declared.side.Side.{Side}
-use Rattle.pruning_laws.specs.declared.side.Side.TheVariants.{One, Two}
 use Rattle.pruning_laws.specs.Ledger.{Entry as Decision}
-use Rattle.desk.specs.declared.history.Entry.{Entry}
-use Rattle.desk.specs.History.{replay}
-use Rattle.cube_laws.specs.Cubes.{Cube, is_decided}
-use Rattle.cube_laws.specs.State.{Node, State, opening_state}
-use Rattle.cube_laws.specs.Steps.{is_open, is_solved, is_held_by, is_held, has_solved, has_live, is_finished, is_choice, can_split, child, next_of}
-use Rattle.cube_laws.specs.declared.messages.CubeState.{CubeState}
-use Rattle.cube_laws.specs.declared.messages.CubeState.TheVariants.{Open, Held, Split as Divided, Refuted, Solved as Ended}
-use Rattle.cube_laws.specs.declared.messages.CubeEvent.{CubeEvent}
-use Rattle.cube_laws.specs.declared.messages.CubeReply.{CubeReply}
 use Rattle.cube_laws.proofs.Nodes.{none-some, length_set, length_two, each_at, each_set, any_at, any_kept}
 use Rattle.cube_laws.proofs.Ways.{marked, noted, counted, divided, ways}
 

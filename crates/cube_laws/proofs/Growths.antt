@@ -1,5 +1,5 @@
 -- What became of a node is one thing.
-use Rattle.std.proofs.Common.{◌≡◌, ℕ, List}
+use Rattle.cube_laws.proofs.Prelude.{◌≡◌, ℕ, List}
 use Rattle.cube_laws.specs.declared.tree.Growth.TheVariants.{Leaf, Inner}
 
 pub leaf_is : (a b : List ℕ) → Leaf a ≡ Leaf b → a ≡ b

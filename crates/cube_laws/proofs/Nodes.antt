@@ -1,13 +1,6 @@
 -- Lists of nodes: what a written mark and new nodes change.
-use Rattle.std.proofs.Common.{◌≡◌, ◌⊎◌, ℕ, zero, suc, ◌+◌, ◌<◌, Bool, true, false, cond, List, [], ◌∷◌, ◌++◌, length, Option, None, Some, refl, sym, ap, ◌∙◌, subst, inl, inr, arith}
-use Rattle.std.specs.Prelude.{slice_get, slice_set}
-use Rattle.std.specs.Option.{option_map_or}
-use Rattle.std.specs.List.{AllByRecursion, list_any}
-use Rattle.std.proofs.lemmas.Bool.{cases_Bool, false≢true, or_cases, or_left, or_right, cond-true, cond-false}
-use Rattle.std.proofs.lemmas.Option.{same_Some}
-use Rattle.cube_laws.specs.State.{Node}
-use Rattle.cube_laws.specs.Steps.{is_open, is_held_by, held_from, last_open_from, or_else}
-use Rattle.cube_laws.specs.declared.messages.CubeState.{CubeState}
+use Rattle.cube_laws.proofs.Prelude.{◌≡◌, ◌⊎◌, ℕ, zero, suc, ◌+◌, ◌<◌, Bool, true, false, cond, List, [], ◌∷◌, ◌++◌, length, Option, None, Some, refl, sym, ap, ◌∙◌, subst, inl, inr, arith, slice_get, slice_set, option_map_or}
+use Rattle.cube_laws.proofs.Prelude.{AllByRecursion, list_any, cases_Bool, false≢true, or_cases, or_left, or_right, cond-true, cond-false, same_Some, Node, is_open, is_held_by, held_from, last_open_from, or_else, CubeState}
 
 -- ---- options
 

@@ -1,9 +1,6 @@
 -- The cube of a node: what it decides itself, and its parent's cube.
-use Rattle.std.proofs.Common.{◌≡◌, ℕ, zero, suc, ◌+◌, ◌<◌, ◌≤◌, List, [], ◌∷◌, ◌++◌, length, Some, None, refl, sym, ap, ◌∙◌, arith, length-append}
-use Rattle.std.specs.Prelude.{slice_get, slice_index_or}
-use Rattle.std.proofs.lemmas.List.{get_or_append_left, get_or_at, get_or_past}
-use Rattle.std.proofs.lemmas.Option.{same_Some}
-use Rattle.cube_laws.specs.Cubes.{Cube}
+use Rattle.cube_laws.proofs.Prelude.{◌≡◌, ℕ, zero, suc, ◌+◌, ◌<◌, ◌≤◌, List, [], ◌∷◌, ◌++◌, length, Some, None, refl, sym, ap, ◌∙◌, arith, length-append, slice_get, slice_index_or, get_or_append_left, get_or_at, get_or_past, same_Some}
+use Rattle.cube_laws.proofs.Prelude.{Cube}
 use Rattle.cube_laws.specs.declared.tree.TreeNode.{TreeNode}
 use Rattle.cube_laws.specs.Trees.{cube_below, cubes_after, cube_of}
 

@@ -1,18 +1,10 @@
 -- What a step can do: nothing, or one of six things.
-use Rattle.std.proofs.Common.{◌≡◌, ℕ, ◌+◌, Bool, true, false, cond, List, [], ◌∷◌, ◌++◌, length, Option, None, Some, refl, sym, ap, subst}
-use Rattle.std.specs.Prelude.{slice_get, slice_set}
-use Rattle.std.specs.Option.{option_map_or}
-use Rattle.pruning_laws.specs.declared.side.Side.TheVariants.{One, Two}
-use Rattle.cube_laws.specs.Cubes.{Cube, edges_under}
-use Rattle.cube_laws.specs.State.{Node, State}
-use Rattle.cube_laws.specs.Steps.{is_open, is_held_by, node_held, last_open, cube_at, is_open_at, is_finished, with_mark, can_split, is_cycle, is_solution, claim_reply, any_reply, split_reply, refute_reply, solve_reply, reply_of, child, closed_by, split_at, held_at, opened_at, claimed, taken, held_where, split_where, refuted_where, solved_where, next_of}
-use Rattle.cube_laws.specs.declared.messages.CubeState.{CubeState}
-use Rattle.cube_laws.specs.declared.messages.CubeState.TheVariants.{Open, Held, Split as Divided, Refuted, Solved as Ended}
-use Rattle.cube_laws.specs.declared.messages.CubeEvent.{CubeEvent}
-use Rattle.cube_laws.specs.declared.messages.CubeEvent.TheVariants.{Claim, TakeAny, Split, Refute, Solve, Release}
-use Rattle.cube_laws.specs.declared.messages.CubeReply.{CubeReply}
-use Rattle.cube_laws.specs.declared.messages.CubeReply.TheVariants.{Finished, HasCube, NotOpen, NoneNow, Cube as Given, NoCube, BadChoice, Children, BadCycle, Closed, BadOrder, Solved, Released}
-use Rattle.cube_laws.specs.Runs.{is_closing}
+use Rattle.cube_laws.proofs.Prelude.{◌≡◌, ℕ, ◌+◌, Bool, true, false, cond, List, [], ◌∷◌, ◌++◌, length, Option, None, Some, refl, sym, ap, subst, slice_get, slice_set, option_map_or, One, Two, Cube, edges_under, Node, State, is_open}
+use Rattle.cube_laws.proofs.Prelude.{is_held_by, node_held, last_open, cube_at, is_open_at, is_finished, with_mark, can_split, is_cycle, is_solution, claim_reply, any_reply, split_reply, refute_reply, solve_reply, reply_of, child}
+use Rattle.cube_laws.proofs.Prelude.{closed_by, split_at, held_at, opened_at, claimed, taken, held_where, split_where, refuted_where, solved_where, next_of, CubeState, Open, Held, Split as Divided, Refuted, Solved as Ended, CubeEvent}
+use Rattle.cube_laws.proofs.Prelude.{Claim, TakeAny, Refute, Solve, Release, CubeReply, Finished, HasCube, NotOpen, NoneNow, NoCube, BadChoice, Children, BadCycle, Closed, BadOrder, Released, is_closing}
+use Rattle.cube_laws.specs.declared.messages.CubeEvent.TheVariants.{Split}
+use Rattle.cube_laws.specs.declared.messages.CubeReply.TheVariants.{Cube as Given, Solved}
 use Rattle.cube_laws.proofs.Nodes.{Marked, found_held, found_open, found_first, tested_open}
 
 -- ---- states by the node that is written

@@ -1,9 +1,5 @@
 -- Histories with one step more.
-use Rattle.std.proofs.Common.{◌≡◌, ◌≢◌, ℕ, List, [], ◌∷◌, ◌++◌, Bool, true, false, Option, ◌==◌, refl, sym, ap, ◌∙◌, subst}
-use Rattle.std.specs.Prelude.{if◌then◌else◌}
-use Rattle.std.proofs.lemmas.Bool.{eq-eqb, eqb-true}
-use Rattle.desk.specs.declared.history.Entry.{Entry}
-use Rattle.desk.specs.History.{entry, replay, IsLegal, part_of, IsEntered, IsReached}
+use Rattle.desk.proofs.Prelude.{◌≡◌, ◌≢◌, ℕ, List, [], ◌∷◌, ◌++◌, Bool, true, false, Option, ◌==◌, refl, sym, ap, ◌∙◌, subst, if◌then◌else◌, eq-eqb, eqb-true, Entry, entry, replay, IsLegal, part_of, IsEntered, IsReached}
 
 module _ {S E R : Type 0} (next : S → ℕ → E → S) (reply : S → ℕ → E → R) where
   pub replay-push : (s : S) (xs : List (Entry E R)) (x : Entry E R) → replay next s (xs ++ x ∷ []) ≡ next (replay next s xs) x.seat x.event

@@ -1,3 +1,4 @@
+mod Prelude
 pub mod Legal
 pub mod Numbered
 pub mod Seating

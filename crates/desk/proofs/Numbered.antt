@@ -1,11 +1,7 @@
 -- Numbers of seats.
-use Rattle.std.proofs.Common.{◌≡◌, ◌<◌, ◌≤◌, ⊎_elim, ℕ, zero, suc, ◌+◌, ◌-◌, ◌==◌, Bool, true, false, ◌||◌, List, [], ◌∷◌, ◌++◌, Option, Some, None, Result, Ok, Err, length, refl, sym, ap, ◌∙◌, arith}
-use Rattle.std.specs.Prelude.{slice_get, slice_index_or, IfErr}
+use Rattle.desk.proofs.Prelude.{◌≡◌, ◌<◌, ◌≤◌, ⊎_elim, ℕ, zero, suc, ◌+◌, ◌-◌, ◌==◌, Bool, true, false, ◌||◌, List, [], ◌∷◌, ◌++◌, Option, Some, None, Result, Ok, Err, length, refl, sym, ap, ◌∙◌, arith, slice_get, slice_index_or, IfErr}
+use Rattle.desk.proofs.Prelude.{eq-eqb, or_right, slice_get_within, get_or_from_slice_get, has_seat, AreFresh, AreNumbered, HasSeatsTo, IsLeastMissing, IsSeat, SeatView}
 use Rattle.std.specs.Result.{IsOk}
-use Rattle.std.proofs.lemmas.Bool.{eq-eqb, or_right}
-use Rattle.std.proofs.lemmas.Option.{slice_get_within, get_or_from_slice_get}
-use Rattle.desk.specs.Seats.{has_seat, AreFresh, AreNumbered, HasSeatsTo, IsLeastMissing, IsSeat}
-use Rattle.desk.specs.Views.{SeatView}
 use Rattle.desk.proofs.Seating.{snoc_get}
 
 module _ {X : Type 0} (number : X → ℕ) where

@@ -1,11 +1,6 @@
 -- Seats that are added one by one.
-use Rattle.std.proofs.Common.{◌≡◌, ◌⊎◌, ℕ, zero, suc, ◌+◌, List, [], ◌∷◌, ◌++◌, length, false, Some, refl, sym, ap, ◌∙◌, subst, inl, inr, ⊎_elim, arith, length-append}
-use Rattle.std.specs.Prelude.{slice_get}
-use Rattle.desk.specs.declared.row.SeatRow.{SeatRow}
+use Rattle.desk.proofs.Prelude.{◌≡◌, ◌⊎◌, ℕ, zero, suc, ◌+◌, List, [], ◌∷◌, ◌++◌, length, false, Some, refl, sym, ap, ◌∙◌, subst, inl, inr, ⊎_elim, arith, length-append, slice_get, SeatRow, AreSeated, names_of, AreFresh, SeatView}
 use Rattle.desk.specs.declared.row.UnnamedSeat.{UnnamedSeat}
-use Rattle.desk.specs.Rows.{AreSeated, names_of}
-use Rattle.desk.specs.Seats.{AreFresh}
-use Rattle.desk.specs.Views.{SeatView}
 
 module _ {A : Type 0} where
   pub snoc_get : (xs : List A) (k : ℕ) (y x : A) → slice_get (xs ++ y ∷ []) k ≡ Some x → ((k ≡ length xs) × (x ≡ y)) ⊎ (slice_get xs k ≡ Some x)

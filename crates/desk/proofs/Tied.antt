@@ -1,15 +1,6 @@
 -- One call of one seat, in the rows under the lock.
-use Rattle.std.proofs.Common.{◌≡◌, ◌≢◌, ◌⊎◌, ℕ, zero, suc, ◌+◌, ◌<◌, ◌≤◌, List, [], ◌∷◌, ◌++◌, length, Bool, true, false, Some, get_or, refl, sym, ap, ◌∙◌, subst, inl, inr, ⊎_elim, arith}
-use Rattle.std.specs.Prelude.{slice_get, slice_set, All}
-use Rattle.std.specs.Bool.{OnFalse}
-use Rattle.std.proofs.lemmas.List.{length-set, set-get_or}
-use Rattle.std.proofs.lemmas.List.Elements.{All-push}
-use Rattle.std.proofs.lemmas.Option.{slice_get_read, slice_get_within, same_Some}
-use Rattle.desk.specs.declared.history.Entry.{Entry}
-use Rattle.desk.specs.declared.row.SeatRow.{SeatRow}
-use Rattle.desk.specs.History.{entry, part_of}
-use Rattle.desk.specs.Rows.{AreTied, place_of, staying}
-use Rattle.desk.specs.Seats.{IsSeat}
+use Rattle.desk.proofs.Prelude.{◌≡◌, ◌≢◌, ◌⊎◌, ℕ, zero, suc, ◌+◌, ◌<◌, ◌≤◌, List, [], ◌∷◌, ◌++◌, length, Bool, true, false, Some, get_or, refl, sym, ap, ◌∙◌, subst, inl, inr, ⊎_elim, arith, slice_get, slice_set, All, OnFalse, length-set}
+use Rattle.desk.proofs.Prelude.{set-get_or, All-push, slice_get_read, slice_get_within, same_Some, Entry, SeatRow, entry, part_of, AreTied, place_of, staying, IsSeat}
 use Rattle.desk.proofs.Legal.{part_of-mine, part_of-other}
 
 -- what stands in a list after a write

@@ -1,16 +1,7 @@
 -- Edges that are added to a graph, until they are the arcs of a log.
-use Rattle.std.proofs.Common.{◌≡◌, ◌⊎◌, ◌↔◌, ℕ, ◌+◌, ◌<◌, ◌≤◌, Bool, true, eqb, ◌||◌, List, length, get_or, take, refl, sym, ap, ◌∙◌, subst, inl, inr, arith, eq-eqb, ne_eqb, eqb-true}
-use Rattle.std.specs.Prelude.{not}
-use Rattle.std.specs.List.{Contains, filter, list_any}
-use Rattle.std.proofs.lemmas.Bool.{cases_lt, or_cases, or_left, or_right, and_from}
-use Rattle.std.proofs.lemmas.List.Folds.{list_any_more}
-use Rattle.list_lemmas.proofs.Bools.{same_bool}
-use Rattle.serializability.specs.Log.{Log, precedes}
-use Rattle.serializability.specs.Polygraph.{Edge, arcs, is_arc, reads_from}
-use Rattle.serializability.proofs.Serial.{arc_cases, arc_from_zero, arc_from_read, arc_from_moments}
-use Rattle.reach_laws.specs.Reach.{Graph}
-use Rattle.known_graph.specs.Pairs.{all_pairs}
-use Rattle.known_graph.specs.Graphs.{IsKnownGraph, arc_graph}
+use Rattle.known_graph.proofs.Prelude.{◌≡◌, ◌⊎◌, ◌↔◌, ℕ, ◌+◌, ◌<◌, ◌≤◌, Bool, true, eqb, ◌||◌, List, length, get_or, take, refl, sym, ap, ◌∙◌, subst, inl, inr, arith, eq-eqb, ne_eqb, eqb-true, not, Contains, filter, list_any, cases_lt}
+use Rattle.known_graph.proofs.Prelude.{or_cases, or_left, or_right, and_from, list_any_more, same_bool, Log, precedes, Edge, arcs, is_arc, reads_from, arc_cases, arc_from_zero, arc_from_read, arc_from_moments, Graph, all_pairs}
+use Rattle.known_graph.proofs.Prelude.{IsKnownGraph, arc_graph}
 use Rattle.known_graph.proofs.Listed.{In, In-from_Contains, Contains-from_In, In-filter, In-of_filter, In-of_pairs, filter_same}
 use Rattle.known_graph.proofs.Edges.{pair_same}
 

@@ -1,18 +1,7 @@
 -- The edges of a graph with a bit for each pair of nodes.
-use Rattle.std.proofs.Common.{◌≡◌, ◌≢◌, ◌⊎◌, ◌↔◌, ℕ, ◌+◌, ◌-◌, ◌*◌, ◌/◌, ◌%◌, ◌<◌, ◌≤◌, Bool, true, eqb, ◌||◌, ◌&&◌, List, length, get_or, take, drop, replicate, refl, sym, ap, ◌∙◌, subst, inl, inr, arith, eq-eqb, ne_eqb, eqb-true}
-use Rattle.std.specs.List.{Contains, filter}
-use Rattle.std.specs.Int.{bit_at}
-use Rattle.std.proofs.Math.Nat.{mul_comm}
-use Rattle.std.proofs.lemmas.Bool.{cases_lt, false≢true, or_cases, and_parts, and_from, or_left, or_right, or_from, and_right}
-use Rattle.std.proofs.lemmas.List.{get_or-take, get_or-drop, length-take-le, length-drop, length-replicate}
-use Rattle.std.proofs.lemmas.Nat.{div_below, same_from_place, mul-add-lt, le-div, mul-le}
-use Rattle.list_lemmas.proofs.Bools.{same_bool}
-use Rattle.serializability.specs.Polygraph.{Edge}
-use Rattle.reach_laws.specs.Reach.{Graph}
-use Rattle.known_graph.specs.Bits.{bit_of, row_len}
-use Rattle.known_graph.specs.Pairs.{all_pairs}
-use Rattle.known_graph.specs.Held.{bit_place, is_marked, marked_graph, IsMarked}
-use Rattle.known_graph.specs.Graphs.{IsBitGraph, IsKnownGraph}
+use Rattle.known_graph.proofs.Prelude.{◌≡◌, ◌≢◌, ◌⊎◌, ◌↔◌, ℕ, ◌+◌, ◌-◌, ◌*◌, ◌/◌, ◌%◌, ◌<◌, ◌≤◌, Bool, true, eqb, ◌||◌, ◌&&◌, List, length, get_or, take, drop, replicate, refl, sym, ap, ◌∙◌, subst, inl, inr, arith, eq-eqb, ne_eqb, eqb-true}
+use Rattle.known_graph.proofs.Prelude.{Contains, filter, bit_at, mul_comm, cases_lt, false≢true, or_cases, and_parts, and_from, or_left, or_right, or_from, and_right, get_or-take, get_or-drop, length-take-le, length-drop, length-replicate}
+use Rattle.known_graph.proofs.Prelude.{div_below, same_from_place, mul-add-lt, le-div, mul-le, same_bool, Edge, Graph, bit_of, row_len, all_pairs, bit_place, is_marked, marked_graph, IsMarked, IsBitGraph, IsKnownGraph}
 use Rattle.known_graph.proofs.Words.{bit_of-past, bit_of-zeros, SetsBit}
 use Rattle.known_graph.proofs.JoinedRows.{row_place_word, row_bit_is}
 use Rattle.known_graph.proofs.Listed.{In-from_Contains, Contains-from_In, In-filter, In-of_filter, In-pairs, In-of_pairs, In, filter_same}

@@ -1,19 +1,10 @@
 -- The nodes of which it is stated when they ended, and the arcs from them.
-use Rattle.std.proofs.Common.{◌≡◌, ◌≢◌, ◌⊎◌, ◌↔◌, ℕ, suc, ◌+◌, ◌<◌, ◌≤◌, Bool, true, false, not, eqb, ◌&&◌, ◌||◌, List, [], ◌∷◌, ◌++◌, length, get_or, take, Option, Some, None, refl, sym, ap, ◌∙◌, subst, inl, inr, arith, nat_lt, eq-eqb, ne_eqb, eqb-true}
-use Rattle.std.specs.List.{Contains, list_any}
+use Rattle.known_graph.proofs.Prelude.{◌≡◌, ◌≢◌, ◌⊎◌, ◌↔◌, ℕ, suc, ◌+◌, ◌<◌, ◌≤◌, Bool, true, false, not, eqb, ◌&&◌, ◌||◌, List, [], ◌∷◌, ◌++◌, length, get_or, take, Option, Some, None, refl, sym, ap, ◌∙◌, subst, inl, inr, arith, nat_lt}
+use Rattle.known_graph.proofs.Prelude.{eq-eqb, ne_eqb, eqb-true, Contains, list_any, or-false, cases_lt, cases_eq, or_cases, and_parts, eqb-false, not-true, or_left, or_right, and_from, get_or-take, length-take-le, Contains-append_left}
+use Rattle.known_graph.proofs.Prelude.{Contains-push, Contains-push_cases, list_any_more, list_any_at, Contains-permutation, IsPermutation-sym, Log, precedes, Edge, begun_of, ended_of, log_of}
 use Rattle.std.specs.List.Sorted.{IsPermutation, IsPartitionPoint, IsNonDecreasingBy}
-use Rattle.std.proofs.Math.Bool.{or-false}
-use Rattle.std.proofs.lemmas.Bool.{cases_lt, cases_eq, or_cases, and_parts, eqb-false, not-true, or_left, or_right, and_from}
-use Rattle.std.proofs.lemmas.List.{get_or-take, length-take-le}
-use Rattle.std.proofs.lemmas.List.Elements.{Contains-append_left, Contains-push, Contains-push_cases}
-use Rattle.std.proofs.lemmas.List.Folds.{list_any_more, list_any_at}
-use Rattle.std.proofs.lemmas.List.Sorted.{Contains-permutation, IsPermutation-sym}
 use Rattle.session_log.specs.Moments.{is_earlier}
 use Rattle.session_log.specs.Text.{ClientSession}
-use Rattle.serializability.specs.Log.{Log, precedes}
-use Rattle.serializability.specs.Polygraph.{Edge}
-use Rattle.log_definitions.specs.Serial.{begun_of, ended_of}
-use Rattle.log_definitions.specs.Numbers.{log_of}
 use Rattle.known_graph.specs.declared.moments.Ended.{Ended}
 use Rattle.known_graph.specs.Moments.{AreEnded}
 use Rattle.known_graph.proofs.Edges.{pair_same}

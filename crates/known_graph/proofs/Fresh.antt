@@ -1,17 +1,8 @@
 -- The numbers of set bits, word by word.
-use Rattle.std.proofs.Common.{◌≡◌, ◌≢◌, ℕ, zero, suc, ◌+◌, ◌-◌, ◌*◌, ◌/◌, ◌%◌, ◌^◌, ◌<◌, ◌≤◌, Bool, true, false, eqb, ◌||◌, ◌&&◌, List, [], ◌∷◌, ◌++◌, length, get_or, set, refl, sym, ap, ◌∙◌, inl, inr, arith, append_assoc, get_or-set_same}
-use Rattle.std.specs.Prelude.{bit_and, bit_or, not, min, max}
-use Rattle.std.specs.Int.{bit_at, bit_not, trailing_zeros, w64}
-use Rattle.std.specs.List.{filter, range_with_len}
-use Rattle.std.proofs.lemmas.Bool.{cases_eq, cases_lt, cond-true, cond-false}
-use Rattle.std.proofs.lemmas.List.{map-append, get_or-set_other}
-use Rattle.std.proofs.lemmas.List.Elements.{filter-append}
-use Rattle.std.proofs.lemmas.Nat.{div-mul-add, mod-mul-add, and_le_l}
-use Rattle.std.proofs.lemmas.Nat.Bits.{bit_at-zero, bit_at-lt, bit_at_and, bit_at_or, bit_at_not, bit_at-trailing_zeros, bit_at_clear_same, bit_at_clear_other}
-use Rattle.list_lemmas.proofs.Bools.{and_first}
-use Rattle.known_graph.specs.declared.reached.Reached.{Reached}
-use Rattle.known_graph.specs.Bits.{bit_of}
-use Rattle.known_graph.specs.Tree.{reached_from, word_numbers, fresh_numbers}
+use Rattle.known_graph.proofs.Prelude.{◌≡◌, ◌≢◌, ℕ, zero, suc, ◌+◌, ◌-◌, ◌*◌, ◌/◌, ◌%◌, ◌^◌, ◌<◌, ◌≤◌, Bool, true, false, eqb, ◌||◌, ◌&&◌, List, [], ◌∷◌, ◌++◌, length, get_or, set, refl, sym, ap, ◌∙◌, inl, inr, arith, append_assoc}
+use Rattle.known_graph.proofs.Prelude.{get_or-set_same, bit_and, bit_or, not, min, max, bit_at, bit_not, trailing_zeros, w64, filter, range_with_len, cases_eq, cases_lt, cond-true, cond-false, map-append, get_or-set_other, filter-append}
+use Rattle.known_graph.proofs.Prelude.{div-mul-add, mod-mul-add, and_le_l, bit_at-zero, bit_at-lt, bit_at_and, bit_at_or, bit_at_not, bit_at-trailing_zeros, bit_at_clear_same, bit_at_clear_other, and_first, Reached, bit_of, reached_from}
+use Rattle.known_graph.proofs.Prelude.{word_numbers, fresh_numbers}
 use Rattle.known_graph.proofs.Listed.{In, In-of_range, filter_same}
 use Rattle.known_graph.proofs.Words.{bit_of-past}
 

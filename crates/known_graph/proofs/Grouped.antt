@@ -1,13 +1,8 @@
 -- Groups of nodes, and how far the search for them has come.
-use Rattle.std.proofs.Common.{◌≡◌, ◌↔◌, ℕ, ◌<◌, ◌≤◌, true, false, eqb, ◌||◌, List, [], ◌∷◌, sym, ◌∙◌, subst, inl, inr, arith, eqb-true, eq-eqb, refl}
-use Rattle.std.specs.List.{Contains}
-use Rattle.std.proofs.lemmas.Bool.{or_cases, or_left, or_right}
-use Rattle.reach_laws.specs.Reach.{Graph, Walk}
+use Rattle.known_graph.proofs.Prelude.{◌≡◌, ◌↔◌, ℕ, ◌<◌, ◌≤◌, true, false, eqb, ◌||◌, List, [], ◌∷◌, sym, ◌∙◌, subst, inl, inr, arith, eqb-true, eq-eqb, refl, Contains, or_cases, or_left, or_right, Graph, Walk, bit_of, row_len}
+use Rattle.known_graph.proofs.Prelude.{IsKnownGraph, IsGroup, IsSearch, left_of}
 use Rattle.known_graph.specs.declared.groups.Group.{Group}
 use Rattle.known_graph.specs.declared.groups.Search.{Search}
-use Rattle.known_graph.specs.Bits.{bit_of, row_len}
-use Rattle.known_graph.specs.Graphs.{IsKnownGraph}
-use Rattle.known_graph.specs.Groups.{IsGroup, IsSearch, left_of}
 use Rattle.known_graph.proofs.Opened.{left_falls}
 
 -- a node alone

@@ -1,11 +1,6 @@
 -- Bits of rows that are joined.
-use Rattle.std.proofs.Common.{◌≡◌, ◌≢◌, ℕ, ◌+◌, ◌*◌, ◌/◌, ◌%◌, ◌<◌, ◌≤◌, Bool, true, eqb, ◌||◌, ◌&&◌, List, length, get_or, set, refl, sym, ap, ◌∙◌, inl, inr, arith, eq-eqb, get_or-set_same, get_or-set_other}
-use Rattle.std.specs.Prelude.{bit_or}
-use Rattle.std.specs.Int.{bit_at}
-use Rattle.std.proofs.Math.Nat.{mul_assoc}
-use Rattle.std.proofs.lemmas.Bool.{cases_eq, and_left}
-use Rattle.std.proofs.lemmas.Nat.{div-mul-add, mod-mul-add, div-add-mod', div_below, mod_below, same_from_place}
-use Rattle.known_graph.specs.Bits.{bit_of}
+use Rattle.known_graph.proofs.Prelude.{◌≡◌, ◌≢◌, ℕ, ◌+◌, ◌*◌, ◌/◌, ◌%◌, ◌<◌, ◌≤◌, Bool, true, eqb, ◌||◌, ◌&&◌, List, length, get_or, set, refl, sym, ap, ◌∙◌, inl, inr, arith, eq-eqb, get_or-set_same, get_or-set_other, bit_or, bit_at}
+use Rattle.known_graph.proofs.Prelude.{mul_assoc, cases_eq, and_left, div-mul-add, mod-mul-add, div-add-mod', div_below, mod_below, same_from_place, bit_of}
 use Rattle.known_graph.proofs.Joined.{joined_bit, or_none}
 
 -- ---- places of bits, where rows of words lie one behind the other

@@ -1,3 +1,4 @@
+mod Prelude
 pub mod Bools
 pub mod Listed
 pub mod Words

@@ -1,11 +1,6 @@
 -- Walks as lists of nodes, step by step.
-use Rattle.std.proofs.Common.{◌≡◌, ℕ, zero, suc, ◌+◌, ◌-◌, ◌<◌, ◌≤◌, List, [], ◌∷◌, ◌++◌, length, get_or, refl, sym, ap, ◌∙◌, subst, inl, inr, arith, length-append}
-use Rattle.std.specs.List.{Contains}
-use Rattle.std.specs.Prelude.{reverse}
-use Rattle.std.proofs.lemmas.Bool.{cases_lt}
-use Rattle.std.proofs.lemmas.List.{reverse-append, get_or_read}
-use Rattle.serializability.specs.Polygraph.{Edge}
-use Rattle.reach_laws.specs.Reach.{Walk, IsWalk}
+use Rattle.known_graph.proofs.Prelude.{◌≡◌, ℕ, zero, suc, ◌+◌, ◌-◌, ◌<◌, ◌≤◌, List, [], ◌∷◌, ◌++◌, length, get_or, refl, sym, ap, ◌∙◌, subst, inl, inr, arith, length-append, Contains, reverse, cases_lt, reverse-append, get_or_read, Edge}
+use Rattle.known_graph.proofs.Prelude.{Walk, IsWalk}
 
 -- an edge leads from each node of the line to the next
 pub record IsStepwise (edges : List Edge) (line : List ℕ) : Type 0 where

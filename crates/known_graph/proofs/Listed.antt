@@ -1,10 +1,6 @@
 -- Elements of lists that are made by a filter, a map or a join.
-use Rattle.std.proofs.Common.{◌≡◌, ◌⊎◌, ℕ, zero, suc, ◌+◌, ◌<◌, ◌≤◌, Bool, true, false, cond, List, [], ◌∷◌, ◌++◌, length, get_or, refl, sym, ap, ◌∙◌, subst, inl, inr, arith}
-use Rattle.std.specs.List.{Contains, filter, flat_map, range_with_len}
-use Rattle.std.specs.Prelude.{map}
-use Rattle.std.proofs.lemmas.Bool.{cases_eq, cases_Bool}
-use Rattle.serializability.specs.Polygraph.{Edge}
-use Rattle.known_graph.specs.Pairs.{all_pairs}
+use Rattle.known_graph.proofs.Prelude.{◌≡◌, ◌⊎◌, ℕ, zero, suc, ◌+◌, ◌<◌, ◌≤◌, Bool, true, false, cond, List, [], ◌∷◌, ◌++◌, length, get_or, refl, sym, ap, ◌∙◌, subst, inl, inr, arith, Contains, filter, flat_map, range_with_len, map}
+use Rattle.known_graph.proofs.Prelude.{cases_eq, cases_Bool, Edge, all_pairs}
 
 -- x is in the list
 abbrev pub In : {X : Type 0} → X → List X → Type 0

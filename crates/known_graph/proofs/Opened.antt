@@ -1,12 +1,6 @@
 -- Bits that are set in some words and not in others.
-use Rattle.std.proofs.Common.{◌≡◌, ◌≢◌, ℕ, zero, suc, ◌+◌, ◌-◌, ◌*◌, ◌^◌, ◌<◌, ◌≤◌, min, Bool, true, false, eqb, List, length, get_or, refl, sym, ap, ◌∙◌, inl, inr, arith, eq-eqb, eqb-true}
-use Rattle.std.specs.Prelude.{bit_and}
-use Rattle.std.specs.Int.{bit_at, w64, trailing_zeros}
-use Rattle.std.proofs.lemmas.Bool.{cases_eq, cases_lt, false≢true}
-use Rattle.std.proofs.lemmas.Nat.{and_le_l}
-use Rattle.std.proofs.lemmas.Nat.Bits.{bit_at_and, bit_at_not, bit_at-lt, bit_at-zero, bit_at-trailing_zeros}
-use Rattle.known_graph.specs.Bits.{bit_of}
-use Rattle.known_graph.specs.Groups.{left_one, left_of}
+use Rattle.known_graph.proofs.Prelude.{◌≡◌, ◌≢◌, ℕ, zero, suc, ◌+◌, ◌-◌, ◌*◌, ◌^◌, ◌<◌, ◌≤◌, min, Bool, true, false, eqb, List, length, get_or, refl, sym, ap, ◌∙◌, inl, inr, arith, eq-eqb, eqb-true, bit_and, bit_at, w64, trailing_zeros}
+use Rattle.known_graph.proofs.Prelude.{cases_eq, cases_lt, false≢true, and_le_l, bit_at_and, bit_at_not, bit_at-lt, bit_at-zero, bit_at-trailing_zeros, bit_of, left_one, left_of}
 use Rattle.known_graph.proofs.Words.{bit_of-past, bit_there}
 
 -- the bits of a word that are set in x and not in y

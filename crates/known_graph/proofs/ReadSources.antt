@@ -1,13 +1,7 @@
 -- From whom a node reads, by its reads.
-use Rattle.std.proofs.Common.{◌≡◌, ℕ, zero, suc, ◌<◌, ◌≤◌, Bool, false, eqb, ◌||◌, List, [], ◌∷◌, length, get_or, Option, None, Some, refl, sym, ap, ◌∙◌, subst, arith}
-use Rattle.std.specs.Prelude.{map}
-use Rattle.std.specs.List.{filter_map, cons_option, list_any, AllByRecursion}
-use Rattle.std.specs.Option.{option_map, option_map_or}
-use Rattle.serializability.specs.Log.{Log}
+use Rattle.known_graph.proofs.Prelude.{◌≡◌, ℕ, zero, suc, ◌<◌, ◌≤◌, Bool, false, eqb, ◌||◌, List, [], ◌∷◌, length, get_or, Option, None, Some, refl, sym, ap, ◌∙◌, subst, arith, map, filter_map, cons_option, list_any, AllByRecursion}
+use Rattle.known_graph.proofs.Prelude.{option_map, option_map_or, Log, source, reads_from, all_keys, each_of_map, source_within}
 use Rattle.serializability.specs.Reads.{IsClean}
-use Rattle.serializability.specs.Polygraph.{source, reads_from, all_keys}
-use Rattle.serializability.proofs.Places.{each_of_map}
-use Rattle.serializability.proofs.Serial.{source_within}
 use Rattle.session_history.specs.Tables.{sources_of}
 
 abbrev pub reads_key : Log → ℕ → ℕ → Option (ℕ × ℕ)

@@ -1,6 +1,5 @@
 -- A list that is made piece by piece, with what is left of it.
-use Rattle.std.proofs.Common.{◌≡◌, ℕ, suc, ◌+◌, ◌-◌, ◌<◌, List, ◌∷◌, ◌++◌, length, sym, ap, ◌∙◌, arith, append_assoc, length-append}
-use Rattle.std.specs.List.{range_with_len}
+use Rattle.known_graph.proofs.Prelude.{◌≡◌, ℕ, suc, ◌+◌, ◌-◌, ◌<◌, List, ◌∷◌, ◌++◌, length, sym, ap, ◌∙◌, arith, append_assoc, length-append, range_with_len}
 
 -- the numbers from k up to the end
 abbrev pub up_to : ℕ → ℕ → List ℕ

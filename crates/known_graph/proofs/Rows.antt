@@ -1,16 +1,6 @@
 -- The edges of a graph, row after row.
-use Rattle.std.proofs.Common.{◌≡◌, ◌⊎◌, ℕ, ◌+◌, ◌-◌, ◌<◌, ◌≤◌, Bool, true, false, List, [], ◌∷◌, ◌++◌, sym, ap, ◌∙◌, subst, inl, inr, cond, arith, eqb, ◌&&◌, ◌||◌}
-use Rattle.std.specs.Prelude.{map}
-use Rattle.std.specs.List.{Contains, filter, flat_map, range_with_len}
-use Rattle.std.proofs.lemmas.Bool.{cases_Bool, false≢true}
-use Rattle.std.proofs.lemmas.List.{append-nil}
-use Rattle.std.proofs.lemmas.List.Elements.{filter-append}
-use Rattle.std.proofs.lemmas.List.Folds.{list_any-append}
-use Rattle.serializability.specs.Polygraph.{Edge}
-use Rattle.reach_laws.specs.Reach.{Graph}
-use Rattle.known_graph.specs.Pairs.{all_pairs}
-use Rattle.known_graph.specs.Graphs.{IsKnownGraph}
-use Rattle.known_graph.specs.Tests.{has_edge}
+use Rattle.known_graph.proofs.Prelude.{◌≡◌, ◌⊎◌, ℕ, ◌+◌, ◌-◌, ◌<◌, ◌≤◌, Bool, true, false, List, [], ◌∷◌, ◌++◌, sym, ap, ◌∙◌, subst, inl, inr, cond, arith, eqb, ◌&&◌, ◌||◌, map, Contains, filter, flat_map, range_with_len, cases_Bool}
+use Rattle.known_graph.proofs.Prelude.{false≢true, append-nil, filter-append, list_any-append, Edge, Graph, all_pairs, IsKnownGraph, has_edge}
 use Rattle.known_graph.proofs.Listed.{In-from_Contains, Contains-from_In, In-filter, In-of_filter, In-pairs}
 use Rattle.known_graph.proofs.Rests.{up_to, up_to_first, Split}
 

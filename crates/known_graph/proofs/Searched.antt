@@ -1,22 +1,14 @@
 -- How far a search has come, and what it says at its end.
-use Rattle.std.proofs.Common.{◌≡◌, ◌≢◌, ◌↔◌, ℕ, zero, suc, ◌+◌, ◌-◌, ◌*◌, ◌/◌, ◌<◌, ◌≤◌, Bool, true, false, eqb, ◌||◌, ◌&&◌, List, [], ◌∷◌, ◌++◌, length, refl, sym, ap, ◌∙◌, subst, inl, inr, arith, length-append, eqb-true, eq-eqb}
-use Rattle.std.specs.List.{Contains, range_with_len}
-use Rattle.std.specs.Prelude.{map, not}
+use Rattle.known_graph.proofs.Prelude.{◌≡◌, ◌≢◌, ◌↔◌, ℕ, zero, suc, ◌+◌, ◌-◌, ◌*◌, ◌/◌, ◌<◌, ◌≤◌, Bool, true, false, eqb, ◌||◌, ◌&&◌, List, [], ◌∷◌, ◌++◌, length, refl, sym, ap, ◌∙◌, subst, inl, inr, arith, length-append, eqb-true, eq-eqb}
+use Rattle.known_graph.proofs.Prelude.{Contains, range_with_len, map, not, cases_lt, cases_Bool, false≢true, or_cases, or_left, or_right, length-map, map-append, Edge, Has, Apart, Has-from_Contains, Contains-from_Has, Has-append_front}
+use Rattle.known_graph.proofs.Prelude.{Has-append_back, Has-append_cases, Apart-from_IsDistinct, Apart-append, Graph, Walk, Reaches, Reached, bit_of, reached_from, fresh_numbers, node_at, from_at, IsTree}
 use Rattle.std.proofs.Math.ListN.{get_or-append}
 use Rattle.std.proofs.Math.Seq.{get_or-append_right}
-use Rattle.std.proofs.lemmas.Bool.{cases_lt, cases_Bool, false≢true, or_cases, or_left, or_right}
 use Rattle.std.proofs.lemmas.Bool.Decides.{Decides-eqb}
-use Rattle.std.proofs.lemmas.List.{length-map, map-append}
 use Rattle.std.proofs.lemmas.List.Kept.{AllPairs-filter}
 use Rattle.std.proofs.lemmas.Map.Made.{AllPairs-from_IsDistinct, IsDistinct-from_AllPairs}
 use Rattle.std.proofs.lemmas.Map.Steps.{length-le_from_distinct_below}
-use Rattle.serializability.specs.Polygraph.{Edge}
-use Rattle.serializability.proofs.Places.{Has, Apart, Has-from_Contains, Contains-from_Has, Has-append_front, Has-append_back, Has-append_cases, Apart-from_IsDistinct, Apart-append}
 use Rattle.serializability.proofs.Listed.{Has-from_any, IsDistinct-from_Apart, Apart_range}
-use Rattle.reach_laws.specs.Reach.{Graph, Walk, Reaches}
-use Rattle.known_graph.specs.declared.reached.Reached.{Reached}
-use Rattle.known_graph.specs.Bits.{bit_of}
-use Rattle.known_graph.specs.Tree.{reached_from, fresh_numbers, node_at, from_at, IsTree}
 use Rattle.known_graph.proofs.Listed.{In-from_Contains, Contains-from_In, In-of_filter, In-filter, In-range}
 use Rattle.known_graph.proofs.Words.{bit_of-past}
 

@@ -1,14 +1,8 @@
 -- Tests of edges and walks, and what they say.
-use Rattle.std.proofs.Common.{◌≡◌, ℕ, Bool, true, ◌&&◌, List, [], ◌∷◌, ◌++◌, length, refl, sym, ap, subst, inl, inr, arith}
-use Rattle.std.specs.Prelude.{◌==◌, nat_lt}
-use Rattle.std.specs.List.{Contains}
-use Rattle.std.proofs.lemmas.Bool.{false≢true, and_parts, and_from, or_cases, or_left, or_right, eqb-true, lt-ltb, eq-eqb}
-use Rattle.list_lemmas.proofs.Bools.{same_bool}
-use Rattle.serializability.specs.Polygraph.{Edge}
-use Rattle.reach_laws.specs.Reach.{Walk, IsWalk}
+use Rattle.known_graph.proofs.Prelude.{◌≡◌, ℕ, Bool, true, ◌&&◌, List, [], ◌∷◌, ◌++◌, length, refl, sym, ap, subst, inl, inr, arith, ◌==◌, nat_lt, Contains, false≢true, and_parts, and_from, or_cases, or_left, or_right, eqb-true, lt-ltb}
+use Rattle.known_graph.proofs.Prelude.{eq-eqb, same_bool, Edge, Walk, IsWalk, has_edge, leads, is_line}
 use Rattle.reach_laws.proofs.Walks.{Contains-here, Contains-further}
 use Rattle.known_graph.proofs.Listed.{In, In-from_Contains}
-use Rattle.known_graph.specs.Tests.{has_edge, leads, is_line}
 
 -- ---- an edge of a list
 pub edge_in : (edges : List Edge) (e : Edge) → has_edge edges e ≡ true → Contains edges e

@@ -1,9 +1,5 @@
 -- A search's tree, and the ways in it.
-use Rattle.std.proofs.Common.{◌≡◌, ℕ, ◌<◌, List, [], ◌∷◌, ◌++◌, length, get_or, sym, ap, ◌∙◌, subst}
-use Rattle.std.proofs.lemmas.List.{get_or_default}
-use Rattle.serializability.specs.Polygraph.{Edge}
-use Rattle.known_graph.specs.declared.reached.Reached.{Reached}
-use Rattle.known_graph.specs.Tree.{node_at, from_at, IsTree}
+use Rattle.known_graph.proofs.Prelude.{◌≡◌, ℕ, ◌<◌, List, [], ◌∷◌, ◌++◌, length, get_or, sym, ap, ◌∙◌, subst, get_or_default, Edge, Reached, node_at, from_at, IsTree}
 use Rattle.known_graph.proofs.Lines.{Behind, behind_more}
 
 pub node_read : (found : List Reached) (k : ℕ) (r : Reached) → k < length found → (get_or found k r).node ≡ node_at found k

@@ -1,10 +1,5 @@
 -- Which nodes a cycle has.
-use Rattle.std.proofs.Common.{◌≡◌, ℕ, ◌+◌, ◌<◌, ◌≤◌, false, List, [], ◌∷◌, Option, None, Some, sym, subst, inl, inr, arith}
-use Rattle.std.specs.Prelude.{is_some}
-use Rattle.std.specs.Option.{MatchOption}
-use Rattle.std.proofs.lemmas.Bool.{cases_lt, false≢true}
-use Rattle.reach_laws.specs.Reach.{Graph, Walk, Reaches, IsCyclic}
-use Rattle.known_graph.specs.Graphs.{IsKnownGraph}
+use Rattle.known_graph.proofs.Prelude.{◌≡◌, ℕ, ◌+◌, ◌<◌, ◌≤◌, false, List, [], ◌∷◌, Option, None, Some, sym, subst, inl, inr, arith, is_some, MatchOption, cases_lt, false≢true, Graph, Walk, Reaches, IsCyclic, IsKnownGraph}
 
 walk_from : (g : Graph) → IsKnownGraph g → (u : ℕ) (ws : List ℕ) (v : ℕ) → Walk g.edges u ws v → u ≤ g.nodes
 walk_from g k u [] v w = (k.joined (u, v) w).0

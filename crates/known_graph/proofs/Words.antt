@@ -1,14 +1,8 @@
 -- Bits in words.
-use Rattle.std.proofs.Common.{◌≡◌, ◌≢◌, ℕ, ◌+◌, ◌*◌, ◌/◌, ◌%◌, ◌^◌, ◌<◌, ◌≤◌, false, eqb, ◌||◌, List, length, get_or, set, replicate, sym, ap, ◌∙◌, inl, inr, arith, eq-eqb, ne_eqb, get_or-set_same, get_or-set_other}
-use Rattle.std.specs.Prelude.{bit_and, bit_or}
-use Rattle.std.specs.Int.{bit_at, w64}
-use Rattle.std.proofs.Math.Bool.{or-false}
-use Rattle.std.proofs.lemmas.Bool.{cases_eq, cases_lt, or_left}
-use Rattle.std.proofs.lemmas.List.{get_or_past, get_or-replicate, length-replicate}
-use Rattle.std.proofs.lemmas.Nat.{div-add-mod', div-mul-add, mod-mul-add, mod_below}
-use Rattle.std.proofs.lemmas.Nat.Bits.{bit_at-zero, shr_and_one, bit_at_set_same, bit_at_set_other}
+use Rattle.known_graph.proofs.Prelude.{◌≡◌, ◌≢◌, ℕ, ◌+◌, ◌*◌, ◌/◌, ◌%◌, ◌^◌, ◌<◌, ◌≤◌, false, eqb, ◌||◌, List, length, get_or, set, replicate, sym, ap, ◌∙◌, inl, inr, arith, eq-eqb, ne_eqb, get_or-set_same, get_or-set_other, bit_and}
+use Rattle.known_graph.proofs.Prelude.{bit_or, bit_at, w64, or-false, cases_eq, cases_lt, or_left, get_or_past, get_or-replicate, length-replicate, div-add-mod', div-mul-add, mod-mul-add, mod_below, bit_at-zero, shr_and_one}
+use Rattle.known_graph.proofs.Prelude.{bit_at_set_same, bit_at_set_other, bit_of}
 use Rattle.known_graph.proofs.Bools.{or_second}
-use Rattle.known_graph.specs.Bits.{bit_of}
 
 pub bit_of-past : (words : List ℕ) (k : ℕ) → length words ≤ k / 64 → bit_of words k ≡ false
 unfolding bit_of

@@ -1,30 +1,12 @@
 -- Logs of known outcomes, the one with some of the nodes of the other: of a part, and of fewer unknown transactions.
-use Rattle.std.proofs.Common.{◌≡◌, ℕ, Bool, List, [], ◌∷◌, refl, sym, ◌∙◌, subst, inl, inr, true, false}
-use Rattle.std.specs.List.{Contains, AllByRecursion}
-use Rattle.session_log.specs.Text.{ClientSession, Transaction}
-use Rattle.session_log.specs.declared.session.Op.TheVariants.{Read, Write}
-use Rattle.serializability.proofs.Places.{Apart, Apart-from_IsDistinct}
-use Rattle.log_definitions.specs.Unknown.{ops_in, settled, committed_ops, is_committed, settle, IsClosed, IsWithin}
-use Rattle.log_definitions.specs.WellFormed.{written}
-use Rattle.log_definitions.specs.Serial.{committed_in, node_of, session_of, ops_of, begun_of, ended_of}
-use Rattle.log_definitions.proofs.Settled.{ops_settled}
-use Rattle.log_laws.specs.Logs.{IsSoundLog, IsLearntLog}
-use Rattle.log_laws.proofs.Sessions.{nodes_of}
-use Rattle.part_laws.specs.Parts.{IsPart, done, left, kept}
-use Rattle.part_laws.proofs.Thinned.{IsSublist, was_in, thinned_same}
-use Rattle.part_laws.proofs.Replay.{KeepsSources}
-use Rattle.part_laws.proofs.Nodes.{AreNodes, nodes_of_part}
+use Rattle.level_laws.proofs.Prelude.{◌≡◌, ℕ, Bool, List, [], ◌∷◌, refl, sym, ◌∙◌, subst, inl, inr, true, false, Contains, AllByRecursion, ClientSession, Transaction, Read, Write, Apart, Apart-from_IsDistinct, ops_in, settled}
+use Rattle.level_laws.proofs.Prelude.{committed_ops, is_committed, settle, IsClosed, IsWithin, written, committed_in, node_of, session_of, ops_of, begun_of, ended_of, ops_settled, IsSoundLog, IsLearntLog, nodes_of, IsPart, done, left, kept}
+use Rattle.level_laws.proofs.Prelude.{IsSublist, was_in, thinned_same, KeepsSources, AreNodes, nodes_of_part, number, cases_Bool, false≢true, Op, member, each_member, themselves, Counts, each_of_committed, each_from_committed, Marked}
+use Rattle.level_laws.proofs.Prelude.{all_nodes, kept_nodes, marked, all_marked, kept_marked, counts_once, settled_nodes}
 use Rattle.part_laws.proofs.Sessions.{AreParts, settled_part, committed_stays, committed_ops_sublist}
-use Rattle.level_laws.specs.Snapshot.{number}
 use Rattle.level_laws.proofs.Nodes.{nodes_are}
 use Rattle.level_laws.proofs.Resolved.{settled_learnt}
 use Rattle.level_laws.proofs.Kept.{AreOf}
-use Rattle.std.proofs.lemmas.Bool.{cases_Bool, false≢true}
-use Rattle.session_log.specs.declared.session.Op.{Op}
-use Rattle.log_definitions.proofs.Members.{member, each_member, themselves}
-use Rattle.log_definitions.proofs.Taken.{Counts, each_of_committed, each_from_committed}
-use Rattle.log_definitions.proofs.Renumbered.{Marked, all_nodes, kept_nodes}
-use Rattle.log_definitions.proofs.OnlyTaken.{marked, all_marked, kept_marked, counts_once, settled_nodes}
 
 -- ---- where outcomes are known
 pub record Known (xs ys : List ClientSession) : Type 0 where

@@ -1,22 +1,7 @@
 -- Where outcomes are known and some nodes stay, each with some of its operations: what is left of a point order is one of theirs.
-use Rattle.std.proofs.Common.{◌≡◌, ◌≢◌, ◌⊎◌, ℕ, ◌*◌, ◌<◌, ◌≤◌, Bool, List, [], ◌∷◌, length, map, refl, sym, ap, ◌∙◌, subst, inl, inr, arith, true}
-use Rattle.std.specs.List.{flat_map, Contains}
-use Rattle.std.proofs.lemmas.Option.{same_Some}
-use Rattle.session_log.specs.Moments.{is_earlier}
-use Rattle.session_log.specs.Text.{ClientSession}
-use Rattle.session_log.specs.declared.session.Op.TheVariants.{Read, Write}
-use Rattle.serializability.specs.Replay.{ListsOnce}
-use Rattle.serializability.proofs.Places.{Has, Apart, Has-append_cases, Apart-append}
-use Rattle.serializability.proofs.Listed.{once_apart}
-use Rattle.log_definitions.specs.Unknown.{ops_in}
-use Rattle.log_definitions.specs.WellFormed.{written}
-use Rattle.log_definitions.specs.Serial.{committed_in, ops_of, begun_of, ended_of, Map, initial, Replays}
-use Rattle.log_definitions.proofs.Scanning.{written-append}
-use Rattle.log_definitions.proofs.Chosen.{Has-written}
-use Rattle.log_laws.proofs.Replay.{after, Replays-append}
-use Rattle.part_laws.proofs.Thinned.{IsSublist, was_in}
-use Rattle.part_laws.proofs.Replay.{KeepsSources, replays_less}
-use Rattle.level_laws.specs.Snapshot.{Point, snapshot, commit, number, StandsBefore, snapshot_reads, rest, ops_at, IsPointOrder}
+use Rattle.level_laws.proofs.Prelude.{◌≡◌, ◌≢◌, ◌⊎◌, ℕ, ◌*◌, ◌<◌, ◌≤◌, Bool, List, [], ◌∷◌, length, map, refl, sym, ap, ◌∙◌, subst, inl, inr, arith, true, flat_map, Contains, same_Some, is_earlier, ClientSession, Read, Write, ListsOnce}
+use Rattle.level_laws.proofs.Prelude.{Has, Apart, Has-append_cases, Apart-append, once_apart, ops_in, written, committed_in, ops_of, begun_of, ended_of, Map, initial, Replays, written-append, Has-written, after, Replays-append, IsSublist}
+use Rattle.level_laws.proofs.Prelude.{was_in, KeepsSources, replays_less, Point, snapshot, commit, number, StandsBefore, snapshot_reads, rest, ops_at, IsPointOrder}
 use Rattle.level_laws.proofs.Arith.{point_of_number, IsOf, within}
 use Rattle.level_laws.proofs.Parts.{written_snapshot, written_rest}
 use Rattle.level_laws.proofs.Intervals.{At}

@@ -1,25 +1,9 @@
 -- The log in which the transactions that pass a test are split: its nodes by their numbers, and the points that they stand for.
-use Rattle.std.proofs.Common.{◌≡◌, ◌⊎◌, ℕ, zero, suc, ◌+◌, ◌<◌, ◌≤◌, Bool, true, false, cond, List, [], ◌∷◌, ◌++◌, length, map, Option, Some, None, refl, sym, ap, ◌∙◌, subst, inl, inr, arith, append-nil}
-use Rattle.std.specs.Prelude.{slice_get, option_and_then, unwrap_or}
-use Rattle.std.specs.List.{flat_map, list_any, AllByRecursion}
-use Rattle.std.specs.Option.{option_map, option_map_or}
-use Rattle.std.proofs.lemmas.Bool.{cases_Bool, false≢true}
-use Rattle.std.proofs.lemmas.List.{length-map, map-append}
-use Rattle.std.proofs.lemmas.List.Concat.{flat_map-append}
-use Rattle.std.proofs.lemmas.Option.{same_Some, slice_get-map}
-use Rattle.session_log.specs.Text.{ClientSession, Transaction, is_write}
-use Rattle.session_log.specs.declared.session.Op.{Op}
-use Rattle.session_log.specs.declared.session.Op.TheVariants.{Read, Write}
-use Rattle.serializability.proofs.Places.{Has, each_from_flat_map}
-use Rattle.log_definitions.specs.Unknown.{is_committed, txns_in}
-use Rattle.log_definitions.specs.Serial.{Committed, committed_of, committed_in, node_in, node_of, session_of, ops_of, begun_of, ended_of}
-use Rattle.log_definitions.proofs.Members.{each_weaker}
-use Rattle.log_definitions.proofs.Settled.{IsLearnt}
-use Rattle.log_laws.specs.Logs.{IsLearntLog}
-use Rattle.log_laws.proofs.Sessions.{nodes_from, nodes_of}
-use Rattle.level_laws.specs.Snapshot.{Point, snapshot, commit, number, snapshot_reads_behind, rest_behind}
-use Rattle.level_laws.specs.Split.{Locks, first_writes_behind, locked_writes, take_lock, find_lock, start_ops, end_ops, split_txn}
-use Rattle.level_laws.specs.Points.{points_of_node, points_from, points_at, points_along}
+use Rattle.level_laws.proofs.Prelude.{◌≡◌, ◌⊎◌, ℕ, zero, suc, ◌+◌, ◌<◌, ◌≤◌, Bool, true, false, cond, List, [], ◌∷◌, ◌++◌, length, map, Option, Some, None, refl, sym, ap, ◌∙◌, subst, inl, inr, arith, append-nil, slice_get, option_and_then}
+use Rattle.level_laws.proofs.Prelude.{unwrap_or, flat_map, list_any, AllByRecursion, option_map, option_map_or, cases_Bool, false≢true, length-map, map-append, flat_map-append, same_Some, slice_get-map, ClientSession, Transaction, is_write}
+use Rattle.level_laws.proofs.Prelude.{Op, Read, Write, Has, each_from_flat_map, is_committed, txns_in, Committed, committed_of, committed_in, node_in, node_of, session_of, ops_of, begun_of, ended_of, each_weaker, IsLearnt, IsLearntLog}
+use Rattle.level_laws.proofs.Prelude.{nodes_from, nodes_of, Point, snapshot, commit, number, snapshot_reads_behind, rest_behind, Locks, first_writes_behind, locked_writes, take_lock, find_lock, start_ops, end_ops, split_txn, points_of_node}
+use Rattle.level_laws.proofs.Prelude.{points_from, points_at, points_along}
 use Rattle.level_laws.proofs.Arith.{point_node}
 use Rattle.level_laws.proofs.Parts.{none_locked}
 use Rattle.level_laws.proofs.Named.{split_ops}

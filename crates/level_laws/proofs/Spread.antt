@@ -1,15 +1,7 @@
 -- Each number of a list becomes some others, in its place.
-use Rattle.std.proofs.Common.{◌≡◌, ◌≢◌, ℕ, ◌<◌, ◌≤◌, List, [], ◌∷◌, ◌++◌, get_or, map, refl, sym, ap, ◌∙◌, subst, inl, inr, arith}
-use Rattle.std.specs.List.{flat_map, Contains}
-use Rattle.std.proofs.lemmas.Bool.{cases_eq}
-use Rattle.std.proofs.lemmas.List.{map-append}
-use Rattle.std.proofs.lemmas.List.Concat.{flat_map-append}
-use Rattle.list_lemmas.proofs.Elements.{behind}
-use Rattle.serializability.specs.Replay.{place_of, Before, ListsOnce}
-use Rattle.serializability.proofs.Places.{Has, Apart, Has-from_Contains, Contains-from_Has, Apart-append, place_of-here, place_of-further, place_of-front, place_of-back}
-use Rattle.serializability.proofs.Listed.{once_apart, Has_get, IsDistinct-from_Apart}
-use Rattle.serializability.proofs.Serial.{behind_zero, node_of as listed}
-use Rattle.log_laws.proofs.Lists.{in_flat, of_flat}
+use Rattle.level_laws.proofs.Prelude.{◌≡◌, ◌≢◌, ℕ, ◌<◌, ◌≤◌, List, [], ◌∷◌, ◌++◌, get_or, map, refl, sym, ap, ◌∙◌, subst, inl, inr, arith, flat_map, Contains, cases_eq, map-append, flat_map-append, behind, place_of, Before, ListsOnce, Has}
+use Rattle.level_laws.proofs.Prelude.{Apart, Has-from_Contains, Contains-from_Has, Apart-append, place_of-here, place_of-further, place_of-front, place_of-back, once_apart, Has_get, IsDistinct-from_Apart, behind_zero, in_flat, of_flat}
+use Rattle.serializability.proofs.Serial.{node_of as listed}
 
 -- of numbers 1 to n each of 1 to m comes from one, and once
 pub record Spreads (n m : ℕ) (f : ℕ → List ℕ) : Type 0 where

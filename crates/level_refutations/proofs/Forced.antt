@@ -1,19 +1,9 @@
 -- What a level forces holds in each of its orders.
-use Rattle.std.proofs.Common.{◌≡◌, ℕ, List, ◌∷◌, ◌∙◌, subst, inl, inr}
-use Rattle.std.specs.List.{Contains}
+use Rattle.level_refutations.proofs.Prelude.{◌≡◌, ℕ, List, ◌∷◌, ◌∙◌, subst, inl, inr, Contains, ClientSession, Write, Before, Apart-from_IsDistinct, ops_of, ops_in, IsSoundLog, op_in_log, one_node, ForcedIsKept, InitialIsNotOverlooked}
 use Rattle.list_lemmas.proofs.Each.{member}
-use Rattle.session_log.specs.Text.{ClientSession}
-use Rattle.session_log.specs.declared.session.Op.TheVariants.{Write}
-use Rattle.serializability.specs.Replay.{Before}
-use Rattle.serializability.proofs.Places.{Apart-from_IsDistinct}
-use Rattle.log_definitions.specs.Serial.{ops_of}
-use Rattle.log_definitions.specs.Unknown.{ops_in}
 use Rattle.log_definitions.specs.WellFormed.{written}
 use Rattle.log_definitions.proofs.Chosen.{Has-written}
-use Rattle.log_laws.specs.Logs.{IsSoundLog}
-use Rattle.level_laws.proofs.Nodes.{op_in_log, one_node}
 pub use Rattle.seen_laws.proofs.LastWrites.{some_written as last_written}
-use Rattle.level_refutations.specs.Laws.{ForcedIsKept, InitialIsNotOverlooked}
 
 -- an identity is written by one node
 pub wrote_once : (ss : List ClientSession) → IsSoundLog ss → (u v : ℕ) (k l : List ℕ) (w : ℕ) → Contains (ops_of ss u) (Write k w) → Contains (ops_of ss v) (Write l w) → u ≡ v

@@ -1,25 +1,10 @@
 -- Where evidence is right, there is no order; and what makes an order one of a level.
-use Rattle.std.proofs.Common.{◌≡◌, ◌≢◌, ℕ, true, false, not, ◌&&◌, List, [], ◌∷◌, eqb, eqb-true, Option, Some, None, refl, sym, ap, ◌∙◌, subst, inl, inr, arith, take}
-use Rattle.std.specs.List.{enumerate_from}
-use Rattle.std.specs.Option.{option_map_or}
-use Rattle.std.proofs.lemmas.Bool.{cases_eq, and_parts, and_from, false≢true, not-true, eqb-false, eq-eqb}
+use Rattle.level_refutations.proofs.Prelude.{◌≡◌, ◌≢◌, ℕ, true, false, not, ◌&&◌, List, [], ◌∷◌, eqb, eqb-true, Option, Some, None, refl, sym, ap, ◌∙◌, subst, inl, inr, arith, take, enumerate_from, option_map_or, cases_eq, and_parts}
+use Rattle.level_refutations.proofs.Prelude.{and_from, false≢true, not-true, eqb-false, eq-eqb, same_Some, ClientSession, Transaction, Op, Read, Write, Before, ops_of, is_committed, IsSoundLog, IsLearntLog, Level, last_write, ReadsBehind}
+use Rattle.level_refutations.proofs.Prelude.{IsLevelOrder, FindsLast, TxnAt, OpAt, Overlooked, Edge, Fault, Circle, Initial, txn_at, op_at, is_same, is_of_initial, names_initial, overlooks, is_initial, is_edge, edge_from, edge_to, is_line}
+use Rattle.level_refutations.proofs.Prelude.{is_circle, is_some_wid, leaves, is_left_at, is_left_by, is_left_in, misses_last, misses, is_fault_in, is_fault, is_why, Stands, Overlooks, Stood, NoOrderWhereRefuted, EdgesAreKept, HasItsReads}
+use Rattle.level_refutations.proofs.Prelude.{OrderIsOfEdges}
 use Rattle.std.proofs.lemmas.Map.Keys.{any_passes_from_place}
-use Rattle.std.proofs.lemmas.Option.{same_Some}
-use Rattle.session_log.specs.Text.{ClientSession, Transaction}
-use Rattle.session_log.specs.declared.session.Op.{Op}
-use Rattle.session_log.specs.declared.session.Op.TheVariants.{Read, Write}
-use Rattle.serializability.specs.Replay.{Before}
-use Rattle.log_definitions.specs.Serial.{ops_of}
-use Rattle.log_definitions.specs.Unknown.{is_committed}
-use Rattle.log_laws.specs.Logs.{IsSoundLog, IsLearntLog}
-use Rattle.seen_laws.specs.declared.level.Level.{Level}
-use Rattle.seen_laws.specs.Seen.{last_write, ReadsBehind, IsLevelOrder, FindsLast}
-use Rattle.level_refutations.specs.declared.evidence.{TxnAt.TxnAt, OpAt.OpAt, Overlooked.Overlooked, Edge.Edge}
-use Rattle.level_refutations.specs.declared.evidence.Evidence.TheVariants.{Fault, Circle, Initial}
-use Rattle.level_refutations.specs.Places.{txn_at, op_at, is_same, is_of_initial, names_initial}
-use Rattle.level_refutations.specs.Edges.{overlooks, is_initial, is_edge, edge_from, edge_to, is_line, is_circle}
-use Rattle.level_refutations.specs.Whys.{is_some_wid, leaves, is_left_at, is_left_by, is_left_in, misses_last, misses, is_fault_in, is_fault, is_why}
-use Rattle.level_refutations.specs.Laws.{Stands, Overlooks, Stood, NoOrderWhereRefuted, EdgesAreKept, HasItsReads, OrderIsOfEdges}
 use Rattle.level_refutations.specs.Laws as law
 use Rattle.level_refutations.proofs.Standing.{numbered_at, at_place, map_or_true, standing, ops_are, place_with}
 use Rattle.level_refutations.proofs.Forced.{last_written}

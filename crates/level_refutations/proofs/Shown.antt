@@ -1,32 +1,14 @@
 -- What stands before another node is shown by a right edge, and where no fault passes the test, the
 -- log has its reads.
-use Rattle.std.proofs.Common.{◌≡◌, ◌≢◌, ℕ, ◌<◌, Bool, true, false, not, ◌&&◌, List, [], ◌∷◌, ◌++◌, length, eqb, ltb, eq-eqb, eqb-true, Option, Some, None, refl, sym, ap, ◌∙◌, inl, inr, arith, take}
-use Rattle.std.specs.Prelude.{slice_get, is_some}
-use Rattle.std.specs.List.{list_any, enumerate_from}
-use Rattle.std.specs.Option.{option_map_or}
-use Rattle.std.specs.Str.{bytes_eq}
+use Rattle.level_refutations.proofs.Prelude.{◌≡◌, ◌≢◌, ℕ, ◌<◌, Bool, true, false, not, ◌&&◌, List, [], ◌∷◌, ◌++◌, length, eqb, ltb, eq-eqb, eqb-true, Option, Some, None, refl, sym, ap, ◌∙◌, inl, inr, arith, take, slice_get, is_some}
+use Rattle.level_refutations.proofs.Prelude.{list_any, enumerate_from, option_map_or, bytes_eq, cases_Bool, and_parts, and_from, false≢true, not-true, lt-ltb, ne_eqb, get_or_append_left, length-append, same_Some, slice_get-get_or}
+use Rattle.level_refutations.proofs.Prelude.{slice_get_within, get_or_from_slice_get, bytes_eq-Decides, contains_at, ClientSession, Transaction, Op, Read, Write, ops_of, is_committed, reads_write, IsSoundLog, IsLearntLog, Level}
+use Rattle.level_refutations.proofs.Prelude.{ReadCommitted, MonotonicAtomicView, ReadAtomic, Causal, last_write, ReadsBehind, IsEarlier, Direct, Past, step, path, Sees, TxnAt, OpAt, Hop, Step, txn_at, op_at, is_same, both, is_named}
+use Rattle.level_refutations.proofs.Prelude.{has_key, is_of_key, is_of_initial, names_initial, is_read_where, is_first, is_external, is_session_step, is_read_step, op_of, is_step, is_path, may_see, overlooks_by, is_some_wid, leaves, place}
+use Rattle.level_refutations.proofs.Prelude.{is_left_at, is_left_by, is_left_in, misses_last, misses, is_fault, Stands, Overlooks, IsForced, ShowsForced, EachIsShown, ReadsWhereNoFault}
 use Rattle.std.proofs.Math.Seq.{take-append_seam}
-use Rattle.std.proofs.lemmas.Bool.{cases_Bool, and_parts, and_from, false≢true, not-true, lt-ltb, ne_eqb}
-use Rattle.std.proofs.lemmas.List.{get_or_append_left, length-append}
 use Rattle.std.proofs.lemmas.List.Folds.{Any-from_list_any}
-use Rattle.std.proofs.lemmas.Option.{same_Some, slice_get-get_or, slice_get_within, get_or_from_slice_get}
-use Rattle.std.proofs.lemmas.Slice.Eq.{bytes_eq-Decides}
-use Rattle.list_lemmas.proofs.Elements.{contains_at}
-use Rattle.session_log.specs.Text.{ClientSession, Transaction}
-use Rattle.session_log.specs.declared.session.Op.{Op}
-use Rattle.session_log.specs.declared.session.Op.TheVariants.{Read, Write}
-use Rattle.log_definitions.specs.Serial.{ops_of}
-use Rattle.log_definitions.specs.Unknown.{is_committed, reads_write}
-use Rattle.log_laws.specs.Logs.{IsSoundLog, IsLearntLog}
-use Rattle.seen_laws.specs.declared.level.Level.{Level}
-use Rattle.seen_laws.specs.declared.level.Level.TheVariants.{ReadCommitted, MonotonicAtomicView, ReadAtomic, Causal}
-use Rattle.seen_laws.specs.Seen.{last_write, ReadsBehind, IsEarlier, Direct, Past, step, path, Sees}
-use Rattle.level_refutations.specs.declared.evidence.{TxnAt.TxnAt, OpAt.OpAt, Hop.Hop, Step.Step}
 use Rattle.level_refutations.specs.declared.evidence.Step.TheVariants as hop_step
-use Rattle.level_refutations.specs.Places.{txn_at, op_at, is_same, both, is_named, has_key, is_of_key, is_of_initial, names_initial, is_read_where, is_first, is_external}
-use Rattle.level_refutations.specs.Edges.{is_session_step, is_read_step, op_of, is_step, is_path, may_see, overlooks_by}
-use Rattle.level_refutations.specs.Whys.{is_some_wid, leaves, place, is_left_at, is_left_by, is_left_in, misses_last, misses, is_fault}
-use Rattle.level_refutations.specs.Laws.{Stands, Overlooks, IsForced, ShowsForced, EachIsShown, ReadsWhereNoFault}
 use Rattle.level_refutations.specs.Laws as law
 use Rattle.level_refutations.proofs.Standing.{index_of, of_numbered, found_at, standing, ops_are, session_is, lower, place_with, place_within}
 use Rattle.level_refutations.proofs.Steps.{same_self, same_session, nodes_apart, places_apart, op_is}

@@ -1,28 +1,13 @@
 -- What a read sees by a path.
-use Rattle.std.proofs.Common.{◌≡◌, ℕ, ◌+◌, Bool, true, false, not, ◌&&◌, List, [], ◌∷◌, ◌++◌, length, eqb, Option, Some, None, refl, sym, ap, ◌∙◌, inl, inr, arith, take, drop}
-use Rattle.std.specs.Prelude.{slice_get, is_some}
-use Rattle.std.specs.Option.{option_map_or}
-use Rattle.std.proofs.lemmas.Bool.{and_parts, false≢true, not-true, ltb-true}
-use Rattle.std.proofs.lemmas.List.{take-append-drop, get_or-take, length-take}
-use Rattle.std.proofs.lemmas.Option.{get_or_from_slice_get, slice_get_within}
-use Rattle.list_lemmas.proofs.Elements.{get_drop}
+use Rattle.level_refutations.proofs.Prelude.{◌≡◌, ℕ, ◌+◌, Bool, true, false, not, ◌&&◌, List, [], ◌∷◌, ◌++◌, length, eqb, Option, Some, None, refl, sym, ap, ◌∙◌, inl, inr, arith, take, drop, slice_get, is_some, option_map_or, and_parts}
+use Rattle.level_refutations.proofs.Prelude.{false≢true, not-true, ltb-true, take-append-drop, get_or-take, length-take, get_or_from_slice_get, slice_get_within, get_drop, ClientSession, Transaction, Op, Read, Write, ops_of, IsSoundLog}
+use Rattle.level_refutations.proofs.Prelude.{IsLearntLog, Level, ReadCommitted, MonotonicAtomicView, ReadAtomic, Causal, last_write, ReadsBehind, IsReadBehind, Direct, Sees, TxnAt, OpAt, Hop, Step, Overlooked, txn_at, op_at, is_same}
+use Rattle.level_refutations.proofs.Prelude.{is_named, is_of_key, is_read_where, is_first, is_external, op_of, is_step, is_path, is_read_before, begins_before, may_see, overlooks_by, overlooks, is_forced, Stands, Overlooks, IsForced, Stood}
+use Rattle.level_refutations.proofs.Prelude.{EdgesStand, EdgesHaveNodes, IsReadOf}
 use Rattle.list_lemmas.proofs.Options.{none_of}
-use Rattle.session_log.specs.Text.{ClientSession, Transaction}
-use Rattle.session_log.specs.declared.session.Op.{Op}
-use Rattle.session_log.specs.declared.session.Op.TheVariants.{Read, Write}
-use Rattle.log_definitions.specs.Serial.{ops_of}
-use Rattle.log_laws.specs.Logs.{IsSoundLog, IsLearntLog}
-use Rattle.seen_laws.specs.declared.level.Level.{Level}
-use Rattle.seen_laws.specs.declared.level.Level.TheVariants.{ReadCommitted, MonotonicAtomicView, ReadAtomic, Causal}
-use Rattle.seen_laws.specs.Seen.{last_write, ReadsBehind, IsReadBehind, Direct, Sees}
-use Rattle.level_refutations.specs.declared.evidence.{TxnAt.TxnAt, OpAt.OpAt, Hop.Hop, Step.Step, Overlooked.Overlooked}
 use Rattle.level_refutations.specs.declared.evidence.Step.TheVariants as hop_step
 use Rattle.level_refutations.specs.declared.evidence.Edge.TheVariants as edge
-use Rattle.level_refutations.specs.Places.{txn_at, op_at, is_same, is_named, is_of_key, is_read_where, is_first, is_external}
-use Rattle.level_refutations.specs.Edges.{op_of, is_step, is_path, is_read_before, begins_before, may_see, overlooks_by, overlooks, is_forced}
-use Rattle.level_refutations.specs.Laws.{Stands, Overlooks, IsForced, Stood, EdgesStand, EdgesHaveNodes}
 use Rattle.level_refutations.specs.Laws as law
-use Rattle.level_refutations.specs.Words.{IsReadOf}
 use Rattle.level_refutations.proofs.Standing.{four_parts, ops_are}
 pub use Rattle.level_refutations.proofs.Steps.{of_key}
 use Rattle.level_refutations.proofs.Steps.{nodes_apart, op_is, has_op, node_of_op, named, direct_of_step, ends_of_step, past_of, alone, one_hop}

@@ -1,26 +1,12 @@
 -- The nodes at places.
-use Rattle.std.proofs.Common.{◌≡◌, ℕ, zero, suc, ◌+◌, ◌<◌, ◌≤◌, Bool, true, false, ◌&&◌, ◌||◌, List, [], ◌∷◌, length, Option, Some, None, refl, sym, ap, ◌∙◌, subst, inl, inr, arith, map}
-use Rattle.std.specs.Prelude.{slice_get, option_and_then}
-use Rattle.std.specs.List.{Contains, filter, enumerate_from, list_any}
-use Rattle.std.specs.Option.{option_map_or}
-use Rattle.std.proofs.lemmas.Bool.{cases_order, and_parts, false≢true, cond-true}
-use Rattle.std.proofs.lemmas.Option.{same_Some, cond_some, slice_get_within, slice_get-get_or}
-use Rattle.list_lemmas.proofs.Elements.{contains_at, same_item, mapped, some_at}
-use Rattle.session_log.specs.Text.{ClientSession, Transaction}
-use Rattle.session_log.specs.declared.session.Op.{Op}
-use Rattle.serializability.proofs.Places.{Apart-from_IsDistinct}
-use Rattle.log_definitions.specs.Unknown.{is_committed}
-use Rattle.log_definitions.specs.Serial.{Committed, committed_of, committed_in, node_of, session_of, ops_of}
-use Rattle.log_laws.specs.Logs.{IsSoundLog, IsLearntLog}
+use Rattle.level_refutations.proofs.Prelude.{◌≡◌, ℕ, zero, suc, ◌+◌, ◌<◌, ◌≤◌, Bool, true, false, ◌&&◌, ◌||◌, List, [], ◌∷◌, length, Option, Some, None, refl, sym, ap, ◌∙◌, subst, inl, inr, arith, map, slice_get, option_and_then, Contains}
+use Rattle.level_refutations.proofs.Prelude.{filter, enumerate_from, list_any, option_map_or, cases_order, and_parts, false≢true, cond-true, same_Some, cond_some, slice_get_within, slice_get-get_or, contains_at, same_item, mapped, some_at}
+use Rattle.level_refutations.proofs.Prelude.{ClientSession, Transaction, Op, Apart-from_IsDistinct, is_committed, Committed, committed_of, committed_in, node_of, session_of, ops_of, IsSoundLog, IsLearntLog, nodes_are, is_node, node_at}
+use Rattle.level_refutations.proofs.Prelude.{TxnAt, kept_at, txn_at, place, Stands}
 use Rattle.log_laws.proofs.Lists.{in_flat, of_flat, kept as kept_by, of_kept, of_mapped}
 use Rattle.log_laws.proofs.Orders.{InOrder, pair_at, one_place}
 use Rattle.log_laws.proofs.Sessions.{nodes_from, in_order}
-use Rattle.level_laws.proofs.Nodes.{nodes_are, is_node}
-use Rattle.node_names.specs.Names.{node_at}
-use Rattle.level_refutations.specs.declared.evidence.{TxnAt.TxnAt}
-use Rattle.level_refutations.specs.Places.{kept, kept_at, txn_at}
-use Rattle.level_refutations.specs.Whys.{place}
-use Rattle.level_refutations.specs.Laws.{Stands}
+use Rattle.level_refutations.specs.Places.{kept}
 
 -- ---- options, tests and lists
 pub and_then_some : {A B : Type 0} (f : A → Option B) (o : Option A) (b : B) → option_and_then f o ≡ Some b → (a : A) × (o ≡ Some a) × (f a ≡ Some b)

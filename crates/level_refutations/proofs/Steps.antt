@@ -1,29 +1,10 @@
 -- What right edges say of nodes.
-use Rattle.std.proofs.Common.{◌≡◌, ◌≢◌, ℕ, zero, suc, ◌+◌, Bool, true, false, not, ◌&&◌, List, [], ◌∷◌, length, eqb, ltb, eqb-true, eq-eqb, Option, Some, None, refl, sym, ap, ◌∙◌, subst, inl, inr, arith, map}
-use Rattle.std.specs.Prelude.{slice_get, is_some, option_and_then}
-use Rattle.std.specs.List.{Contains}
-use Rattle.std.specs.Option.{option_map_or}
-use Rattle.std.specs.Str.{bytes_eq}
-use Rattle.std.proofs.lemmas.Bool.{and_parts, and_from, false≢true, not-true, ltb-true, false_from_ne_true}
-use Rattle.std.proofs.lemmas.Option.{same_Some}
-use Rattle.std.proofs.lemmas.Slice.Eq.{bytes_eq-Decides}
-use Rattle.list_lemmas.proofs.Elements.{contains_at, same_item, get_map}
-use Rattle.session_log.specs.Text.{ClientSession, Transaction}
-use Rattle.session_log.specs.declared.session.Op.{Op}
-use Rattle.session_log.specs.declared.session.Op.TheVariants.{Read, Write}
-use Rattle.serializability.proofs.Places.{Apart, Apart-from_IsDistinct, Has-from_Contains}
-use Rattle.log_definitions.specs.Unknown.{reads_write}
-use Rattle.log_definitions.specs.Serial.{Committed, ops_of}
-use Rattle.log_laws.specs.Logs.{IsSoundLog, IsLearntLog}
-use Rattle.node_names.specs.Names.{node_at}
-use Rattle.seen_laws.specs.Seen.{IsEarlier, ReadsFrom, Direct, Past, step, path}
-use Rattle.level_refutations.specs.declared.evidence.{TxnAt.TxnAt, OpAt.OpAt, Hop.Hop, Step.Step}
+use Rattle.level_refutations.proofs.Prelude.{◌≡◌, ◌≢◌, ℕ, zero, suc, ◌+◌, Bool, true, false, not, ◌&&◌, List, [], ◌∷◌, length, eqb, ltb, eqb-true, eq-eqb, Option, Some, None, refl, sym, ap, ◌∙◌, subst, inl, inr, arith, map, slice_get}
+use Rattle.level_refutations.proofs.Prelude.{is_some, option_and_then, Contains, option_map_or, bytes_eq, and_parts, and_from, false≢true, not-true, ltb-true, false_from_ne_true, same_Some, bytes_eq-Decides, contains_at, same_item, get_map}
+use Rattle.level_refutations.proofs.Prelude.{ClientSession, Transaction, Op, Read, Write, Apart, Apart-from_IsDistinct, Has-from_Contains, reads_write, Committed, ops_of, IsSoundLog, IsLearntLog, node_at, IsEarlier, ReadsFrom, Direct, Past}
+use Rattle.level_refutations.proofs.Prelude.{step, path, TxnAt, OpAt, Hop, Step, txn_at, op_at, is_same, both, is_named, has_key, is_of_key, is_session_step, is_read_step, op_of, is_step, is_hop, is_path, place, Stands, IsNamed, IsReadOf}
+use Rattle.level_refutations.proofs.Prelude.{IsWriteFor}
 use Rattle.level_refutations.specs.declared.evidence.Step.TheVariants as hop_step
-use Rattle.level_refutations.specs.Places.{txn_at, op_at, is_same, both, is_named, has_key, is_of_key}
-use Rattle.level_refutations.specs.Edges.{is_session_step, is_read_step, op_of, is_step, is_hop, is_path}
-use Rattle.level_refutations.specs.Whys.{place}
-use Rattle.level_refutations.specs.Laws.{Stands}
-use Rattle.level_refutations.specs.Words.{IsNamed, IsReadOf, IsWriteFor}
 use Rattle.level_refutations.proofs.Standing.{and_then_some, map_or_true, four_parts, standing, ops_are, session_is, one_node, in_session, within}
 
 -- ---- places

@@ -1,27 +1,15 @@
 -- A text without a fault of the grammar is that of a list of legal sessions, which its version holds.
-use Rattle.std.proofs.Common.{◌≡◌, ℕ, zero, suc, ◌+◌, ◌<◌, ◌^◌, Bool, true, false, cond, List, [], ◌∷◌, ◌++◌, map, Option, Some, None, Result, Ok, Err, refl, sym, ap, ◌∙◌, subst, arith, append_assoc}
-use Rattle.std.specs.List.{flat_map, AllByRecursion}
-use Rattle.session_log.specs.Lines.{lines}
-use Rattle.session_log.specs.Moments.{is_earlier, IsMoment}
-use Rattle.session_log.specs.Version.{header_text, first_line, has_unknown_line, has_moments, version_of, body_of}
-use Rattle.session_log.specs.Text.{ClientSession, Transaction, line_text, op_line, end_line, txn_lines, session_lines, text_of_lines, log_text, is_unknown, IsKnown, IsKnownBeforeLast, IsLegal, IsLegalMoment, IsLegalTxn, IsLegalOp, MayEndAt, HasNoMoments, IsHeldBy}
-use Rattle.session_log.specs.Faults.{Place, Start, Between, Inside, Over, after, after_form, step, form_at, is_session_line, first_fault, going_on, grammar_fault}
-use Rattle.session_log.specs.Blocks.{text_of}
-use Rattle.session_log.specs.declared.line.Line.{Line}
+use Rattle.log_definitions.proofs.Prelude.{◌≡◌, ℕ, zero, suc, ◌+◌, ◌<◌, ◌^◌, Bool, true, false, cond, List, [], ◌∷◌, ◌++◌, map, Option, Some, None, Result, Ok, Err, refl, sym, ap, ◌∙◌, subst, arith, append_assoc, flat_map, AllByRecursion}
+use Rattle.log_definitions.proofs.Prelude.{lines, is_earlier, IsMoment, header_text, first_line, has_unknown_line, has_moments, version_of, body_of, ClientSession, Transaction, line_text, op_line, end_line, txn_lines, session_lines}
+use Rattle.log_definitions.proofs.Prelude.{text_of_lines, log_text, is_unknown, IsKnown, IsKnownBeforeLast, IsLegal, IsLegalMoment, IsLegalTxn, IsLegalOp, MayEndAt, HasNoMoments, IsHeldBy, Place, Start, Between, Inside, Over, after}
+use Rattle.log_definitions.proofs.Prelude.{after_form, step, form_at, is_session_line, first_fault, going_on, grammar_fault, text_of, Line, Op, Read, Write, Outcome, Commit, Abort, Unknown, LogFault, OpenTransaction, EndsBeforeBegin}
+use Rattle.log_definitions.proofs.Prelude.{Version, log_by_lines}
 use Rattle.session_log.specs.declared.line.Line.TheVariants as line
-use Rattle.session_log.specs.declared.session.Op.{Op}
-use Rattle.session_log.specs.declared.session.Op.TheVariants.{Read, Write}
-use Rattle.session_log.specs.declared.session.Outcome.{Outcome}
-use Rattle.session_log.specs.declared.session.Outcome.TheVariants.{Commit, Abort, Unknown}
-use Rattle.session_log.specs.declared.fault.LogFault.{LogFault}
-use Rattle.session_log.specs.declared.fault.LogFault.TheVariants.{OpenTransaction, EndsBeforeBegin}
-use Rattle.session_log.specs.declared.version.Version.{Version}
 use Rattle.session_log.specs.declared.version.Version.TheVariants.{One, Two, Three}
 use Rattle.session_log.proofs.Adding.{moment_of, none_stated}
 use Rattle.session_log.proofs.Steps.{form_bytes}
 use Rattle.session_log.proofs.Lying.{text_of_lines_is}
 use Rattle.session_log.proofs.Versions.{header_and_body}
-use Rattle.session_log.proofs.Whole.{log_by_lines}
 
 -- ---- the outcomes of a session's transactions
 -- the last of them alone may be unknown, and only where the version has such

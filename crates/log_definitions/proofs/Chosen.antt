@@ -1,17 +1,7 @@
 -- The unknown transactions that an order takes for committed hold each one that is needed.
-use Rattle.std.proofs.Common.{◌≡◌, ℕ, zero, suc, ◌<◌, ◌≤◌, Bool, true, not, List, [], ◌∷◌, length, Some, refl, sym, ap, ◌∙◌, subst, inl, inr, arith}
-use Rattle.std.specs.List.{filter, flat_map, AllByRecursion, Contains}
-use Rattle.std.proofs.lemmas.Bool.{cases_Bool}
-use Rattle.std.proofs.lemmas.List.Folds.{flat_map-map}
-use Rattle.session_log.specs.Text.{ClientSession, Transaction, IsLegal, IsLegalOp, IsLegalTxn}
-use Rattle.session_log.specs.declared.session.Op.{Op}
-use Rattle.session_log.specs.declared.session.Op.TheVariants.{Read, Write}
-use Rattle.session_log.specs.declared.session.Outcome.TheVariants.{Unknown}
-use Rattle.serializability.proofs.Places.{Has, Apart, each_of_flat_map, each_from_flat_map, each_from_append, each_of_filter}
-use Rattle.log_definitions.specs.Unknown.{is_committed, txns_in, ops_in, settled_as, settled, committed_ops, IsNeeded, IsClosed}
-use Rattle.session_log.specs.Text.{is_commit}
-use Rattle.log_definitions.specs.WellFormed.{written}
-use Rattle.log_definitions.specs.Serial.{Committed, committed_of, node_in, initial}
+use Rattle.log_definitions.proofs.Prelude.{◌≡◌, ℕ, zero, suc, ◌<◌, ◌≤◌, Bool, true, not, List, [], ◌∷◌, length, Some, refl, sym, ap, ◌∙◌, subst, inl, inr, arith, filter, flat_map, AllByRecursion, Contains, cases_Bool, flat_map-map}
+use Rattle.log_definitions.proofs.Prelude.{ClientSession, Transaction, IsLegal, IsLegalOp, IsLegalTxn, Op, Read, Write, Unknown, Has, Apart, each_of_flat_map, each_from_flat_map, each_from_append, each_of_filter, is_committed, txns_in}
+use Rattle.log_definitions.proofs.Prelude.{ops_in, settled_as, settled, committed_ops, IsNeeded, IsClosed, is_commit, written, Committed, committed_of, node_in, initial}
 use Rattle.log_definitions.proofs.Members.{member, themselves, each_weaker, each_member}
 use Rattle.log_definitions.proofs.Settled.{txn_ops, each_of_settled}
 use Rattle.log_definitions.proofs.Nodes.{ops_of_each, each_at, each_op_at}

@@ -1,12 +1,6 @@
 -- A replay meets its reads without the transactions of which no other reads a write.
-use Rattle.std.proofs.Common.{◌≡◌, ◌⊎◌, ℕ, zero, suc, Bool, true, false, List, [], ◌∷◌, ◌++◌, refl, sym, ap, ◌∙◌, subst, inl, inr, arith}
-use Rattle.std.specs.List.{filter, flat_map, AllByRecursion, Contains}
-use Rattle.std.specs.Str.{bytes_eq}
-use Rattle.std.proofs.lemmas.Bool.{cases_Bool}
-use Rattle.std.proofs.lemmas.Slice.Eq.{bytes_eq-Decides}
-use Rattle.session_log.specs.declared.session.Op.{Op}
-use Rattle.session_log.specs.declared.session.Op.TheVariants.{Read, Write}
-use Rattle.log_definitions.specs.Serial.{Map, set, initial, Replays}
+use Rattle.log_definitions.proofs.Prelude.{◌≡◌, ◌⊎◌, ℕ, zero, suc, Bool, true, false, List, [], ◌∷◌, ◌++◌, refl, sym, ap, ◌∙◌, subst, inl, inr, arith, filter, flat_map, AllByRecursion, Contains, bytes_eq, cases_Bool, bytes_eq-Decides, Op}
+use Rattle.log_definitions.proofs.Prelude.{Read, Write, Map, set, initial, Replays}
 
 -- the operation reads nothing of what is dropped
 abbrev pub ReadsKept : (List ℕ → ℕ → Type 0) → Op → Type 0

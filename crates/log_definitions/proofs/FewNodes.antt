@@ -1,18 +1,7 @@
 -- There are no more nodes than transactions of which the log does not say that they were aborted.
-use Rattle.std.proofs.Common.{◌≡◌, ℕ, ◌≤◌, Bool, true, false, not, List, [], ◌∷◌, length, map, refl, arith, length-append}
-use Rattle.std.specs.Prelude.{count_by}
-use Rattle.std.specs.List.{filter}
-use Rattle.std.proofs.lemmas.Bool.{cond_both}
-use Rattle.std.proofs.lemmas.List.Elements.{filter-append}
-use Rattle.std.proofs.lemmas.List.Sums.{length-filter}
-use Rattle.session_log.specs.Text.{ClientSession, Transaction}
-use Rattle.session_log.specs.declared.session.Outcome.{Outcome}
-use Rattle.session_log.specs.declared.session.Outcome.TheVariants.{Commit, Abort, Unknown}
+use Rattle.log_definitions.proofs.Prelude.{◌≡◌, ℕ, ◌≤◌, Bool, true, false, not, List, [], ◌∷◌, length, map, refl, arith, length-append, count_by, filter, cond_both, filter-append, length-filter, ClientSession, Transaction, Outcome, Commit}
+use Rattle.log_definitions.proofs.Prelude.{Abort, Unknown, is_committed, txns_in, settled_as, settle, settled, taken, resolved, is_commit, is_aborted, log_of, IsWellFormedList}
 use Rattle.serializability.specs.declared.node.TheConstants.{MAX_NODES}
-use Rattle.log_definitions.specs.Unknown.{is_committed, txns_in, settled_as, settle, settled, taken, resolved}
-use Rattle.session_log.specs.Text.{is_commit}
-use Rattle.log_definitions.specs.WellFormed.{is_aborted}
-use Rattle.log_definitions.specs.Numbers.{log_of, IsWellFormedList}
 use Rattle.log_definitions.proofs.Nodes.{committed_count}
 use Rattle.log_definitions.proofs.Scanning.{rules_where_no_fault}
 

@@ -1,17 +1,8 @@
 -- Where no identity is written twice, a write is known by its identity.
-use Rattle.std.proofs.Common.{◌≡◌, ℕ, zero, suc, ◌<◌, Bool, not, List, [], ◌∷◌, ◌++◌, length, get_or, Some, refl, sym, ap, ◌∙◌, subst, arith, inl, inr}
-use Rattle.std.specs.Prelude.{map, slice_get}
-use Rattle.std.specs.List.{filter, flat_map, AllByRecursion, Contains}
-use Rattle.std.proofs.lemmas.Bool.{cases_Bool}
-use Rattle.session_log.specs.Text.{ClientSession, Transaction}
-use Rattle.session_log.specs.declared.session.Op.{Op}
+use Rattle.log_definitions.proofs.Prelude.{◌≡◌, ℕ, zero, suc, ◌<◌, Bool, not, List, [], ◌∷◌, ◌++◌, length, get_or, Some, refl, sym, ap, ◌∙◌, subst, arith, inl, inr, map, slice_get, filter, flat_map, AllByRecursion, Contains, cases_Bool}
+use Rattle.log_definitions.proofs.Prelude.{ClientSession, Transaction, Op, Event, Has, Apart, Has-append_front, Has-append_back, Apart-not_both, txns_in, ops_in, settled, taken, resolved, written, events_of}
 use Rattle.session_log.specs.declared.session.Op.TheVariants as op
-use Rattle.serializability.specs.declared.event.Event.{Event}
 use Rattle.serializability.specs.declared.event.Event.TheVariants.{Read, Write}
-use Rattle.serializability.proofs.Places.{Has, Apart, Has-append_front, Has-append_back, Apart-not_both}
-use Rattle.log_definitions.specs.Unknown.{txns_in, ops_in, settled, taken, resolved}
-use Rattle.log_definitions.specs.WellFormed.{written}
-use Rattle.log_definitions.specs.Numbers.{events_of}
 use Rattle.log_definitions.proofs.Scanning.{written-append}
 use Rattle.log_definitions.proofs.Settled.{txn_ops, ops_settled}
 use Rattle.log_definitions.proofs.Nodes.{each_kept, each_at}

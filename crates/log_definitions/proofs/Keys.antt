@@ -1,15 +1,6 @@
 -- The keys of a log, each of which has a number of its own.
-use Rattle.std.proofs.Common.{◌≡◌, ℕ, ◌<◌, Bool, true, false, cond, eqb, List, [], ◌∷◌, ◌++◌, length, refl, sym, ap, ◌∙◌, arith, eq-eqb, ne_eqb}
-use Rattle.std.specs.List.{list_any, AllByRecursion}
-use Rattle.std.specs.Str.{bytes_eq}
-use Rattle.std.proofs.lemmas.Bool.{false≢true, cond_both, or_left, or_right}
-use Rattle.std.proofs.lemmas.List.Folds.{list_any-append}
-use Rattle.std.proofs.lemmas.Slice.Eq.{bytes_eq-Decides}
-use Rattle.session_log.specs.Text.{ClientSession, key_of}
-use Rattle.serializability.proofs.Places.{each_of_map}
-use Rattle.log_definitions.specs.Unknown.{ops_in}
-use Rattle.log_definitions.specs.WellFormed.{keys_in, first_seen}
-use Rattle.log_definitions.specs.Numbers.{number_in}
+use Rattle.log_definitions.proofs.Prelude.{◌≡◌, ℕ, ◌<◌, Bool, true, false, cond, eqb, List, [], ◌∷◌, ◌++◌, length, refl, sym, ap, ◌∙◌, arith, eq-eqb, ne_eqb, list_any, AllByRecursion, bytes_eq, false≢true, cond_both, or_left, or_right}
+use Rattle.log_definitions.proofs.Prelude.{list_any-append, bytes_eq-Decides, ClientSession, key_of, each_of_map, ops_in, keys_in, first_seen, number_in}
 
 -- the key is one of these
 abbrev pub Listed : List (List ℕ) → List ℕ → Type 0

@@ -1,7 +1,5 @@
 -- The sessions and writes of lines that are joined.
-use Rattle.std.proofs.Common.{◌≡◌, ℕ, ◌+◌, List, [], ◌∷◌, ◌++◌, length, arith}
-use Rattle.session_log.specs.declared.line.Line.{Line}
-use Rattle.log_definitions.specs.WellFormed.{sessions_from, writes_from}
+use Rattle.log_definitions.proofs.Prelude.{◌≡◌, ℕ, ◌+◌, List, [], ◌∷◌, ◌++◌, length, arith, Line, sessions_from, writes_from}
 
 pub sessions_from-append : (n : ℕ) (a b : List Line) → sessions_from n (a ++ b) ≡ sessions_from n a ++ sessions_from (n + length a) b
 sessions_from-append n [] b = grind arith

@@ -1,8 +1,5 @@
 -- What holds of each element of a list.
-use Rattle.std.proofs.Common.{◌≡◌, Bool, true, List, [], ◌∷◌}
-use Rattle.std.specs.List.{list_any, AllByRecursion, Contains}
-use Rattle.std.proofs.lemmas.List.Elements.{recursion_from_All, All-contains_itself}
-use Rattle.std.proofs.lemmas.List.Folds.{list_any-from_Any}
+use Rattle.log_definitions.proofs.Prelude.{◌≡◌, Bool, true, List, [], ◌∷◌, list_any, AllByRecursion, Contains, recursion_from_All, All-contains_itself, list_any-from_Any}
 pub use Rattle.list_lemmas.proofs.Each.{member, each_member}
 
 pub themselves : {X : Type 0} (xs : List X) → AllByRecursion (Contains xs) xs

@@ -1,19 +1,7 @@
 -- The operations of the nodes are those of the transactions that count as committed.
-use Rattle.std.proofs.Common.{◌≡◌, ℕ, zero, suc, ◌+◌, Bool, List, [], ◌∷◌, ◌++◌, length, Option, Some, None, refl, sym, ap, ◌∙◌, subst, inl, inr, ◌<◌, ◌≤◌}
-use Rattle.std.specs.Prelude.{map, slice_get}
-use Rattle.std.specs.List.{filter, flat_map, enumerate_from, AllByRecursion, All}
-use Rattle.std.specs.Option.{option_map, option_map_or}
-use Rattle.std.proofs.lemmas.Bool.{cases_Bool}
-use Rattle.std.proofs.lemmas.List.{map-append}
-use Rattle.std.proofs.lemmas.List.Elements.{filter-append}
-use Rattle.std.proofs.lemmas.Option.{slice_get-map}
-use Rattle.session_log.specs.Text.{ClientSession, Transaction}
-use Rattle.session_log.specs.declared.session.Op.{Op}
-use Rattle.serializability.proofs.Places.{length_mapped, each_of_flat_map}
-use Rattle.log_definitions.specs.Unknown.{txns_in, ops_in, is_committed, resolved}
-use Rattle.log_definitions.specs.Serial.{Committed, committed_of, committed_in, node_of, ops_of, IsSerialOrder}
-use Rattle.log_definitions.specs.Numbers.{log_of}
-use Rattle.log_definitions.specs.WellFormed.{keys_in}
+use Rattle.log_definitions.proofs.Prelude.{◌≡◌, ℕ, zero, suc, ◌+◌, Bool, List, [], ◌∷◌, ◌++◌, length, Option, Some, None, refl, sym, ap, ◌∙◌, subst, inl, inr, ◌<◌, ◌≤◌, map, slice_get, filter, flat_map, enumerate_from, AllByRecursion, All}
+use Rattle.log_definitions.proofs.Prelude.{option_map, option_map_or, cases_Bool, map-append, filter-append, slice_get-map, ClientSession, Transaction, Op, length_mapped, each_of_flat_map, txns_in, ops_in, is_committed, resolved, Committed}
+use Rattle.log_definitions.proofs.Prelude.{committed_of, committed_in, node_of, ops_of, IsSerialOrder, log_of, keys_in}
 use Rattle.log_definitions.proofs.Settled.{txn_ops, ops_resolved}
 
 -- the transactions that count as committed

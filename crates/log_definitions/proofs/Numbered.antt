@@ -1,22 +1,10 @@
 -- What holds of the numbers of a well-formed log.
-use Rattle.std.proofs.Common.{◌≡◌, Bool, true, not, ℕ, zero, suc, ◌<◌, ◌≤◌, List, [], ◌∷◌, ◌++◌, length, get_or, Some, None, refl, sym, ap, ◌∙◌, subst, arith}
-use Rattle.std.specs.Prelude.{map, slice_get}
-use Rattle.std.specs.List.{AllByRecursion, filter}
-use Rattle.std.specs.Option.{option_map_or}
-use Rattle.std.proofs.lemmas.Option.{slice_get-get_or}
-use Rattle.session_log.specs.Text.{ClientSession, Transaction, IsLegal, IsLegalOp, IsLegalTxn}
-use Rattle.session_log.specs.declared.session.Op.{Op}
+use Rattle.log_definitions.proofs.Prelude.{◌≡◌, Bool, true, not, ℕ, zero, suc, ◌<◌, ◌≤◌, List, [], ◌∷◌, ◌++◌, length, get_or, Some, None, refl, sym, ap, ◌∙◌, subst, arith, map, slice_get, AllByRecursion, filter, option_map_or}
+use Rattle.log_definitions.proofs.Prelude.{slice_get-get_or, ClientSession, Transaction, IsLegal, IsLegalOp, IsLegalTxn, Op, Commit, Event, Apart-from_IsDistinct, each_of_flat_map, each_from_flat_map, each_from_filter, txns_in, ops_in}
+use Rattle.log_definitions.proofs.Prelude.{is_committed, resolved, keys_in, written, key_of, committed_in, ops_of, events_of, aborted_in, log_of, IsWellFormedList}
 use Rattle.session_log.specs.declared.session.Op.TheVariants as op
-use Rattle.session_log.specs.declared.session.Outcome.TheVariants.{Commit}
-use Rattle.serializability.specs.declared.event.Event.{Event}
 use Rattle.serializability.specs.declared.event.Event.TheVariants.{Read, Write}
 use Rattle.serializability.specs.Reads.{IsNumbered}
-use Rattle.serializability.proofs.Places.{Apart-from_IsDistinct, each_of_flat_map, each_from_flat_map, each_from_filter}
-use Rattle.log_definitions.specs.Unknown.{txns_in, ops_in, is_committed, resolved}
-use Rattle.log_definitions.specs.WellFormed.{keys_in, written}
-use Rattle.session_log.specs.Text.{key_of}
-use Rattle.log_definitions.specs.Serial.{committed_in, ops_of}
-use Rattle.log_definitions.specs.Numbers.{events_of, aborted_in, log_of, IsWellFormedList}
 use Rattle.log_definitions.proofs.Members.{each_weaker}
 use Rattle.log_definitions.proofs.Keys.{Listed, all_listed, number_below}
 use Rattle.log_definitions.proofs.Settled.{txn_ops, ops_resolved}

@@ -1,19 +1,7 @@
 -- An order of the committed and some unknown transactions becomes one of the committed and the taken ones.
-use Rattle.std.proofs.Common.{◌≡◌, ℕ, zero, suc, ◌+◌, Bool, true, false, List, [], ◌∷◌, ◌++◌, refl, sym, ap, ◌∙◌, subst, inl, inr}
-use Rattle.std.specs.Prelude.{nat_eq, map}
-use Rattle.std.specs.List.{filter, flat_map, enumerate_from, AllByRecursion, Contains, IsDistinct}
-use Rattle.std.proofs.lemmas.Bool.{cases_Bool, false≢true}
-use Rattle.session_log.specs.Text.{ClientSession, Transaction, IsLegal}
-use Rattle.session_log.specs.declared.session.Op.{Op}
-use Rattle.session_log.specs.declared.session.Op.TheVariants.{Read, Write}
-use Rattle.session_log.specs.declared.session.Outcome.{Outcome}
-use Rattle.session_log.specs.declared.session.Outcome.TheVariants.{Commit, Abort, Unknown}
-use Rattle.serializability.proofs.Places.{Apart-from_IsDistinct, each_from_flat_map}
-use Rattle.log_definitions.specs.Unknown.{is_committed, ops_in, settled_as, settle, settled, committed_ops, taken, IsClosed, IsWithin}
-use Rattle.session_log.specs.Text.{is_commit}
-use Rattle.log_definitions.specs.WellFormed.{written}
-use Rattle.log_definitions.specs.Serial.{Committed, committed_of, committed_in, node_of, IsSerialOrder, IsSomeOrder}
-use Rattle.log_definitions.specs.Numbers.{IsWellFormedList}
+use Rattle.log_definitions.proofs.Prelude.{◌≡◌, ℕ, zero, suc, ◌+◌, Bool, true, false, List, [], ◌∷◌, ◌++◌, refl, sym, ap, ◌∙◌, subst, inl, inr, nat_eq, map, filter, flat_map, enumerate_from, AllByRecursion, Contains, IsDistinct, cases_Bool}
+use Rattle.log_definitions.proofs.Prelude.{false≢true, ClientSession, Transaction, IsLegal, Op, Read, Write, Outcome, Commit, Abort, Unknown, Apart-from_IsDistinct, each_from_flat_map, is_committed, ops_in, settled_as, settle, settled}
+use Rattle.log_definitions.proofs.Prelude.{committed_ops, taken, IsClosed, IsWithin, is_commit, written, Committed, committed_of, committed_in, node_of, IsSerialOrder, IsSomeOrder, IsWellFormedList}
 use Rattle.log_definitions.proofs.Members.{member, each_member}
 use Rattle.log_definitions.proofs.Settled.{settled_resolved}
 use Rattle.log_definitions.proofs.Scanning.{rules_where_no_fault}

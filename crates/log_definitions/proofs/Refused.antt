@@ -1,15 +1,6 @@
 -- A text has a fault other than memory exactly where no sessions make it a log within its limits.
-use Rattle.std.proofs.Common.{◌≡◌, ◌≢◌, ℕ, ◌+◌, Bool, List, [], ◌∷◌, Option, Some, None, Err, refl, sym, ap, ◌∙◌, arith}
-use Rattle.session_log.specs.Text.{ClientSession}
-use Rattle.session_log.specs.Lines.{lines}
-use Rattle.session_log.specs.Version.{first_line, version_of, body_of}
-use Rattle.session_log.specs.Blocks.{size_fault}
-use Rattle.session_log.specs.Faults.{Place, Start, step, first_fault, grammar_fault}
-use Rattle.session_log.specs.declared.fault.LogFault.{LogFault}
-use Rattle.session_log.specs.declared.fault.LogFault.TheVariants.{Memory}
-use Rattle.session_log.specs.declared.version.Version.{Version}
-use Rattle.session_log.proofs.Whole.{grammar_fault_none, log_text_injective}
-use Rattle.log_definitions.specs.WellFormed.{IsLogWithin, IsFaultWithin, memory, size, grammar, list, list_fault}
+use Rattle.log_definitions.proofs.Prelude.{◌≡◌, ◌≢◌, ℕ, ◌+◌, Bool, List, [], ◌∷◌, Option, Some, None, Err, refl, sym, ap, ◌∙◌, arith, ClientSession, lines, first_line, version_of, body_of, size_fault, Place, Start, step, first_fault}
+use Rattle.log_definitions.proofs.Prelude.{grammar_fault, LogFault, Memory, Version, grammar_fault_none, log_text_injective, IsLogWithin, IsFaultWithin, memory, size, grammar, list, list_fault}
 use Rattle.log_definitions.proofs.Accepted.{IsTextOfSome, sessions_where_no_fault}
 
 -- ---- no definition answers memory

@@ -1,18 +1,7 @@
 -- A replay on keys is one on their numbers.
-use Rattle.std.proofs.Common.{◌≡◌, ℕ, cond, eqb, not, List, [], ◌∷◌, ◌++◌, refl, sym, ap, ◌∙◌, subst, ne_eqb}
-use Rattle.std.proofs.lemmas.Bool.{and_parts, and_from, not-true, not_from_false, eqb-false}
-use Rattle.std.specs.List.{flat_map, AllByRecursion}
-use Rattle.std.specs.Str.{bytes_eq}
-use Rattle.std.proofs.lemmas.List.{map-append}
-use Rattle.session_log.specs.Moments.{is_earlier}
-use Rattle.session_log.specs.Text.{ClientSession, key_of}
-use Rattle.session_log.specs.declared.session.Op.{Op}
-use Rattle.session_log.specs.declared.session.Op.TheVariants.{Read, Write}
-use Rattle.serializability.specs.Replay.{Store, write, empty, Meets, IsSerial}
-use Rattle.serializability.proofs.Places.{each_from_flat_map}
-use Rattle.log_definitions.specs.WellFormed.{keys_in}
-use Rattle.log_definitions.specs.Serial.{Map, set, initial, Replays, ops_of, begun_of, ended_of, IsSerialOrder}
-use Rattle.log_definitions.specs.Numbers.{number_in, event_of, events_of, log_of}
+use Rattle.log_definitions.proofs.Prelude.{◌≡◌, ℕ, cond, eqb, not, List, [], ◌∷◌, ◌++◌, refl, sym, ap, ◌∙◌, subst, ne_eqb, and_parts, and_from, not-true, not_from_false, eqb-false, flat_map, AllByRecursion, bytes_eq, map-append, is_earlier}
+use Rattle.log_definitions.proofs.Prelude.{ClientSession, key_of, Op, Read, Write, Store, write, empty, Meets, IsSerial, each_from_flat_map, keys_in, Map, set, initial, Replays, ops_of, begun_of, ended_of, IsSerialOrder, number_in}
+use Rattle.log_definitions.proofs.Prelude.{event_of, events_of, log_of}
 use Rattle.log_definitions.proofs.Members.{each_member}
 use Rattle.log_definitions.proofs.Keys.{Listed, all_listed, numbers_differ}
 use Rattle.log_definitions.proofs.Nodes.{each_op}

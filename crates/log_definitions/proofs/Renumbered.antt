@@ -1,16 +1,9 @@
 -- Some nodes of a list are kept: an order of all of them becomes an order of the kept ones, by their own numbers.
-use Rattle.std.proofs.Common.{◌≡◌, ◌≢◌, ℕ, zero, suc, ◌<◌, ◌≤◌, Bool, true, false, List, [], ◌∷◌, ◌++◌, length, get_or, Option, refl, sym, ap, ◌∙◌, subst, inl, inr, arith}
-use Rattle.std.specs.Prelude.{map, slice_get, option_and_then}
-use Rattle.std.specs.List.{filter, flat_map}
-use Rattle.std.specs.Option.{option_map_or}
-use Rattle.std.proofs.lemmas.Bool.{cases_Bool, cases_eq, cases_order, false≢true}
-use Rattle.session_log.specs.Moments.{is_earlier}
-use Rattle.session_log.specs.declared.session.Op.{Op}
-use Rattle.serializability.specs.Replay.{place_of, Before, ListsOnce}
-use Rattle.serializability.proofs.Places.{Has, Apart, Has-from_Contains, Contains-from_Has, Apart-from_IsDistinct, place_of-here, place_of-further}
+use Rattle.log_definitions.proofs.Prelude.{◌≡◌, ◌≢◌, ℕ, zero, suc, ◌<◌, ◌≤◌, Bool, true, false, List, [], ◌∷◌, ◌++◌, length, get_or, Option, refl, sym, ap, ◌∙◌, subst, inl, inr, arith, map, slice_get, option_and_then, filter, flat_map}
+use Rattle.log_definitions.proofs.Prelude.{option_map_or, cases_Bool, cases_eq, cases_order, false≢true, is_earlier, Op, place_of, Before, ListsOnce, Has, Apart, Has-from_Contains, Contains-from_Has, Apart-from_IsDistinct, place_of-here}
+use Rattle.log_definitions.proofs.Prelude.{place_of-further, Committed, node_in, initial, Replays}
 use Rattle.serializability.proofs.Listed.{Has_get, IsDistinct-from_Apart}
 use Rattle.serializability.proofs.Serial.{behind_zero}
-use Rattle.log_definitions.specs.Serial.{Committed, node_in, initial, Replays}
 
 -- ---- orders of a list of nodes
 abbrev pub session_at : List Committed → ℕ → ℕ

@@ -1,17 +1,8 @@
 -- A log has no more lines than bytes, and so few that their numbers fit.
-use Rattle.std.proofs.Common.{◌≡◌, ℕ, ◌+◌, ◌<◌, ◌≤◌, ◌^◌, Bool, true, false, cond, List, [], ◌∷◌, ◌++◌, length, Option, Some, None, refl, ap, ◌∙◌, arith, length-append}
-use Rattle.std.specs.Prelude.{nat_lt}
-use Rattle.std.proofs.lemmas.Bool.{ltb-false}
-use Rattle.session_log.specs.Text.{ClientSession, line_text, text_of_lines, log_text}
-use Rattle.session_log.specs.Version.{header_text}
-use Rattle.session_log.specs.Blocks.{size_fault}
-use Rattle.session_log.specs.declared.line.Line.{Line}
+use Rattle.log_definitions.proofs.Prelude.{◌≡◌, ℕ, ◌+◌, ◌<◌, ◌≤◌, ◌^◌, Bool, true, false, cond, List, [], ◌∷◌, ◌++◌, length, Option, Some, None, refl, ap, ◌∙◌, arith, length-append, nat_lt, ltb-false, ClientSession, line_text}
+use Rattle.log_definitions.proofs.Prelude.{text_of_lines, log_text, header_text, size_fault, Line, LogFault, Version, log_by_lines, log_lines}
 use Rattle.session_log.specs.declared.fault.Limit.TheVariants as limit
-use Rattle.session_log.specs.declared.fault.LogFault.{LogFault}
 use Rattle.session_log.specs.declared.fault.LogFault.TheVariants as faults
-use Rattle.session_log.specs.declared.version.Version.{Version}
-use Rattle.session_log.proofs.Whole.{log_by_lines}
-use Rattle.log_definitions.specs.WellFormed.{log_lines}
 
 pub lines_bytes : (fs : List Line) → length fs ≤ length (text_of_lines fs)
 lines_bytes [] = omega arith

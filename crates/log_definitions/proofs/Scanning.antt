@@ -1,20 +1,9 @@
 -- The scans of the lines find no fault exactly where the sessions keep the rules.
-use Rattle.std.proofs.Common.{◌≡◌, ℕ, ◌+◌, ◌≤◌, Bool, true, false, cond, List, [], ◌∷◌, ◌++◌, map, Option, Some, None, refl, sym, ap, ◌∙◌, nat_eq, nat_lt, ne_eqb, subst}
-use Rattle.std.specs.List.{flat_map, list_any, AllByRecursion, IsDistinct}
-use Rattle.std.specs.Option.{option_or}
-use Rattle.std.proofs.lemmas.Bool.{cond-false, eqb-false, or_parts, or_from, ltb-false, le-ltb}
-use Rattle.std.proofs.lemmas.List.Concat.{flat_map-append}
-use Rattle.std.proofs.lemmas.List.Folds.{list_any-append}
-use Rattle.session_log.specs.Text.{ClientSession, Transaction, op_line, end_line, txn_lines, session_lines}
-use Rattle.session_log.specs.declared.line.Line.{Line}
+use Rattle.log_definitions.proofs.Prelude.{◌≡◌, ℕ, ◌+◌, ◌≤◌, Bool, true, false, cond, List, [], ◌∷◌, ◌++◌, map, Option, Some, None, refl, sym, ap, ◌∙◌, nat_eq, nat_lt, ne_eqb, subst, flat_map, list_any, AllByRecursion, IsDistinct}
+use Rattle.log_definitions.proofs.Prelude.{option_or, cond-false, eqb-false, or_parts, or_from, ltb-false, le-ltb, flat_map-append, list_any-append, ClientSession, Transaction, op_line, end_line, txn_lines, session_lines, Line, Op, Read}
+use Rattle.log_definitions.proofs.Prelude.{Write, Outcome, Commit, Abort, Unknown, LogFault, txns_in, ops_in, log_lines, sessions_from, writes_from, repeated, session_twice, write_twice, session_fault, write_fault, limit_fault, list_fault}
+use Rattle.log_definitions.proofs.Prelude.{written, KeepsRules}
 use Rattle.session_log.specs.declared.line.Line.TheVariants as line
-use Rattle.session_log.specs.declared.session.Op.{Op}
-use Rattle.session_log.specs.declared.session.Op.TheVariants.{Read, Write}
-use Rattle.session_log.specs.declared.session.Outcome.{Outcome}
-use Rattle.session_log.specs.declared.session.Outcome.TheVariants.{Commit, Abort, Unknown}
-use Rattle.session_log.specs.declared.fault.LogFault.{LogFault}
-use Rattle.log_definitions.specs.Unknown.{txns_in, ops_in}
-use Rattle.log_definitions.specs.WellFormed.{log_lines, sessions_from, writes_from, repeated, session_twice, write_twice, session_fault, write_fault, limit_fault, list_fault, written, KeepsRules}
 use Rattle.log_definitions.proofs.Settled.{txn_ops}
 
 -- ---- numbers of which none stood before

@@ -1,14 +1,6 @@
 -- Sessions keep their numbers and their operations, whichever unknown transactions count as committed.
-use Rattle.std.proofs.Common.{◌≡◌, ◌≢◌, ℕ, Bool, true, false, List, [], ◌∷◌, ◌++◌, map, refl, sym, ap, ◌∙◌}
-use Rattle.std.specs.List.{flat_map, AllByRecursion}
-use Rattle.std.proofs.lemmas.List.Concat.{flat_map-append}
-use Rattle.std.proofs.lemmas.List.Folds.{flat_map-map}
-use Rattle.session_log.specs.Text.{ClientSession, Transaction}
-use Rattle.session_log.specs.declared.session.Op.{Op}
-use Rattle.session_log.specs.declared.session.Outcome.{Outcome}
-use Rattle.session_log.specs.declared.session.Outcome.TheVariants.{Commit, Abort, Unknown}
-use Rattle.serializability.proofs.Places.{each_of_append, each_from_append, each_of_map, each_from_map}
-use Rattle.log_definitions.specs.Unknown.{txns_in, ops_in, settled_as, settle, settled, taken, resolved}
+use Rattle.log_definitions.proofs.Prelude.{◌≡◌, ◌≢◌, ℕ, Bool, true, false, List, [], ◌∷◌, ◌++◌, map, refl, sym, ap, ◌∙◌, flat_map, AllByRecursion, flat_map-append, flat_map-map, ClientSession, Transaction, Op, Outcome, Commit, Abort}
+use Rattle.log_definitions.proofs.Prelude.{Unknown, each_of_append, each_from_append, each_of_map, each_from_map, txns_in, ops_in, settled_as, settle, settled, taken, resolved}
 use Rattle.log_definitions.proofs.Members.{each_member}
 
 abbrev pub txn_ops : Transaction → List Op

@@ -1,21 +1,11 @@
 -- The taken transactions are the least set that holds each one that is needed.
-use Rattle.std.proofs.Common.{◌≡◌, ◌⊎◌, ℕ, zero, suc, ◌<◌, ◌≤◌, Bool, true, false, not, ◌&&◌, eqb, List, [], ◌∷◌, length, refl, sym, ap, ◌∙◌, subst, inl, inr, arith, eqb-true, eq-eqb}
-use Rattle.std.specs.List.{filter, list_any, AllByRecursion, Contains}
-use Rattle.std.specs.Str.{bytes_eq}
+use Rattle.log_definitions.proofs.Prelude.{◌≡◌, ◌⊎◌, ℕ, zero, suc, ◌<◌, ◌≤◌, Bool, true, false, not, ◌&&◌, eqb, List, [], ◌∷◌, length, refl, sym, ap, ◌∙◌, subst, inl, inr, arith, eqb-true, eq-eqb, filter, list_any, AllByRecursion, Contains}
+use Rattle.log_definitions.proofs.Prelude.{bytes_eq, false≢true, or_cases, or_left, or_right, and_parts, and_from, Any-from_list_any, count_by-le-length, length-filter, bytes_eq-Decides, ClientSession, Transaction}
+use Rattle.log_definitions.proofs.Prelude.{is_unknown as is_unknown_outcome, Op, Read, Write, Outcome, Commit, Abort, Unknown, each_of_flat_map, each_from_flat_map, each_of_filter, each_from_filter, is_committed, txns_in, settled_as}
+use Rattle.log_definitions.proofs.Prelude.{settled, reads_write, reads_of, committed_ops, is_needed, taking, taking_times, taken, resolved, IsNeeded, IsClosed, IsWithin, is_commit}
 use Rattle.std.proofs.Math.Path.{fun_ext}
-use Rattle.std.proofs.lemmas.Bool.{false≢true, or_cases, or_left, or_right, and_parts, and_from}
-use Rattle.std.proofs.lemmas.List.Folds.{Any-from_list_any}
-use Rattle.std.proofs.lemmas.List.Sums.{count_by-le-length, length-filter}
-use Rattle.std.proofs.lemmas.Slice.Eq.{bytes_eq-Decides}
 use Rattle.list_lemmas.proofs.Bools.{same_bool}
-use Rattle.session_log.specs.Text.{ClientSession, Transaction, is_unknown as is_unknown_outcome}
-use Rattle.session_log.specs.declared.session.Op.{Op}
-use Rattle.session_log.specs.declared.session.Op.TheVariants.{Read, Write}
-use Rattle.session_log.specs.declared.session.Outcome.{Outcome}
-use Rattle.session_log.specs.declared.session.Outcome.TheVariants.{Commit, Abort, Unknown}
-use Rattle.serializability.proofs.Places.{each_of_flat_map, each_from_flat_map, each_of_filter, each_from_filter}
-use Rattle.log_definitions.specs.Unknown.{is_committed, is_unknown, txns_in, settled_as, settled, reads_write, reads_of, committed_ops, is_needed, taking, taking_times, taken, resolved, IsNeeded, IsClosed, IsWithin}
-use Rattle.session_log.specs.Text.{is_commit}
+use Rattle.log_definitions.specs.Unknown.{is_unknown}
 use Rattle.log_definitions.proofs.Members.{member, themselves, each_weaker, any_member}
 use Rattle.log_definitions.proofs.Settled.{txn_ops, each_of_settled, each_from_settled}
 

@@ -1,14 +1,7 @@
 -- Where sessions have different numbers, the nodes of a session lie together.
-use Rattle.std.proofs.Common.{◌≡◌, ℕ, zero, suc, ◌<◌, ◌≤◌, List, [], ◌∷◌, ◌++◌, length, get_or, refl, sym, ap, ◌∙◌, subst, arith, inl, inr, unwrap_or, Option, Some, None}
-use Rattle.std.specs.Prelude.{map, slice_get}
-use Rattle.std.specs.List.{filter, flat_map, enumerate_from, AllByRecursion}
-use Rattle.std.specs.Option.{option_map, option_map_or}
-use Rattle.std.proofs.lemmas.List.{map-append}
-use Rattle.std.proofs.lemmas.Option.{slice_get-map, unwrap_or-slice_get}
-use Rattle.session_log.specs.Text.{ClientSession, Transaction}
-use Rattle.serializability.proofs.Places.{Has, Apart, Has-append_cases, length_mapped}
-use Rattle.log_definitions.specs.Unknown.{is_committed, resolved}
-use Rattle.log_definitions.specs.Serial.{Committed, committed_of, committed_in, node_of, session_of}
+use Rattle.log_definitions.proofs.Prelude.{◌≡◌, ℕ, zero, suc, ◌<◌, ◌≤◌, List, [], ◌∷◌, ◌++◌, length, get_or, refl, sym, ap, ◌∙◌, subst, arith, inl, inr, unwrap_or, Option, Some, None, map, slice_get, filter, flat_map, enumerate_from}
+use Rattle.log_definitions.proofs.Prelude.{AllByRecursion, option_map, option_map_or, map-append, slice_get-map, unwrap_or-slice_get, ClientSession, Transaction, Has, Apart, Has-append_cases, length_mapped, is_committed, resolved}
+use Rattle.log_definitions.proofs.Prelude.{Committed, committed_of, committed_in, node_of, session_of}
 use Rattle.log_definitions.proofs.Settled.{numbers_resolved}
 
 -- ---- lists of numbers whose equal elements lie together

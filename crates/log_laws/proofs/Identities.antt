@@ -1,28 +1,16 @@
 -- Identities, and operations of nodes and of sessions.
-use Rattle.std.proofs.Common.{◌≡◌, ℕ, zero, suc, ◌+◌, false, List, [], ◌∷◌, ◌++◌, map, refl, sym, ap, ◌∙◌, subst, inl, inr, arith}
-use Rattle.std.specs.List.{filter, flat_map, AllByRecursion, Contains}
-use Rattle.std.proofs.lemmas.Bool.{cases_Bool, cases_order}
+use Rattle.log_laws.proofs.Prelude.{◌≡◌, ℕ, zero, suc, ◌+◌, false, List, [], ◌∷◌, ◌++◌, map, refl, sym, ap, ◌∙◌, subst, inl, inr, arith, filter, flat_map, AllByRecursion, Contains, cases_Bool, cases_order, is_earlier, ClientSession}
+use Rattle.log_laws.proofs.Prelude.{Transaction, Op, Has, Apart, Has-append_front, Has-append_back, Apart-not_both, each_of_flat_map, each_from_flat_map, is_committed, txns_in, ops_in, committed_ops, written, Committed, committed_of}
+use Rattle.log_laws.proofs.Prelude.{member, themselves, each_weaker, txn_ops, ops_of_each, each_kept, Apart-from_IsDistinct, IsSoundLog}
 use Rattle.std.proofs.lemmas.List.Concat.{flat_map-append}
 use Rattle.std.proofs.lemmas.List.Folds.{flat_map-map}
-use Rattle.session_log.specs.Moments.{is_earlier}
-use Rattle.session_log.specs.Text.{ClientSession, Transaction}
-use Rattle.session_log.specs.declared.session.Op.{Op}
-use Rattle.serializability.proofs.Places.{Has, Apart, Has-append_front, Has-append_back, Apart-not_both, each_of_flat_map, each_from_flat_map}
-use Rattle.log_definitions.specs.Unknown.{is_committed, txns_in, ops_in, committed_ops}
-use Rattle.log_definitions.specs.WellFormed.{written}
-use Rattle.log_definitions.specs.Serial.{Committed, committed_of}
-use Rattle.log_definitions.proofs.Members.{member, themselves, each_weaker}
 use Rattle.log_definitions.proofs.Scanning.{written-append}
-use Rattle.log_definitions.proofs.Settled.{txn_ops}
-use Rattle.log_definitions.proofs.Nodes.{ops_of_each, each_kept}
 use Rattle.log_definitions.proofs.Identities.{Apart_front, Apart_back}
 use Rattle.log_laws.proofs.Lines.{EachPair, ops_along}
 use Rattle.log_laws.proofs.Sessions.{Firsts, node_at, nodes_from, nodes_of, each_node, unshift}
 use Rattle.log_laws.proofs.Lists.{of_flat, EachPair-append}
 use Rattle.log_laws.proofs.Moments.{place_in, one_node}
 use Rattle.log_laws.proofs.Orders.{pair_at}
-use Rattle.serializability.proofs.Places.{Apart-from_IsDistinct}
-use Rattle.log_laws.specs.Logs.{IsSoundLog}
 
 -- ---- operations of nodes are those of committed transactions
 pub ops_of_nodes : (ss : List ClientSession) → ops_along (nodes_of ss) ≡ committed_ops ss

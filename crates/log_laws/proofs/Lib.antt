@@ -1,3 +1,4 @@
+mod Prelude
 pub mod Lines
 pub mod Replay
 pub mod Lists

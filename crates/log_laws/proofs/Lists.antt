@@ -1,15 +1,7 @@
 -- Filters, pairs and operations of a line.
-use Rattle.std.proofs.Common.{◌≡◌, ◌⊎◌, ℕ, ◌≤◌, subst, zero, suc, Bool, true, false, not, List, [], ◌∷◌, ◌++◌, map, refl, sym, ap, ◌∙◌, inl, inr, arith}
-use Rattle.std.specs.List.{filter, flat_map, AllByRecursion, Contains}
-use Rattle.std.proofs.lemmas.Bool.{cases_Bool, false≢true}
-use Rattle.list_lemmas.proofs.Elements.{behind}
-use Rattle.session_log.specs.declared.session.Op.{Op}
-use Rattle.serializability.proofs.Places.{each_from_append, each_from_map, each_of_flat_map, each_from_flat_map, each_of_filter, each_from_filter}
-use Rattle.log_definitions.specs.Serial.{Committed}
-use Rattle.log_definitions.proofs.Members.{member, themselves, each_member}
+use Rattle.log_laws.proofs.Prelude.{◌≡◌, ◌⊎◌, ℕ, ◌≤◌, subst, zero, suc, Bool, true, false, not, List, [], ◌∷◌, ◌++◌, map, refl, sym, ap, ◌∙◌, inl, inr, arith, filter, flat_map, AllByRecursion, Contains, cases_Bool, false≢true, behind, Op}
+use Rattle.log_laws.proofs.Prelude.{each_from_append, each_from_map, each_of_flat_map, each_from_flat_map, each_of_filter, each_from_filter, Committed, member, themselves, each_member, mapped, nat_le}
 use Rattle.log_laws.proofs.Lines.{EachPair, ops_along}
-use Rattle.list_lemmas.proofs.Elements.{mapped}
-use Rattle.std.specs.Prelude.{nat_le}
 
 -- ---- membership
 pub first_or_behind : {X : Type 0} (x : X) (xs : List X) (y : X) → Contains (x ∷ xs) y → (x ≡ y) ⊎ Contains xs y

@@ -1,11 +1,5 @@
 -- What stands where in a line, by moments, sessions and reads.
-use Rattle.std.proofs.Common.{◌≡◌, ◌≢◌, ℕ, ◌<◌, List, Some, refl, sym, ap, ◌∙◌, inl, inr, arith}
-use Rattle.std.specs.Prelude.{slice_get}
-use Rattle.std.specs.List.{Contains}
-use Rattle.std.proofs.lemmas.Bool.{cases_order}
-use Rattle.std.proofs.lemmas.Option.{slice_get-get_or}
-use Rattle.session_log.specs.declared.session.Op.TheVariants.{Write}
-use Rattle.log_definitions.specs.Serial.{Committed, Map}
+use Rattle.log_laws.proofs.Prelude.{◌≡◌, ◌≢◌, ℕ, ◌<◌, List, Some, refl, sym, ap, ◌∙◌, inl, inr, arith, slice_get, Contains, cases_order, slice_get-get_or, Write, Committed, Map}
 use Rattle.log_laws.proofs.Lines.{MayPrecede, EachPair}
 use Rattle.log_laws.proofs.Orders.{pair_at}
 

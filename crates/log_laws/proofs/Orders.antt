@@ -1,20 +1,11 @@
 -- A list of nodes has a serial order exactly where it has a line.
-use Rattle.std.proofs.Common.{◌≡◌, ◌≢◌, ◌⊎◌, ℕ, zero, suc, ◌<◌, ◌≤◌, Bool, true, false, eqb, ◌&&◌, cond, List, [], ◌∷◌, ◌++◌, length, get_or, map, Option, Some, None, refl, sym, ap, ◌∙◌, subst, inl, inr, arith, eq-eqb, eqb-true}
-use Rattle.std.specs.Prelude.{◌↔◌, slice_get, option_and_then}
-use Rattle.std.specs.List.{flat_map, AllByRecursion, Contains}
+use Rattle.log_laws.proofs.Prelude.{◌≡◌, ◌≢◌, ◌⊎◌, ℕ, zero, suc, ◌<◌, ◌≤◌, Bool, true, false, eqb, ◌&&◌, cond, List, [], ◌∷◌, ◌++◌, length, get_or, map, Option, Some, None, refl, sym, ap, ◌∙◌, subst, inl, inr, arith, eq-eqb, eqb-true, ◌↔◌}
+use Rattle.log_laws.proofs.Prelude.{slice_get, option_and_then, flat_map, AllByRecursion, Contains, cases_Bool, cases_eq, cases_order, false≢true, and_parts, and_from, slice_get_within, slice_get-get_or, contains_at, mapped, is_earlier}
+use Rattle.log_laws.proofs.Prelude.{Has, Apart, Has-from_Contains, Contains-from_Has, Apart-from_IsDistinct, place_of-here, place_of-further, Has_get, IsDistinct-from_Apart, Committed, node_in, initial, Replays, member, each_member}
+use Rattle.log_laws.proofs.Prelude.{each_at, Orders, session_at, ops_at, begun_at, ended_at}
 use Rattle.std.specs.Option.{option_map_or}
-use Rattle.std.proofs.lemmas.Bool.{cases_Bool, cases_eq, cases_order, false≢true, and_parts, and_from}
-use Rattle.std.proofs.lemmas.Option.{slice_get_within, slice_get-get_or}
-use Rattle.list_lemmas.proofs.Elements.{contains_at, mapped}
-use Rattle.session_log.specs.Moments.{is_earlier}
 use Rattle.serializability.specs.Replay.{place_of, Before}
-use Rattle.serializability.proofs.Places.{Has, Apart, Has-from_Contains, Contains-from_Has, Apart-from_IsDistinct, place_of-here, place_of-further}
-use Rattle.serializability.proofs.Listed.{Has_get, IsDistinct-from_Apart}
 use Rattle.serializability.proofs.Serial.{behind_zero}
-use Rattle.log_definitions.specs.Serial.{Committed, node_in, initial, Replays}
-use Rattle.log_definitions.proofs.Members.{member, each_member}
-use Rattle.log_definitions.proofs.Nodes.{each_at}
-use Rattle.log_definitions.proofs.Renumbered.{Orders, session_at, ops_at, begun_at, ended_at}
 use Rattle.log_laws.proofs.Lines.{MayPrecede, EachPair, IsLine, ops_along}
 use Rattle.log_laws.proofs.Lists.{first_or_behind, of_mapped}
 

@@ -1,28 +1,13 @@
 -- A log with its unknown outcomes resolved.
-use Rattle.std.proofs.Common.{◌≡◌, List, ◌∷◌, sym, ap, subst}
-use Rattle.std.specs.Prelude.{nat_eq}
-use Rattle.std.specs.List.{flat_map, AllByRecursion, IsDistinct}
-use Rattle.session_log.specs.Text.{ClientSession}
-use Rattle.serializability.proofs.Places.{each_of_flat_map}
-use Rattle.log_definitions.specs.Unknown.{txns_in, settle, taken, resolved}
-use Rattle.log_definitions.specs.WellFormed.{written}
-use Rattle.log_definitions.specs.Serial.{committed_of, committed_in}
-use Rattle.log_definitions.proofs.Members.{each_member}
-use Rattle.log_definitions.proofs.Settled.{each_from_settled, numbers_resolved, ops_resolved, learnt_resolved, outcome_learnt, IsLearnt}
+use Rattle.log_laws.proofs.Prelude.{◌≡◌, List, ◌∷◌, sym, ap, subst, nat_eq, flat_map, AllByRecursion, IsDistinct, ClientSession, each_of_flat_map, txns_in, settle, taken, resolved, written, committed_of, committed_in, each_member}
+use Rattle.log_laws.proofs.Prelude.{each_from_settled, numbers_resolved, ops_resolved, learnt_resolved, outcome_learnt, IsLearnt, IsSoundLog, IsLearntLog, ◌≢◌, ℕ, Bool, true, false, [], map, Option, refl, IsLegal, IsLegalTxn, MayEndAt}
+use Rattle.log_laws.proofs.Prelude.{IsKnown, is_unknown, each_from_map, settled_as, settled, taken as takes, each_weaker, IsLog}
 use Rattle.log_definitions.proofs.Taken.{resolved_is}
-use Rattle.log_laws.specs.Logs.{IsSoundLog, IsLearntLog}
 use Rattle.log_laws.proofs.Identities.{IsOrdered}
-use Rattle.std.proofs.Common.{◌≡◌, ◌≢◌, ℕ, Bool, true, false, List, [], ◌∷◌, map, Option, refl, sym, subst}
-use Rattle.std.specs.List.{AllByRecursion}
-use Rattle.session_log.specs.Text.{ClientSession, IsLegal, IsLegalTxn, MayEndAt, IsKnown, is_unknown}
 use Rattle.session_log.specs.declared.session.Outcome.{Outcome}
 use Rattle.session_log.specs.declared.session.Outcome.TheVariants.{Commit, Abort, Unknown}
 use Rattle.session_log.proofs.Blocks.{all_before}
-use Rattle.serializability.proofs.Places.{each_from_map}
-use Rattle.log_definitions.specs.Unknown.{settled_as, settle, settled, taken as takes, resolved}
-use Rattle.log_definitions.proofs.Members.{each_weaker, each_member}
 use Rattle.log_definitions.proofs.Taken.{resolved_is}
-use Rattle.log_laws.specs.Logs.{IsSoundLog, IsLog}
 
 -- ---- a log with its unknown outcomes resolved
 pub sound_resolved : (ss : List ClientSession) → IsSoundLog ss → IsSoundLog (resolved ss)

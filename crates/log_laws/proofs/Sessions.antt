@@ -1,14 +1,6 @@
 -- The nodes of the two parts of a cut log.
-use Rattle.std.proofs.Common.{◌≡◌, ℕ, suc, ◌+◌, ◌<◌, ◌≤◌, Bool, true, false, List, [], ◌∷◌, map, refl, sym, ap, ◌∙◌, subst, inl, inr, arith}
-use Rattle.std.specs.Prelude.{nat_le}
-use Rattle.std.specs.List.{filter, flat_map, enumerate_from, AllByRecursion, Contains}
-use Rattle.std.proofs.lemmas.Bool.{cases_Bool}
-use Rattle.list_lemmas.proofs.Elements.{mapped}
-use Rattle.session_log.specs.Text.{ClientSession, Transaction}
-use Rattle.serializability.proofs.Places.{Has, Apart, Has-from_Contains}
-use Rattle.log_definitions.specs.Unknown.{is_committed}
-use Rattle.log_definitions.specs.Serial.{Committed, committed_of}
-use Rattle.log_definitions.proofs.Members.{member, each_weaker}
+use Rattle.log_laws.proofs.Prelude.{◌≡◌, ℕ, suc, ◌+◌, ◌<◌, ◌≤◌, Bool, true, false, List, [], ◌∷◌, map, refl, sym, ap, ◌∙◌, subst, inl, inr, arith, nat_le, filter, flat_map, enumerate_from, AllByRecursion, Contains, cases_Bool, mapped}
+use Rattle.log_laws.proofs.Prelude.{ClientSession, Transaction, Has, Apart, Has-from_Contains, is_committed, Committed, committed_of, member, each_weaker}
 use Rattle.log_laws.proofs.Lines.{EachPair}
 use Rattle.log_laws.proofs.Lists.{of_flat, EachPair-append}
 use Rattle.log_laws.proofs.Orders.{InOrder}

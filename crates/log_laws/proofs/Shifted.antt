@@ -1,17 +1,9 @@
 -- Lines of the same nodes, of nodes at other places, and of sessions.
-use Rattle.std.proofs.Common.{◌≡◌, ◌+◌, ◌-◌, ◌≤◌, List, [], ◌∷◌, ◌++◌, map, refl, sym, ap, ◌∙◌, subst, arith}
-use Rattle.std.specs.Prelude.{◌↔◌}
-use Rattle.std.specs.List.{flat_map, AllByRecursion, Contains}
-use Rattle.session_log.specs.Text.{ClientSession}
-use Rattle.serializability.proofs.Places.{Apart, each_from_flat_map, each_from_map}
-use Rattle.log_definitions.specs.Serial.{Committed, committed_of, committed_in, Map, initial, Replays}
-use Rattle.log_definitions.proofs.Members.{each_weaker, each_member}
-use Rattle.log_definitions.proofs.Settled.{learnt_resolved, IsLearnt}
-use Rattle.log_definitions.proofs.Renumbered.{Orders}
+use Rattle.log_laws.proofs.Prelude.{◌≡◌, ◌+◌, ◌-◌, ◌≤◌, List, [], ◌∷◌, ◌++◌, map, refl, sym, ap, ◌∙◌, subst, arith, ◌↔◌, flat_map, AllByRecursion, Contains, ClientSession, Apart, each_from_flat_map, each_from_map, Committed, committed_of}
+use Rattle.log_laws.proofs.Prelude.{committed_in, Map, initial, Replays, each_weaker, each_member, learnt_resolved, IsLearnt, Orders, HasOrder}
 use Rattle.log_definitions.proofs.OnlyTaken.{orders_from_serial, serial_from_orders}
 use Rattle.log_laws.proofs.Lines.{MayPrecede, EachPair, IsLine, ops_along}
 use Rattle.log_laws.proofs.Sessions.{Firsts, nodes_of, unshift, in_order}
-use Rattle.log_laws.specs.Logs.{HasOrder}
 use Rattle.log_laws.proofs.Lists.{of_mapped, EachPair-map, mapped_within}
 use Rattle.log_laws.proofs.Orders.{orders_where_lines}
 use Rattle.log_laws.proofs.Txns.{AreLearnt, numbers_of}

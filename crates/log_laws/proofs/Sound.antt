@@ -1,17 +1,6 @@
 -- Legal sessions with numbers and identities of their own are sound.
-use Rattle.std.proofs.Common.{◌≡◌, false, List, [], ◌∷◌, map, inl, inr, arith}
-use Rattle.std.specs.Prelude.{nat_eq}
-use Rattle.std.specs.List.{AllByRecursion, IsDistinct}
-use Rattle.session_log.specs.Moments.{is_earlier}
-use Rattle.session_log.specs.Text.{ClientSession, Transaction, IsLegal, IsLegalOp, IsLegalTxn}
-use Rattle.session_log.specs.declared.session.Op.{Op}
-use Rattle.session_log.specs.declared.session.Op.TheVariants.{Read, Write}
-use Rattle.serializability.proofs.Places.{Has, Apart-from_IsDistinct, each_from_flat_map}
-use Rattle.serializability.proofs.Listed.{IsDistinct-from_Apart}
-use Rattle.log_definitions.specs.Unknown.{txns_in, ops_in}
-use Rattle.log_definitions.specs.WellFormed.{written}
-use Rattle.log_definitions.proofs.Members.{each_weaker}
-use Rattle.log_laws.specs.Logs.{IsSoundLog}
+use Rattle.log_laws.proofs.Prelude.{◌≡◌, false, List, [], ◌∷◌, map, inl, inr, arith, nat_eq, AllByRecursion, IsDistinct, is_earlier, ClientSession, Transaction, IsLegal, IsLegalOp, IsLegalTxn, Op, Read, Write, Has, Apart-from_IsDistinct}
+use Rattle.log_laws.proofs.Prelude.{each_from_flat_map, IsDistinct-from_Apart, txns_in, ops_in, written, each_weaker, IsSoundLog}
 
 no_zero : (ops : List Op) → AllByRecursion IsLegalOp ops → Has 0 (written ops) → ⊥
 no_zero [] h k = k

@@ -1,10 +1,5 @@
 -- What holds of each transaction, in one list and session by session.
-use Rattle.std.proofs.Common.{ℕ, List, map}
-use Rattle.std.specs.List.{AllByRecursion}
-use Rattle.session_log.specs.Text.{ClientSession, Transaction}
-use Rattle.serializability.proofs.Places.{each_of_flat_map, each_from_flat_map}
-use Rattle.log_definitions.specs.Unknown.{txns_in}
-use Rattle.log_definitions.proofs.Settled.{IsLearnt}
+use Rattle.log_laws.proofs.Prelude.{ℕ, List, map, AllByRecursion, ClientSession, Transaction, each_of_flat_map, each_from_flat_map, txns_in, IsLearnt}
 
 -- ---- sessions whose outcomes are known
 

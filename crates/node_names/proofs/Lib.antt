@@ -1,2 +1,3 @@
+mod Prelude
 mod Nodes
 mod Names

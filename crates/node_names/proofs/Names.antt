@@ -1,10 +1,5 @@
 -- The names of nodes, for whoever prints an order.
-use Rattle.std.proofs.Common.{◌≡◌, ℕ, List, [], ◌∷◌, ◌++◌, map, refl, sym, ap, ◌∙◌, arith}
-use Rattle.std.specs.List.{Contains}
-use Rattle.list_lemmas.proofs.Elements.{behind}
-use Rattle.session_log.specs.Text.{Transaction}
-use Rattle.log_definitions.specs.Serial.{Committed}
-use Rattle.node_names.specs.Names.{nodes_from, names_of}
+use Rattle.node_names.proofs.Prelude.{◌≡◌, ℕ, List, [], ◌∷◌, ◌++◌, map, refl, sym, ap, ◌∙◌, arith, Contains, behind, Transaction, Committed, nodes_from, names_of}
 use Rattle.node_names.proofs.Nodes.{stands}
 
 -- the nodes of a session have its number

@@ -1,15 +1,8 @@
 -- The nodes of a session.
-use Rattle.std.proofs.Common.{◌≡◌, ℕ, ◌+◌, ◌≤◌, true, false, List, [], ◌∷◌, length, refl, Some}
-use Rattle.std.specs.Prelude.{drop, slice_get}
-use Rattle.std.specs.List.{Contains}
-use Rattle.std.proofs.lemmas.List.{drop_all}
-use Rattle.list_lemmas.proofs.Elements.{get_drop}
-use Rattle.session_log.specs.Text.{Transaction}
+use Rattle.node_names.proofs.Prelude.{◌≡◌, ℕ, ◌+◌, ◌≤◌, true, false, List, [], ◌∷◌, length, refl, Some, drop, slice_get, Contains, drop_all, get_drop, Transaction, Committed, node_at, nodes_from}
 use Rattle.log_definitions.specs.Unknown.{is_committed}
-use Rattle.log_definitions.specs.Serial.{Committed}
 use Rattle.log_definitions.proofs.Members.{member}
 use Rattle.log_laws.proofs.Sessions.{all_stand}
-use Rattle.node_names.specs.Names.{node_at, nodes_from}
 
 pub node_here : (number i : ℕ) (ts : List Transaction) (t : Transaction) → slice_get ts i ≡ Some t → is_committed t ≡ true → nodes_from number i ts ≡ node_at number (i + 1) t ∷ nodes_from number (i + 1) ts
 node_here number i ts t at is = rw (get_drop ts i t at) (rw is refl)

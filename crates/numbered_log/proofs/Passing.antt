@@ -1,37 +1,17 @@
 -- Transactions and sessions are passed, one after the other.
-use Rattle.std.proofs.Common.{◌≡◌, ◌≢◌, ◌⊎◌, ℕ, zero, suc, ◌+◌, ◌<◌, ◌≤◌, Bool, true, false, eqb, eq-eqb, ne_eqb, List, [], ◌∷◌, ◌++◌, length, get_or, take, map, Some, refl, sym, ap, ◌∙◌, subst, inl, inr, arith, append_assoc}
-use Rattle.std.specs.Prelude.{slice_get, slice_index, OnOk, Result, Ok, Err}
-use Rattle.std.specs.List.{flat_map, AllByRecursion, Contains}
+use Rattle.numbered_log.proofs.Prelude.{◌≡◌, ◌≢◌, ◌⊎◌, ℕ, zero, suc, ◌+◌, ◌<◌, ◌≤◌, Bool, true, false, eqb, eq-eqb, ne_eqb, List, [], ◌∷◌, ◌++◌, length, get_or, take, map, Some, refl, sym, ap, ◌∙◌, subst, inl, inr, arith, append_assoc}
+use Rattle.numbered_log.proofs.Prelude.{slice_get, slice_index, OnOk, Result, Ok, Err, flat_map, AllByRecursion, Contains, cases_Bool, cases_eq, cond-true, cond-false, map-append, length-append, slice_get_within, get_or_from_slice_get}
+use Rattle.numbered_log.proofs.Prelude.{append_none, front_more, behind, ClientSession, Transaction, key_of, Op, settle, settled_as, is_committed, ops_in, txns_in, settled, taken, resolved, first_seen, keys_in, Committed, committed_of}
+use Rattle.numbered_log.proofs.Prelude.{committed_in, IsLearnt, nodes_from, Node, Moments, Event, Read, Write, Store, write, Making, between, begun_in, ended_in, Grows, EachStands, IsNode, AreWriters, Extends, AddsOps, AddsMoments, IsMade}
+use Rattle.numbered_log.proofs.Prelude.{keys_of, ids_of, writers_of, all_noted, node_at, node_of, session_as}
 use Rattle.std.proofs.Math.Path.{fun_ext}
-use Rattle.std.proofs.lemmas.Bool.{cases_Bool, cases_eq, cond-true, cond-false}
 use Rattle.std.proofs.lemmas.Grind.{flat_map-append}
-use Rattle.std.proofs.lemmas.List.{map-append, length-append}
-use Rattle.std.proofs.lemmas.Option.{slice_get_within, get_or_from_slice_get}
-use Rattle.list_lemmas.proofs.Lists.{append_none, front_more}
-use Rattle.list_lemmas.proofs.Elements.{behind}
-use Rattle.session_log.specs.Text.{ClientSession, Transaction, key_of}
-use Rattle.session_log.specs.declared.session.Op.{Op}
 use Rattle.session_log.specs.declared.session.Outcome.{Outcome}
 use Rattle.session_log.specs.declared.session.Outcome.TheVariants.{Commit, Abort, Unknown}
-use Rattle.log_definitions.specs.Unknown.{settle, settled_as, is_committed, ops_in, txns_in, settled, taken, resolved}
-use Rattle.log_definitions.specs.WellFormed.{first_seen, keys_in}
-use Rattle.log_definitions.specs.Serial.{Committed, committed_of, committed_in}
-use Rattle.log_definitions.proofs.Settled.{IsLearnt}
-use Rattle.log_laws.proofs.Sessions.{nodes_from}
 use Rattle.log_laws.proofs.Shifted.{nodes_are}
-use Rattle.numbered_log.specs.declared.log.Node.{Node}
-use Rattle.numbered_log.specs.declared.log.Moments.{Moments}
-use Rattle.serializability.specs.declared.event.Event.{Event}
-use Rattle.serializability.specs.declared.event.Event.TheVariants.{Read, Write}
 use Rattle.serializability.specs.Events.{event_wid}
-use Rattle.serializability.specs.Replay.{Store, write}
 use Rattle.log_laws.proofs.Lists.{first_or_behind}
 use Rattle.numbered_log.specs.declared.versions.VersionNumbers.{VersionNumbers}
-use Rattle.numbered_log.specs.declared.making.Making.{Making}
-use Rattle.numbered_log.specs.View.{between, begun_in, ended_in}
-use Rattle.numbered_log.specs.Finding.{Grows}
-use Rattle.numbered_log.specs.Numbering.{EachStands, IsNode, AreWriters}
-use Rattle.numbered_log.specs.Making.{Extends, AddsOps, AddsMoments, IsMade, keys_of, ids_of, writers_of, all_noted, node_at, node_of, session_as}
 use Rattle.numbered_log.proofs.Tables.{pushed_at, pushed_before, pushed_cases}
 use Rattle.numbered_log.proofs.Seen.{seen_append}
 use Rattle.numbered_log.proofs.Growing.{keys_grow, each_grown, between_before, between_all}

@@ -1,17 +1,7 @@
 -- A text without a fault is the text of nodes.
-use Rattle.std.proofs.Common.{◌≡◌, ℕ, ◌+◌, ◌≤◌, ◌^◌, Bool, true, false, cond, List, [], ◌∷◌, ◌++◌, length, Option, Some, None, refl, sym, ap, ◌∙◌, nat_lt, ◌&&◌}
-use Rattle.std.specs.List.{flat_map}
-use Rattle.std.specs.Option.{option_or, is_some}
-use Rattle.std.proofs.lemmas.Bool.{ltb-false}
-use Rattle.std.proofs.lemmas.List.Elements.{All-nil, All-cons}
-use Rattle.session_log.specs.Text.{ClientSession}
-use Rattle.session_log.specs.Lines.{lines, bytes_of}
+use Rattle.order_text.proofs.Prelude.{◌≡◌, ℕ, ◌+◌, ◌≤◌, ◌^◌, Bool, true, false, cond, List, [], ◌∷◌, ◌++◌, length, Option, Some, None, refl, sym, ap, ◌∙◌, nat_lt, ◌&&◌, flat_map, option_or, is_some, ltb-false, All-nil, All-cons}
+use Rattle.order_text.proofs.Prelude.{ClientSession, lines, bytes_of, name_in, name_line, order_text, AreNodes, is_name, named, line_fault, first_fault, order_fault, OrderFault, BadLine, NoSuchTransaction, TooLong}
 use Rattle.session_log.proofs.Lying.{text_of_lines_is}
-use Rattle.session_history.specs.Tables.{name_in}
-use Rattle.order_text.specs.Text.{name_line, order_text, AreNodes}
-use Rattle.order_text.specs.Faults.{is_name, named, line_fault, first_fault, order_fault}
-use Rattle.order_text.specs.declared.fault.OrderFault.{OrderFault}
-use Rattle.order_text.specs.declared.fault.OrderFault.TheVariants.{BadLine, NoSuchTransaction, TooLong}
 use Rattle.order_text.proofs.Reading.{IsNode, IsRead, bytes_read, named-sound}
 
 -- ---- each names a node

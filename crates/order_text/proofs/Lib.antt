@@ -1,3 +1,4 @@
+mod Prelude
 pub mod Reading
 pub mod Names
 pub mod Printing

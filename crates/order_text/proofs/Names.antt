@@ -1,22 +1,15 @@
 -- No two nodes of a well-formed log have one name, and the numbers of a name are below 2 ^ 64.
-use Rattle.std.proofs.Common.{◌≡◌, ℕ, zero, suc, ◌+◌, ◌<◌, ◌≤◌, ◌^◌, Bool, true, false, List, [], ◌∷◌, ◌++◌, length, map, Some, refl, sym, ap, ◌∙◌, subst, inl, inr, arith, ◌==◌, ◌&&◌, eq-eqb, length-append}
+use Rattle.order_text.proofs.Prelude.{◌≡◌, ℕ, zero, suc, ◌+◌, ◌<◌, ◌≤◌, ◌^◌, Bool, true, false, List, [], ◌∷◌, ◌++◌, length, map, Some, refl, sym, ap, ◌∙◌, subst, inl, inr, arith, ◌==◌, ◌&&◌, eq-eqb, length-append, find, filter, flat_map}
+use Rattle.order_text.proofs.Prelude.{enumerate_from, range_with_len, AllByRecursion, option_map_or, cases_Bool, and_from, cond-true, length-map, ClientSession, Transaction, IsLegal, session_lines, log_lines, Committed, committed_of}
+use Rattle.order_text.proofs.Prelude.{committed_in, node_of, IsWellFormedList, log_of, name_in, node_named}
 use Rattle.std.specs.Prelude.{slice_get}
-use Rattle.std.specs.List.{find, filter, flat_map, enumerate_from, range_with_len, AllByRecursion}
-use Rattle.std.specs.Option.{option_map_or}
-use Rattle.std.proofs.lemmas.Bool.{cases_Bool, and_from, cond-true}
-use Rattle.std.proofs.lemmas.List.{length-map}
 use Rattle.list_lemmas.proofs.Elements.{some_at}
-use Rattle.session_log.specs.Text.{ClientSession, Transaction, IsLegal, session_lines}
 use Rattle.serializability.proofs.Places.{Has, Apart, Apart-from_IsDistinct, each_from_append, each_from_map, each_from_filter}
 use Rattle.log_definitions.specs.Unknown.{is_committed, settle, settled, taken, resolved}
-use Rattle.log_definitions.specs.WellFormed.{log_lines}
-use Rattle.log_definitions.specs.Serial.{Committed, committed_of, committed_in, node_of}
-use Rattle.log_definitions.specs.Numbers.{IsWellFormedList, log_of}
 use Rattle.log_definitions.proofs.Members.{each_weaker, each_member}
 use Rattle.log_definitions.proofs.Nodes.{each_at}
 use Rattle.log_definitions.proofs.Settled.{numbers_resolved}
 use Rattle.log_definitions.proofs.Scanning.{rules_where_no_fault}
-use Rattle.session_history.specs.Tables.{name_in, node_named}
 use Rattle.session_history.proofs.Totals.{txns_in_lines}
 use Rattle.order_text.proofs.Reading.{IsNode, has_name, name_at, node_named-sound}
 

@@ -1,26 +1,13 @@
 -- The text of nodes is read back as those nodes.
-use Rattle.std.proofs.Common.{◌≡◌, ℕ, ◌+◌, ◌*◌, ◌<◌, ◌≤◌, ◌^◌, Bool, true, false, not, List, [], ◌∷◌, ◌++◌, length, map, Some, None, refl, sym, ap, ◌∙◌, arith, append_assoc, length-append, ◌==◌, ◌&&◌, position, take, drop, nat_lt, option_and_then}
+use Rattle.order_text.proofs.Prelude.{◌≡◌, ℕ, ◌+◌, ◌*◌, ◌<◌, ◌≤◌, ◌^◌, Bool, true, false, not, List, [], ◌∷◌, ◌++◌, length, map, Some, None, refl, sym, ap, ◌∙◌, arith, append_assoc, length-append, ◌==◌, ◌&&◌, position, take, drop, nat_lt}
+use Rattle.order_text.proofs.Prelude.{option_and_then, decimal, list_all, position_or_len, filter_map, cons_option, AllByRecursion, option_map, option_map_or, option_or, is_some, and_parts, and_from, not-true, not_from_false, ne_eqb}
+use Rattle.order_text.proofs.Prelude.{cond-true, lt-ltb, take_at, recursion_from_All, cond_some, ClientSession, lines, is_numeral, number_of, number_complete, after_key, lines-nil, lines_line, log_lines, IsWellFormedList, name_in}
+use Rattle.order_text.proofs.Prelude.{node_named, joined_by, name_line, order_text, AreNodes, words_of, are_numerals, is_name, named_by, named, line_fault, first_fault, order_fault}
 use Rattle.std.specs.Char.{is_ascii_digit}
-use Rattle.std.specs.Fmt.{decimal}
-use Rattle.std.specs.List.{list_all, position_or_len, filter_map, cons_option, AllByRecursion}
-use Rattle.std.specs.Option.{option_map, option_map_or, option_or, is_some}
 use Rattle.std.specs.Str.Parse.{digits_value}
-use Rattle.std.proofs.lemmas.Bool.{and_parts, and_from, not-true, not_from_false, ne_eqb, cond-true, lt-ltb}
 use Rattle.std.proofs.lemmas.Fmt.{digits_decimal, length-decimal-le}
-use Rattle.std.proofs.lemmas.List.{take_at}
-use Rattle.std.proofs.lemmas.List.Elements.{recursion_from_All}
 use Rattle.std.proofs.lemmas.List.Folds.{list_all-append}
-use Rattle.std.proofs.lemmas.Option.{cond_some}
-use Rattle.session_log.specs.Text.{ClientSession}
-use Rattle.session_log.specs.Lines.{lines, is_numeral, number_of}
 use Rattle.session_log.proofs.Digits.{own}
-use Rattle.session_log.proofs.Forms.{number_complete, after_key}
-use Rattle.session_log.proofs.Lines.{lines-nil, lines_line}
-use Rattle.log_definitions.specs.WellFormed.{log_lines}
-use Rattle.log_definitions.specs.Numbers.{IsWellFormedList}
-use Rattle.session_history.specs.Tables.{name_in, node_named}
-use Rattle.order_text.specs.Text.{joined_by, name_line, order_text, AreNodes}
-use Rattle.order_text.specs.Faults.{words_of, are_numerals, is_name, named_by, named, line_fault, first_fault, order_fault}
 use Rattle.order_text.proofs.Reading.{IsNode, short_fault}
 use Rattle.order_text.proofs.Names.{node_named-name, name_fits}
 

@@ -1,24 +1,9 @@
 -- What a line that is read names, and the lines that are read one after another.
-use Rattle.std.proofs.Common.{◌≡◌, ℕ, zero, suc, ◌+◌, ◌<◌, ◌≤◌, ◌^◌, Bool, true, false, cond, List, [], ◌∷◌, ◌++◌, length, Option, Some, None, refl, sym, ap, ◌∙◌, subst, arith, append_assoc, ◌==◌, ◌&&◌, position, take, drop, nat_lt, option_and_then}
-use Rattle.std.specs.Fmt.{decimal}
-use Rattle.std.specs.List.{find, range_with_len, All}
-use Rattle.std.specs.Option.{option_map, option_map_or, option_or}
-use Rattle.std.proofs.lemmas.Bool.{and_parts, eqb-true, false≢true, cond-false, cond-true, le-ltb, lt-ltb}
-use Rattle.std.proofs.lemmas.List.{append-nil}
+use Rattle.order_text.proofs.Prelude.{◌≡◌, ℕ, zero, suc, ◌+◌, ◌<◌, ◌≤◌, ◌^◌, Bool, true, false, cond, List, [], ◌∷◌, ◌++◌, length, Option, Some, None, refl, sym, ap, ◌∙◌, subst, arith, append_assoc, ◌==◌, ◌&&◌, position, take, drop, nat_lt}
+use Rattle.order_text.proofs.Prelude.{option_and_then, decimal, find, range_with_len, All, option_map, option_map_or, option_or, and_parts, eqb-true, false≢true, cond-false, cond-true, le-ltb, lt-ltb, append-nil, All-push}
+use Rattle.order_text.proofs.Prelude.{option_and_then_some, same_Some, ClientSession, lines, bytes_of, number_of, number_sound, split_at_space, lines-nil, Committed, committed_in, node_of, log_of, name_in, node_named, joined_by, name_line}
+use Rattle.order_text.proofs.Prelude.{order_text, AreNodes, words_of, named_by, named, line_fault, first_fault, order_fault, IsOrderFault, OrderFault, BadLine, NoSuchTransaction, TooLong, Memory}
 use Rattle.std.proofs.lemmas.List.Concat.{flat_map-append}
-use Rattle.std.proofs.lemmas.List.Elements.{All-push}
-use Rattle.std.proofs.lemmas.Option.{option_and_then_some, same_Some}
-use Rattle.session_log.specs.Text.{ClientSession}
-use Rattle.session_log.specs.Lines.{lines, bytes_of, number_of}
-use Rattle.session_log.proofs.Forms.{number_sound}
-use Rattle.session_log.proofs.Lines.{split_at_space, lines-nil}
-use Rattle.log_definitions.specs.Serial.{Committed, committed_in, node_of}
-use Rattle.log_definitions.specs.Numbers.{log_of}
-use Rattle.session_history.specs.Tables.{name_in, node_named}
-use Rattle.order_text.specs.Text.{joined_by, name_line, order_text, AreNodes}
-use Rattle.order_text.specs.Faults.{words_of, named_by, named, line_fault, first_fault, order_fault, IsOrderFault}
-use Rattle.order_text.specs.declared.fault.OrderFault.{OrderFault}
-use Rattle.order_text.specs.declared.fault.OrderFault.TheVariants.{BadLine, NoSuchTransaction, TooLong, Memory}
 
 -- ---- names
 

@@ -1,21 +1,7 @@
 -- What is chosen by transactions is a part.
-use Rattle.std.proofs.Common.{◌≡◌, ℕ, ◌+◌, Bool, List, [], ◌∷◌, ◌++◌, map, refl, sym, ap, ◌∙◌, subst, inl, inr, arith}
-use Rattle.std.specs.List.{filter, Contains}
-use Rattle.std.proofs.lemmas.Bool.{cases_Bool}
-use Rattle.std.proofs.lemmas.List.Elements.{filter-append}
-use Rattle.list_lemmas.proofs.Elements.{behind}
-use Rattle.session_log.specs.Text.{ClientSession, Transaction}
-use Rattle.session_log.specs.declared.session.Op.{Op}
-use Rattle.session_log.specs.declared.session.Op.TheVariants.{Read, Write}
-use Rattle.serializability.proofs.Places.{Has, Apart, Apart-from_IsDistinct}
-use Rattle.serializability.proofs.Listed.{Has-from_any, any-from_Has}
-use Rattle.log_definitions.specs.Unknown.{ops_in}
-use Rattle.log_definitions.specs.WellFormed.{written}
-use Rattle.log_definitions.proofs.Chosen.{Has-written}
-use Rattle.log_laws.specs.Logs.{has_txns}
-use Rattle.log_laws.proofs.Lists.{first_or_behind, of_kept, kept as keeps}
-use Rattle.log_laws.proofs.Identities.{ops_by, ops_in-cons}
-use Rattle.part_laws.specs.Parts.{IsThinned, done, left, kept, IsTxnPart, IsSessionPart}
+use Rattle.part_laws.proofs.Prelude.{◌≡◌, ℕ, ◌+◌, Bool, List, [], ◌∷◌, ◌++◌, map, refl, sym, ap, ◌∙◌, subst, inl, inr, arith, filter, Contains, cases_Bool, filter-append, behind, ClientSession, Transaction, Op, Read, Write, Has, Apart}
+use Rattle.part_laws.proofs.Prelude.{Apart-from_IsDistinct, Has-from_any, any-from_Has, ops_in, written, Has-written, has_txns, first_or_behind, of_kept, ops_by, ops_in-cons, IsThinned, done, left, kept, IsTxnPart, IsSessionPart}
+use Rattle.log_laws.proofs.Lists.{kept as keeps}
 use Rattle.part_laws.specs.Chosen.{Flags, flagged, all_flagged, stays, thin_txn, thin, is_source, part_by, ChosenIsPart, ThinnedIsPart}
 use Rattle.part_laws.proofs.Thinned.{thinned_same, thinned_mapped, thinned_trans, thinned_filter, was_in}
 use Rattle.part_laws.proofs.Sessions.{AreParts, ops_of_part}

@@ -1,9 +1,5 @@
 -- What holds of each element of a list, by its place.
-use Rattle.std.proofs.Common.{◌≡◌, ℕ, ◌<◌, List, length, get_or, sym, subst}
-use Rattle.std.specs.List.{AllByRecursion}
-use Rattle.std.specs.Prelude.{map}
-use Rattle.serializability.proofs.Places.{each_of_map}
-use Rattle.known_graph.proofs.ReadSources.{each_at}
+use Rattle.polygraph.proofs.Prelude.{◌≡◌, ℕ, ◌<◌, List, length, get_or, sym, subst, AllByRecursion, map, each_of_map, each_at}
 
 -- the same of an item read from the list, where P holds of what each item stands for
 pub each_item : {X Y : Type 0} (P : Y → Type 0) (f : X → Y) (xs : List X) → AllByRecursion P (map f xs) → (k : ℕ) (x : X) → k < length xs → x ≡ get_or xs k x → P (f x)

@@ -1,15 +1,9 @@
 -- An order keeps the edges that lead to a later place.
-use Rattle.std.proofs.Common.{◌≡◌, ℕ, ◌<◌, Bool, true, false, List, [], ◌∷◌, refl, sym, ◌∙◌, subst, inl, inr, arith}
-use Rattle.std.specs.Prelude.{nat_lt, slice_index}
-use Rattle.std.specs.List.{list_all, Contains, AllByRecursion}
-use Rattle.std.proofs.lemmas.Bool.{false≢true, and_from, and_parts, or_cases, or_left, or_right, ltb-true, lt-ltb}
-use Rattle.serializability.specs.Replay.{Before, ListsOnce}
-use Rattle.serializability.specs.Polygraph.{Edge, Choice, Polygraph, Keeps, KeepsOne, Fits}
+use Rattle.polygraph.proofs.Prelude.{◌≡◌, ℕ, ◌<◌, Bool, true, false, List, [], ◌∷◌, refl, sym, ◌∙◌, subst, inl, inr, arith, nat_lt, slice_index, list_all, Contains, AllByRecursion, false≢true, and_from, and_parts, or_cases, or_left}
+use Rattle.polygraph.proofs.Prelude.{or_right, ltb-true, lt-ltb, Before, ListsOnce, Edge, Choice, Polygraph, Keeps, KeepsOne, Fits, ArePlaces, AreKept, keeps, keeps_one, Joins, JoinsBoth, IsPolygraph}
 use Rattle.reach_laws.specs.Reach.{Graph}
 use Rattle.reach_laws.proofs.Walks.{each_contained, each_from_contained}
 use Rattle.known_graph.specs.Graphs.{IsKnownGraph}
-use Rattle.polygraph.specs.Places.{ArePlaces, AreKept, keeps, keeps_one}
-use Rattle.polygraph.specs.Polygraphs.{Joins, JoinsBoth, IsPolygraph}
 
 -- ---- what a scan of pairs of nodes finds
 pub edge_absent : (edges : List Edge) (u v a b : ℕ) (t : Bool) → a ≡ u → b ≡ v → t ≡ false → (Contains edges (a, b) → t ≡ true) → Contains edges (u, v) → ⊥

@@ -1,3 +1,4 @@
+mod Prelude
 pub mod Placed
 pub mod Kept
 pub mod Each

@@ -1,15 +1,8 @@
 -- Places of the nodes of an order.
-use Rattle.std.proofs.Common.{◌≡◌, ℕ, zero, suc, ◌+◌, ◌<◌, ◌≤◌, List, [], ◌∷◌, ◌++◌, length, get_or, take, drop, replicate, refl, sym, ap, ◌∙◌, subst, inl, inr, arith}
-use Rattle.std.specs.Prelude.{slice_set, nat_eq}
-use Rattle.std.specs.List.{list_any}
-use Rattle.std.proofs.lemmas.Bool.{cases_eq, cases_Bool, false≢true}
-use Rattle.std.proofs.lemmas.List.{get_or-set_same, get_or-set_other, length-set, length-take-le, take_all}
-use Rattle.serializability.specs.Replay.{place_of, ListsOnce}
-use Rattle.serializability.proofs.Places.{Has, Apart, Has-append_front, Has-append_back, Has-append_cases, Apart-not_both, Has-from_Contains, place_of-here, place_of-further, place_of-back}
+use Rattle.polygraph.proofs.Prelude.{◌≡◌, ℕ, zero, suc, ◌+◌, ◌<◌, ◌≤◌, List, [], ◌∷◌, ◌++◌, length, get_or, take, drop, replicate, refl, sym, ap, ◌∙◌, subst, inl, inr, arith, slice_set, nat_eq, list_any, cases_eq, cases_Bool, false≢true}
+use Rattle.polygraph.proofs.Prelude.{get_or-set_same, get_or-set_other, length-set, length-take-le, take_all, place_of, ListsOnce, Has, Apart, Has-append_front, Has-append_back, Has-append_cases, Apart-not_both, Has-from_Contains}
+use Rattle.polygraph.proofs.Prelude.{place_of-here, place_of-further, place_of-back, behind_zero, ArePlaces, Has-from_any, any-from_Has, once_apart, once_from}
 use Rattle.serializability.proofs.Fronts.{front_more, around, Apart-push}
-use Rattle.serializability.proofs.Serial.{behind_zero}
-use Rattle.polygraph.specs.Places.{ArePlaces}
-use Rattle.serializability.proofs.Listed.{Has-from_any, any-from_Has, once_apart, once_from}
 
 place_of-stays : (v : ℕ) (f b : List ℕ) → Has v f → place_of (f ++ b) v ≡ place_of f v
 place_of-stays v [] b h = absurd h

@@ -1,22 +1,13 @@
 -- The bipaths of a log, by what its nodes read and who wrote the keys.
-use Rattle.std.proofs.Common.{◌≡◌, ℕ, ◌+◌, ◌-◌, ◌<◌, List, [], ◌∷◌, ◌++◌, length, get_or, drop, Option, None, Some, refl, sym, ap, ◌∙◌, subst, arith}
-use Rattle.std.specs.Prelude.{is_some, map}
-use Rattle.std.specs.List.{filter, filter_map, cons_option, flat_map, range_with_len, count_by, AllByRecursion}
+use Rattle.polygraph.proofs.Prelude.{◌≡◌, ℕ, ◌+◌, ◌-◌, ◌<◌, List, [], ◌∷◌, ◌++◌, length, get_or, drop, Option, None, Some, refl, sym, ap, ◌∙◌, subst, arith, is_some, map, filter, filter_map, cons_option, flat_map, range_with_len, count_by}
+use Rattle.polygraph.proofs.Prelude.{AllByRecursion, get_or-map, length-map, drop_more, Choice, source, rival_choice, bipaths, bipaths_at, all_keys, committed, each_from_range, each_from_bipaths, rival_is, source_within, sources_of}
+use Rattle.polygraph.proofs.Prelude.{writers_in, JoinsBoth, is_other, up_to, up_to_first, Split, reads_key}
 use Rattle.std.specs.Option.{option_map}
-use Rattle.std.proofs.lemmas.List.{get_or-map, length-map, drop_more}
 use Rattle.std.proofs.lemmas.List.Sums.{length-filter}
 use Rattle.list_lemmas.proofs.Lists.{filter_both}
 use Rattle.serializability.specs.Log.{Log}
 use Rattle.serializability.specs.Reads.{last_write, IsClean}
-use Rattle.serializability.specs.Polygraph.{Choice, source, rival_choice, bipaths, bipaths_at, all_keys, committed}
-use Rattle.serializability.proofs.Places.{each_from_range}
-use Rattle.serializability.proofs.Serial.{each_from_bipaths, rival_is, source_within}
-use Rattle.session_history.specs.Tables.{sources_of, writers_in}
-use Rattle.polygraph.specs.Polygraphs.{JoinsBoth}
-use Rattle.polygraph.specs.Rivals.{is_other}
 use Rattle.polygraph.proofs.Each.{each_item}
-use Rattle.known_graph.proofs.Rests.{up_to, up_to_first, Split}
-use Rattle.known_graph.proofs.ReadSources.{reads_key}
 
 -- ---- the key and the source of each read
 kept_read : (log : Log) (r : ℕ) (P : ℕ → Type 0) (x : ℕ) → P x → (o : Option ℕ) → source log r x ≡ o → (rest : List (ℕ × ℕ)) → AllByRecursion (λ p. P p.0 × (source log r p.0 ≡ Some p.1)) rest → AllByRecursion (λ p. P p.0 × (source log r p.0 ≡ Some p.1)) (cons_option (option_map (λ w. (x, w)) o) rest)

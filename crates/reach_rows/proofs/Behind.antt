@@ -1,16 +1,7 @@
 -- Rows of several nodes, one behind the other.
-use Rattle.std.proofs.Common.{◌≡◌, ◌↔◌, ℕ, ◌+◌, ◌-◌, ◌*◌, ◌<◌, ◌≤◌, Bool, true, List, [], ◌∷◌, ◌++◌, length, take, refl, sym, ap, ◌∙◌, inl, inr, arith, length-append}
-use Rattle.std.proofs.lemmas.Bool.{cases_lt, cases_Bool, false≢true}
-use Rattle.std.proofs.lemmas.List.{get_or_append_left, get_or-append-add, get_or-take, length-take-le}
-use Rattle.std.proofs.lemmas.Nat.{div_below, mul-add-lt}
-use Rattle.reach_laws.specs.Reach.{Graph, Walk, Reaches}
-use Rattle.known_graph.specs.Bits.{bit_of, row_len}
-use Rattle.known_graph.specs.Graphs.{IsKnownGraph}
-use Rattle.known_graph.specs.Held.{is_marked, marked_graph, bit_place, IsMarked}
-use Rattle.known_graph.proofs.Words.{bit_of-past}
-use Rattle.known_graph.proofs.Edges.{nodes_within_row, node_word, mark_is, edge_of_Contains, Contains-of_edge}
-use Rattle.reach_rows.specs.ReachRows.{AreRowsOf}
-use Rattle.reach_rows.specs.Sources.{IsReachRow, AreReachRows}
+use Rattle.reach_rows.proofs.Prelude.{◌≡◌, ◌↔◌, ℕ, ◌+◌, ◌-◌, ◌*◌, ◌<◌, ◌≤◌, Bool, true, List, [], ◌∷◌, ◌++◌, length, take, refl, sym, ap, ◌∙◌, inl, inr, arith, length-append, cases_lt, cases_Bool, false≢true, get_or_append_left}
+use Rattle.reach_rows.proofs.Prelude.{get_or-append-add, get_or-take, length-take-le, div_below, mul-add-lt, Graph, Walk, Reaches, bit_of, row_len, IsKnownGraph, is_marked, marked_graph, bit_place, IsMarked, bit_of-past, nodes_within_row}
+use Rattle.reach_rows.proofs.Prelude.{node_word, mark_is, edge_of_Contains, Contains-of_edge, AreRowsOf, IsReachRow, AreReachRows}
 
 mark_front : (n : ℕ) (xs ys : List ℕ) (u v rows : ℕ) → length xs ≡ rows * row_len n → u < rows → v < row_len n * 64 → is_marked n (xs ++ ys) (u, v) ≡ is_marked n xs (u, v)
 mark_front n xs ys u v rows len hu hv = grind (arith, mul-add-lt, div_below, mark_is, get_or_append_left)

@@ -1,13 +1,5 @@
 -- Rows that grow by an edge.
-use Rattle.std.proofs.Common.{◌≡◌, ◌≢◌, ◌⊎◌, ◌↔◌, ℕ, ◌+◌, ◌<◌, ◌≤◌, refl, sym, ap, ◌∙◌, subst, inl, inr, arith}
-use Rattle.std.specs.List.{Contains}
-use Rattle.std.proofs.lemmas.Bool.{cases_eq, cases_lt}
-use Rattle.serializability.specs.Polygraph.{Edge}
-use Rattle.reach_laws.specs.Reach.{Graph, Reaches}
-use Rattle.known_graph.specs.Graphs.{IsBitGraph}
-use Rattle.known_graph.proofs.Edges.{pair_same}
-use Rattle.reach_rows.specs.ReachRows.{AreRowsOf, AddsEdge}
-use Rattle.reach_rows.specs.Sources.{IsGrown}
+use Rattle.reach_rows.proofs.Prelude.{◌≡◌, ◌≢◌, ◌⊎◌, ◌↔◌, ℕ, ◌+◌, ◌<◌, ◌≤◌, refl, sym, ap, ◌∙◌, subst, inl, inr, arith, Contains, cases_eq, cases_lt, Edge, Graph, Reaches, IsBitGraph, pair_same, AreRowsOf, AddsEdge, IsGrown}
 use Rattle.reach_rows.proofs.Walking.{IsGrownReach, grown_reach, grown_same}
 
 -- the rows below x have grown

@@ -1,3 +1,4 @@
+mod Prelude
 pub mod Spreading
 pub mod Behind
 pub mod Growing

@@ -1,6 +1,5 @@
 -- The sources of workers.
-use Rattle.std.proofs.Common.{◌≡◌, ℕ, ◌+◌, ◌-◌, ◌<◌, ◌≤◌, List, length, get_or, ap, zero, suc, arith}
-use Rattle.reach_rows.specs.Parts.{ArePartStarts}
+use Rattle.reach_rows.proofs.Prelude.{◌≡◌, ℕ, ◌+◌, ◌-◌, ◌<◌, ◌≤◌, List, length, get_or, ap, zero, suc, arith, ArePartStarts}
 
 -- each start is within the sources
 starts_up : (sources : ℕ) (starts : List ℕ) → ArePartStarts sources starts → (i k : ℕ) → i + k < length starts → get_or starts i 0 ≤ get_or starts (i + k) 0

@@ -1,12 +1,8 @@
 -- Rows of one graph.
-use Rattle.std.proofs.Common.{◌≡◌, Bool, true, sym, ap, ◌∙◌, subst, arith}
-use Rattle.std.specs.List.{Contains, filter}
+use Rattle.reach_rows.proofs.Prelude.{◌≡◌, Bool, true, sym, ap, ◌∙◌, subst, arith, Contains, filter, Edge, Graph, Reaches, AreRowsOf}
 use Rattle.list_lemmas.proofs.Bools.{same_bool}
-use Rattle.serializability.specs.Polygraph.{Edge}
-use Rattle.reach_laws.specs.Reach.{Graph, Reaches}
 use Rattle.known_graph.specs.Pairs.{all_pairs}
 use Rattle.known_graph.proofs.Listed.{In, In-from_Contains, Contains-from_In, In-filter, In-of_filter, filter_same}
-use Rattle.reach_rows.specs.ReachRows.{AreRowsOf}
 
 kept_pair : (rows graph : Graph) (e : Edge) → AreRowsOf rows graph → In e (all_pairs rows.nodes) → (h : Edge → Bool) → rows.edges ≡ filter h (all_pairs rows.nodes) → h e ≡ true → Reaches graph.edges e.0 e.1
 kept_pair rows graph e r there h is t =

@@ -1,13 +1,6 @@
 -- A row of bits that spreads along edges.
-use Rattle.std.proofs.Common.{◌≡◌, ◌⊎◌, ◌↔◌, ℕ, ◌≤◌, true, false, eqb, ◌||◌, List, [], ◌∷◌, sym, ◌∙◌, subst, inl, inr, eqb-true, arith}
-use Rattle.std.specs.List.{Contains}
-use Rattle.std.proofs.lemmas.Bool.{false≢true, or_cases, or_left, or_right}
-use Rattle.serializability.specs.Polygraph.{Edge}
-use Rattle.reach_laws.specs.Reach.{Graph, Walk, Reaches}
-use Rattle.reach_laws.proofs.Walks.{reach_joined}
-use Rattle.known_graph.specs.Bits.{bit_of}
-use Rattle.known_graph.specs.Graphs.{IsKnownGraph}
-use Rattle.reach_rows.specs.Sources.{Spreads}
+use Rattle.reach_rows.proofs.Prelude.{◌≡◌, ◌⊎◌, ◌↔◌, ℕ, ◌≤◌, true, false, eqb, ◌||◌, List, [], ◌∷◌, sym, ◌∙◌, subst, inl, inr, eqb-true, arith, Contains, false≢true, or_cases, or_left, or_right, Edge, Graph, Walk, Reaches, reach_joined}
+use Rattle.reach_rows.proofs.Prelude.{bit_of, IsKnownGraph, Spreads}
 
 -- what the row has came by edges from the row at the start, and what lies behind the done nodes is in it
 pub record IsSpreading (graph : Graph) (start row done : List ℕ) : Type 0 where

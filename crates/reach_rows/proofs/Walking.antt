@@ -1,9 +1,5 @@
 -- Walks where there is one edge more.
-use Rattle.std.proofs.Common.{◌≡◌, ◌⊎◌, ◌↔◌, ℕ, List, [], ◌∷◌, refl, sym, ap, subst, inl, inr, arith}
-use Rattle.std.specs.List.{Contains}
-use Rattle.serializability.specs.Polygraph.{Edge}
-use Rattle.reach_laws.specs.Reach.{Walk, Reaches}
-use Rattle.reach_laws.proofs.Walks.{reach_joined}
+use Rattle.reach_rows.proofs.Prelude.{◌≡◌, ◌⊎◌, ◌↔◌, ℕ, List, [], ◌∷◌, refl, sym, ap, subst, inl, inr, arith, Contains, Edge, Walk, Reaches, reach_joined}
 
 -- x reached w before, or it was or reached u, and w is v or was reached by v
 abbrev pub IsGrownReach : List Edge → ℕ → ℕ → ℕ → ℕ → Type 0

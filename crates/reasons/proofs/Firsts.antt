@@ -1,30 +1,15 @@
 -- The first read of a key, by which a node reads what the log says, and a read that names a write.
-use Rattle.std.proofs.Common.{◌≡◌, ℕ, ◌≤◌, true, List, None, Some, sym, ap, ◌∙◌, subst, eqb-true, eq-eqb, position, ◌≢◌, ◌<◌, Option, inl, inr, get_or, slice_get, is_some, Contains}
-use Rattle.std.proofs.lemmas.Bool.{false≢true}
-use Rattle.session_log.specs.Text.{ClientSession}
-use Rattle.session_log.specs.declared.session.Op.TheVariants.{Read, Write}
-use Rattle.serializability.specs.declared.event.Event.{Event}
+use Rattle.reasons.proofs.Prelude.{◌≡◌, ℕ, ◌≤◌, true, List, None, Some, sym, ap, ◌∙◌, subst, eqb-true, eq-eqb, position, ◌≢◌, ◌<◌, Option, inl, inr, get_or, slice_get, is_some, Contains, false≢true, ClientSession, Read, Write, Event}
+use Rattle.reasons.proofs.Prelude.{IsFinal, IsClean, WritesAfter, IsNumbered, source, source_is, one_final, is_write, is_write-self, keys_in, ops_of, number_in, log_of, IsWellFormedList, IsNode, IsOpAt, IsNoWriteOf, ReadsAt, IsReadBy}
+use Rattle.reasons.proofs.Prelude.{within, before_at, reads_after, none_before, reads_in, reads_key, is_read_of, names, IsFirstRead, get_or_from_slice_get, contains_at, Log, IsLeastRead, NoneRead}
 use Rattle.serializability.specs.declared.event.Event.TheVariants as event
-use Rattle.serializability.specs.Reads.{IsFinal, IsClean, WritesAfter, IsNumbered}
-use Rattle.serializability.specs.Polygraph.{source}
-use Rattle.serializability.proofs.Sources.{source_is, one_final, is_write, is_write-self}
-use Rattle.log_definitions.specs.WellFormed.{keys_in}
-use Rattle.log_definitions.specs.Serial.{ops_of}
-use Rattle.log_definitions.specs.Numbers.{number_in, log_of, IsWellFormedList}
-use Rattle.reason_laws.specs.Reasons.{IsNode, IsOpAt, IsNoWriteOf, ReadsAt, IsReadBy}
-use Rattle.reason_laws.proofs.Numbers.{within, before_at, reads_after, none_before, reads_in, reads_key}
-use Rattle.reasons.specs.Firsts.{is_read_of, names, IsFirstRead}
 use Rattle.reasons.proofs.Positions.{FirstAt, first_at, none_passes, take_fewer, some_passes, never_passes}
 use Rattle.reasons.proofs.Ops.{event_at, op_at, same_key}
-use Rattle.std.proofs.lemmas.Option.{get_or_from_slice_get}
-use Rattle.list_lemmas.proofs.Elements.{contains_at}
-use Rattle.serializability.specs.Log.{Log}
 use Rattle.log_definitions.proofs.Numbered.{numbered}
 use Rattle.session_history.specs.Writes.{IsWrite, IsUnwritten}
 use Rattle.session_history.specs.declared.writes.Written.{Written}
 use Rattle.session_history.proofs.Identified.{writes_where_contained}
 use Rattle.anomaly_laws.proofs.Writes.{writes_split}
-use Rattle.reasons.specs.Given.{IsLeastRead, NoneRead}
 
 -- a node that reads a key from another has a read of it
 pub some_read : (ss : List ClientSession) → IsClean (log_of ss) → (v x u : ℕ) → IsNode ss v → source (log_of ss) v x ≡ Some u → None ≡ position (is_read_of x) ((log_of ss).ops v) → ⊥

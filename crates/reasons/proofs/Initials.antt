@@ -1,33 +1,16 @@
 -- The walk back from a node to node 0, and the operation that begins a chain behind that of the
 -- initial value.
-use Rattle.std.proofs.Common.{◌≡◌, ℕ, zero, suc, ◌+◌, ◌<◌, ◌≤◌, false, List, [], ◌∷◌, length, None, Some, refl, sym, ap, ◌∙◌, subst, inl, inr, arith, nat_eq}
-use Rattle.std.specs.List.{AllByRecursion, IsDistinct}
-use Rattle.std.proofs.lemmas.Bool.{ne_eqb, cases_lt}
+use Rattle.reasons.proofs.Prelude.{◌≡◌, ℕ, zero, suc, ◌+◌, ◌<◌, ◌≤◌, false, List, [], ◌∷◌, length, None, Some, refl, sym, ap, ◌∙◌, subst, inl, inr, arith, nat_eq, AllByRecursion, IsDistinct, ne_eqb, cases_lt, Log, IsClean, IsFinal, source}
+use Rattle.reasons.proofs.Prelude.{source_is, source_within, each_weaker, log_of, number_in, ClientSession, some_one, IsBackIn, FollowsInitial, IsBegun, IsBeginning, BeginsAt, slice_get_within, Write, keys_in, IsNode, Link, AreLinked}
+use Rattle.reasons.proofs.Prelude.{left_by, IsOfInitialBefore, source_of_read, within, node_from, final_at, KeyWrite, IsFirstRead, NoneBefore, IsLeastInitial, NoneInitial}
 use Rattle.std.proofs.lemmas.Map.Steps.{length-le_from_distinct_below}
 use Rattle.chain_laws.proofs.Maximal.{below_all}
-use Rattle.serializability.specs.Log.{Log}
-use Rattle.serializability.specs.Reads.{IsClean, IsFinal}
-use Rattle.serializability.specs.Polygraph.{source}
-use Rattle.serializability.proofs.Sources.{source_is, source_within}
-use Rattle.log_definitions.proofs.Members.{each_weaker}
-use Rattle.log_definitions.specs.Numbers.{log_of, number_in}
-use Rattle.session_log.specs.Text.{ClientSession}
 use Rattle.session_history.proofs.Kept.{no_ops_at_zero}
 use Rattle.write_chains.proofs.Backwards.{none_at_zero}
-use Rattle.chain_laws.proofs.Walks.{some_one}
-use Rattle.reasons.specs.Initials.{IsBackIn, FollowsInitial, IsBegun, IsBeginning, BeginsAt}
-use Rattle.std.proofs.lemmas.Option.{slice_get_within}
-use Rattle.session_log.specs.declared.session.Op.TheVariants.{Write}
 use Rattle.serializability.specs.declared.event.Event.TheVariants as event
-use Rattle.log_definitions.specs.WellFormed.{keys_in}
-use Rattle.reason_laws.specs.Reasons.{IsNode, Link, AreLinked, left_by, IsOfInitialBefore}
 use Rattle.reason_laws.proofs.Found.{Trail, link_on, initial_from}
 use Rattle.chain_laws.proofs.Coalesced.{none_some}
 use Rattle.reason_laws.proofs.Kept.{unread_source}
-use Rattle.reason_laws.proofs.Numbers.{source_of_read, within, node_from, final_at}
-use Rattle.reasons.specs.declared.operations.KeyWrite.{KeyWrite}
-use Rattle.reasons.specs.Firsts.{IsFirstRead, NoneBefore}
-use Rattle.reasons.specs.Given.{IsLeastInitial, NoneInitial}
 use Rattle.reasons.proofs.Ops.{event_at, op_at}
 
 -- so many steps back from v stands first

@@ -1,3 +1,4 @@
+mod Prelude
 pub mod Positions
 pub mod Ops
 pub mod Firsts

@@ -1,20 +1,9 @@
 -- Operations of the sessions, and events of the log.
-use Rattle.std.proofs.Common.{◌≡◌, ℕ, ◌<◌, List, Option, None, Some, refl, sym, ap, ◌∙◌, subst, length, get_or, slice_get, option_map}
-use Rattle.std.proofs.lemmas.Option.{slice_get-get_or, slice_get-map}
-use Rattle.list_lemmas.proofs.Elements.{get_map}
-use Rattle.session_log.specs.Text.{ClientSession, key_of}
+use Rattle.reasons.proofs.Prelude.{◌≡◌, ℕ, ◌<◌, List, Option, None, Some, refl, sym, ap, ◌∙◌, subst, length, get_or, slice_get, option_map, slice_get-get_or, slice_get-map, get_map, ClientSession, key_of, Read, Write, Event, keys_in}
+use Rattle.reasons.proofs.Prelude.{ops_of, number_in, event_of, log_of, Log, event_key, IsOpAt, ops_is, listed_at, key_within}
 use Rattle.session_log.specs.declared.session.Op.{Op}
-use Rattle.session_log.specs.declared.session.Op.TheVariants.{Read, Write}
-use Rattle.serializability.specs.declared.event.Event.{Event}
 use Rattle.serializability.specs.declared.event.Event.TheVariants as event
-use Rattle.log_definitions.specs.WellFormed.{keys_in}
-use Rattle.log_definitions.specs.Serial.{ops_of}
-use Rattle.log_definitions.specs.Numbers.{number_in, event_of, log_of}
 use Rattle.log_definitions.proofs.Keys.{same_number}
-use Rattle.serializability.specs.Log.{Log}
-use Rattle.serializability.specs.Events.{event_key}
-use Rattle.reason_laws.specs.Reasons.{IsOpAt}
-use Rattle.reason_laws.proofs.Numbers.{ops_is, listed_at, key_within}
 
 -- ---- one operation, and its event
 op_from : (keys : List (List ℕ)) (e : Event) (o : Option Op) → option_map (event_of keys) o ≡ Some e → (op : Op) × (o ≡ Some op) × (event_of keys op ≡ e)

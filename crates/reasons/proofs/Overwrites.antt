@@ -1,22 +1,8 @@
 -- The write that is not seen: of the least key that two nodes read alike and the second writes.
-use Rattle.std.proofs.Common.{◌≡◌, ℕ, ◌+◌, ◌<◌, ◌≤◌, Option, None, Some, refl, sym, subst, arith, length, slice_get, ◌≢◌, List, ap, ◌∙◌}
-use Rattle.std.proofs.lemmas.Option.{slice_get_within}
-use Rattle.serializability.specs.Log.{Log}
-use Rattle.serializability.specs.Events.{event_key}
-use Rattle.serializability.specs.declared.event.Event.{Event}
+use Rattle.reasons.proofs.Prelude.{◌≡◌, ℕ, ◌+◌, ◌<◌, ◌≤◌, Option, None, Some, refl, sym, subst, arith, length, slice_get, ◌≢◌, List, ap, ◌∙◌, slice_get_within, Log, event_key, Event, KeyWrite, IsBelow, IsLess, IsAlikeWrite, IsUpTo}
+use Rattle.reasons.proofs.Prelude.{IsLeastWrite, ReadsAlike, ClientSession, Write, IsClean, source_is, one_final, keys_in, number_in, log_of, IsNode, ReadsAt, IsOverwrittenBy, wrote, source_of_read, within, reads_key, IsFirstRead}
+use Rattle.reasons.proofs.Prelude.{IsLeastOverwrite, NoneOverwritten}
 use Rattle.serializability.specs.declared.event.Event.TheVariants as event
-use Rattle.reasons.specs.declared.operations.KeyWrite.{KeyWrite}
-use Rattle.reasons.specs.Overwrites.{IsBelow, IsLess, IsAlikeWrite, IsUpTo, IsLeastWrite, ReadsAlike}
-use Rattle.session_log.specs.Text.{ClientSession}
-use Rattle.session_log.specs.declared.session.Op.TheVariants.{Write}
-use Rattle.serializability.specs.Reads.{IsClean}
-use Rattle.serializability.proofs.Sources.{source_is, one_final}
-use Rattle.log_definitions.specs.WellFormed.{keys_in}
-use Rattle.log_definitions.specs.Numbers.{number_in, log_of}
-use Rattle.reason_laws.specs.Reasons.{IsNode, ReadsAt, IsOverwrittenBy}
-use Rattle.reason_laws.proofs.Numbers.{wrote, source_of_read, within, reads_key}
-use Rattle.reasons.specs.Firsts.{IsFirstRead}
-use Rattle.reasons.specs.Given.{IsLeastOverwrite, NoneOverwritten}
 use Rattle.reasons.proofs.Ops.{event_at, op_at}
 
 pub least_all : (log : Log) (a b n : ℕ) (least : Option KeyWrite) → length (log.ops b) ≤ n → IsLeastWrite log a b n least → IsLeastWrite log a b (length (log.ops b)) least

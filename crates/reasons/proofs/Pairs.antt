@@ -1,25 +1,11 @@
 -- What the readers of a key read, one by one, and how often a search looks at it.
-use Rattle.std.proofs.Common.{◌≡◌, ℕ, ◌+◌, ◌-◌, ◌*◌, ◌<◌, ◌≤◌, List, [], ◌∷◌, ◌++◌, length, get_or, Option, None, Some, refl, sym, ◌∙◌, subst, inl, inr, arith, map, option_map}
-use Rattle.std.specs.List.{Contains, cons_option, filter_map, sum_by, AllByRecursion, range_with_len}
-use Rattle.std.proofs.lemmas.Bool.{cases_eq}
-use Rattle.std.proofs.lemmas.List.Elements.{Contains-append_left, Contains-append_right, Contains-append_cases}
-use Rattle.std.proofs.lemmas.List.Sums.{sum_by_push}
-use Rattle.list_lemmas.proofs.Elements.{mapped}
-use Rattle.list_lemmas.proofs.Each.{member as each_contained, each_member}
-use Rattle.serializability.specs.Log.{Log}
-use Rattle.serializability.specs.Reads.{IsClean}
-use Rattle.serializability.specs.Polygraph.{source, all_keys}
-use Rattle.serializability.proofs.Places.{each_from_range, each_of_range, each_from_map, each_of_map}
+use Rattle.reasons.proofs.Prelude.{◌≡◌, ℕ, ◌+◌, ◌-◌, ◌*◌, ◌<◌, ◌≤◌, List, [], ◌∷◌, ◌++◌, length, get_or, Option, None, Some, refl, sym, ◌∙◌, subst, inl, inr, arith, map, option_map, cons_option, filter_map, sum_by, AllByRecursion}
+use Rattle.reasons.proofs.Prelude.{range_with_len, cases_eq, Contains-append_left, Contains-append_right, Contains-append_cases, sum_by_push, mapped, member as each_contained, each_member, Log, IsClean, source, all_keys, each_from_range}
+use Rattle.reasons.proofs.Prelude.{each_of_range, each_from_map, each_of_map, source_is, each_weaker, some_one, sources_of, writers_in, pair_at, pair_of, Pair, looks_at, ReadsBoth, pair, pairs_by, ArePairs}
+use Rattle.std.specs.List.{Contains}
 use Rattle.serializability.proofs.Serial.{some_cases}
 use Rattle.serializability.proofs.SoFar.{range_last}
-use Rattle.serializability.proofs.Sources.{source_is}
-use Rattle.log_definitions.proofs.Members.{each_weaker}
-use Rattle.chain_laws.proofs.Walks.{some_one}
-use Rattle.session_history.specs.Tables.{sources_of, writers_in, pair_at}
 use Rattle.session_history.specs.declared.reads.ReadFrom.{ReadFrom}
-use Rattle.write_chains.proofs.Gathered.{pair_of}
-use Rattle.reasons.specs.declared.crossed.Pair.{Pair}
-use Rattle.reasons.specs.Crossed.{looks_at, ReadsBoth, pair, pairs_by, ArePairs}
 
 -- a key that is read is one of the log's
 pub key_within : (log : Log) → IsClean log → (r x u : ℕ) → 0 < r → r ≤ log.nodes → source log r x ≡ Some u → x < log.keys

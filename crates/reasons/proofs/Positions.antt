@@ -1,13 +1,8 @@
 -- The first item of a list that passes.
-use Rattle.std.proofs.Common.{◌≡◌, ℕ, zero, suc, ◌≤◌, Bool, true, not, List, [], ◌∷◌, Option, None, Some, refl, sym, ap, ◌∙◌, inl, inr, arith, get_or, take, slice_get, position, is_some}
-use Rattle.std.specs.List.{AllByRecursion}
-use Rattle.std.proofs.lemmas.Bool.{false≢true, cases_lt, true_from_ne_false}
-use Rattle.std.proofs.lemmas.List.Sums.{prefix_len_passes}
+use Rattle.reasons.proofs.Prelude.{◌≡◌, ℕ, zero, suc, ◌≤◌, Bool, true, not, List, [], ◌∷◌, Option, None, Some, refl, sym, ap, ◌∙◌, inl, inr, arith, get_or, take, slice_get, position, is_some, AllByRecursion, false≢true, cases_lt}
+use Rattle.reasons.proofs.Prelude.{true_from_ne_false, prefix_len_passes, slice_get_within, slice_get-get_or, get_or_from_slice_get, none_of, Event}
 use Rattle.std.proofs.lemmas.List.Quantifiers.{position-Some}
-use Rattle.std.proofs.lemmas.Option.{slice_get_within, slice_get-get_or, get_or_from_slice_get}
-use Rattle.list_lemmas.proofs.Options.{none_of}
 use Rattle.session_log.proofs.Lines.{position_none}
-use Rattle.serializability.specs.declared.event.Event.{Event}
 use Rattle.serializability.specs.declared.event.Event.TheVariants as event
 
 -- what stands at the place of the first that passes

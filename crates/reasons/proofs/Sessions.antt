@@ -1,10 +1,6 @@
 -- Lines of nodes of which each run of one session is told by its ends.
-use Rattle.std.proofs.Common.{◌≡◌, ℕ, zero, suc, ◌+◌, ◌<◌, true, List, [], ◌∷◌, ◌++◌, length, get_or, refl, ap, ◌∙◌, arith, eqb, eqb-true, nat_lt}
-use Rattle.std.proofs.lemmas.Bool.{and_parts, cond_both, ltb-true}
-use Rattle.session_log.specs.Text.{ClientSession}
-use Rattle.log_definitions.specs.Serial.{session_of}
-use Rattle.reason_laws.specs.Reasons.{IsNode, AreOfSession}
-use Rattle.reasons.specs.Runs.{is_behind, goes_on, is_between, told_behind, without_runs}
+use Rattle.reasons.proofs.Prelude.{◌≡◌, ℕ, zero, suc, ◌+◌, ◌<◌, true, List, [], ◌∷◌, ◌++◌, length, get_or, refl, ap, ◌∙◌, arith, eqb, eqb-true, nat_lt, and_parts, cond_both, ltb-true, ClientSession, session_of, IsNode, AreOfSession}
+use Rattle.reasons.proofs.Prelude.{is_behind, goes_on, is_between, told_behind, without_runs}
 
 -- ---- of one session
 pub of_session : (ss : List ClientSession) (a b : ℕ) → IsNode ss a → IsNode ss b → is_behind ss a b ≡ true → AreOfSession ss a b

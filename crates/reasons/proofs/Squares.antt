@@ -1,35 +1,18 @@
 -- Four nodes that read all four pairs, found among what the readers of a key read, and the crossed
 -- reads of the sessions that they have.
-use Rattle.std.proofs.Common.{◌≡◌, ◌≢◌, ◌⊎◌, ℕ, ◌+◌, Bool, true, false, List, [], ◌∷◌, ◌++◌, Option, None, Some, refl, sym, ap, ◌∙◌, subst, inl, inr, arith, eqb, eq-eqb, cond, is_some, map, option_map, Contains, nat_cmp}
+use Rattle.reasons.proofs.Prelude.{◌≡◌, ◌≢◌, ◌⊎◌, ℕ, ◌+◌, Bool, true, false, List, [], ◌∷◌, ◌++◌, Option, None, Some, refl, sym, ap, ◌∙◌, subst, inl, inr, arith, eqb, eq-eqb, cond, is_some, map, option_map, Contains, nat_cmp, BTreeMap, get}
+use Rattle.reasons.proofs.Prelude.{is_at, Updates, IsFromIterResult, ne_eqb, false≢true, Contains-push_cases, member, each_member, mapped, some_of, ClientSession, Log, IsClean, IsFinal, each_from_map, source_is, one_final, keys_in}
+use Rattle.reasons.proofs.Prelude.{number_in, log_of, IsNode, ReadsAt, Crossing, wrote, source_of_read, within, node_from, reads_in, writers_in, Pair, IsPairOf, ReadsBoth, IsSquare, NoSquare, pair, ArePairs, IsSquareOf, AmongPairs}
+use Rattle.reasons.proofs.Prelude.{NoSquareOf, pair_cmp, triple_cmp, by_versions, AreReaders, shared_by, HasEntered}
 use Rattle.std.specs.Cmp.{IsTotalOrder, Equal-is}
-use Rattle.std.specs.BTreeMap.{BTreeMap, get, is_at, Updates, IsFromIterResult}
 use Rattle.std.proofs.lemmas.Cmp.{nat_cmp_total, on_total, then_total}
-use Rattle.std.proofs.lemmas.Bool.{ne_eqb, false≢true}
-use Rattle.std.proofs.lemmas.List.Elements.{Contains-push_cases}
 use Rattle.std.proofs.lemmas.Map.Lookups.{CmpEqualImpliesEq, exact_unsigned, exact_pairs}
 use Rattle.std.proofs.lemmas.Map.Views.{IfSome-btree_map_get_from_list, btree_map_contains_key_from_list}
-use Rattle.list_lemmas.proofs.Each.{member, each_member}
-use Rattle.list_lemmas.proofs.Elements.{mapped}
-use Rattle.list_lemmas.proofs.Options.{some_of}
-use Rattle.session_log.specs.Text.{ClientSession}
-use Rattle.serializability.specs.Log.{Log}
-use Rattle.serializability.specs.Reads.{IsClean, IsFinal}
-use Rattle.serializability.proofs.Places.{each_from_map}
-use Rattle.serializability.proofs.Sources.{source_is, one_final}
-use Rattle.log_definitions.specs.WellFormed.{keys_in}
-use Rattle.log_definitions.specs.Numbers.{number_in, log_of}
-use Rattle.reason_laws.specs.Reasons.{IsNode, ReadsAt}
 use Rattle.reason_laws.specs.Crossed.{ReadsPair, AreCrossed}
-use Rattle.reason_laws.specs.declared.crossing.Crossing.{Crossing}
 use Rattle.reason_laws.specs.declared.crossing.PairRead.{PairRead}
-use Rattle.reason_laws.proofs.Numbers.{wrote, source_of_read, within, node_from, reads_in}
-use Rattle.session_history.specs.Tables.{writers_in}
 use Rattle.write_chains.proofs.Nexts.{writer_among}
-use Rattle.reasons.specs.declared.crossed.Pair.{Pair}
 use Rattle.reasons.specs.declared.crossed.Shared.{Shared}
 use Rattle.reasons.specs.declared.crossed.Square.{Square}
-use Rattle.reasons.specs.Firsts.{IsPairOf}
-use Rattle.reasons.specs.Crossed.{ReadsBoth, IsSquare, NoSquare, pair, ArePairs, IsSquareOf, AmongPairs, NoSquareOf, pair_cmp, triple_cmp, by_versions, AreReaders, shared_by, HasEntered}
 
 -- ---- the index of readers
 triples_total : IsTotalOrder triple_cmp

@@ -1,11 +1,6 @@
 -- Clauses in store, when more literals come behind them.
-use Rattle.std.proofs.Common.{◌≡◌, ℕ, ◌-◌, ◌≤◌, Result, Ok, Err, OnErr, Option, None, Some, List, [], ◌∷◌, ◌++◌, length, take, drop, refl, ap, ◌∙◌, arith, length-append, length-drop}
-use Rattle.std.specs.List.{slice_range}
-use Rattle.std.proofs.lemmas.List.{take-append-le, drop-append-le, map-append}
-use Rattle.std.proofs.Math.Seq.{drop-append_seam, take-length}
-use Rattle.serializability.proofs.Places.{each_from_append}
-use Rattle.serializability.specs.declared.literal.Literal.{Literal}
-use Rattle.refutation.specs.Stored.{clause_in, clauses_in, IsWithin, AreWithin}
+use Rattle.refutation.proofs.Prelude.{◌≡◌, ℕ, ◌-◌, ◌≤◌, Result, Ok, Err, OnErr, Option, None, Some, List, [], ◌∷◌, ◌++◌, length, take, drop, refl, ap, ◌∙◌, arith, length-append, length-drop, slice_range, take-append-le, drop-append-le}
+use Rattle.refutation.proofs.Prelude.{map-append, drop-append_seam, take-length, each_from_append, Literal, clause_in, clauses_in, IsWithin, AreWithin}
 use Rattle.refutation.specs.declared.clauses.Span.{Span}
 
 -- a range of a list is the same when more comes behind the list

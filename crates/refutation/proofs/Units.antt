@@ -1,21 +1,13 @@
 -- Unit propagation: what follows where all literals of a clause are false, or all but one.
-use Rattle.std.proofs.Common.{◌≡◌, ℕ, ◌+◌, ◌<◌, ◌≤◌, zero, suc, Bool, true, false, not, ◌||◌, if◌then◌else◌, List, [], ◌∷◌, ◌++◌, length, take, drop, slice_set, slice_get, get_or, Option, Some, None, is_some, option_to_list, unwrap_or, map, Contains, refl, ap, subst, sym, ◌∙◌, inl, inr, arith, length-append, length-set, add-one}
-use Rattle.std.specs.List.{AllByRecursion}
-use Rattle.std.proofs.Math.Seq.{drop-cons, take-suc}
-use Rattle.std.proofs.lemmas.List.{take-append-drop, length-replicate}
+use Rattle.refutation.proofs.Prelude.{◌≡◌, ℕ, ◌+◌, ◌<◌, ◌≤◌, zero, suc, Bool, true, false, not, ◌||◌, if◌then◌else◌, List, [], ◌∷◌, ◌++◌, length, take, drop, slice_set, slice_get, get_or, Option, Some, None, is_some, unwrap_or, map}
+use Rattle.refutation.proofs.Prelude.{Contains, refl, ap, subst, sym, ◌∙◌, inl, inr, arith, length-append, length-set, add-one, AllByRecursion, drop-cons, take-suc, take-append-drop, length-replicate, each_from_map, each_of_append}
+use Rattle.refutation.proofs.Prelude.{value_of, literal_true, clause_true, Literal, met, SatisfiesAll, Follows, Entails, IsRefuted, Agrees, Assumes, value_is, known_false, left_of, with_true, with_false, all_open, option_map, looked}
+use Rattle.refutation.proofs.Prelude.{hinted, clause_at, Standing, standing, IsSound}
+use Rattle.std.proofs.Common.{option_to_list}
 use Rattle.std.proofs.lemmas.List.Elements.{filter_more, filter-append}
 use Rattle.std.proofs.lemmas.Option.{slice_get-get_or, slice_get_within, get_or_from_slice_get, unwrap_or-slice_get}
-use Rattle.serializability.proofs.Places.{each_from_map, each_of_append}
-use Rattle.serializability.specs.Formula.{value_of, literal_true, clause_true}
-use Rattle.serializability.specs.declared.literal.Literal.{Literal}
-use Rattle.refutation.specs.Follows.{met, SatisfiesAll, Follows, Entails, IsRefuted}
-use Rattle.refutation.specs.Known.{Agrees, Assumes, value_is, known_false, left_of, with_true, with_false, all_open}
-use Rattle.std.specs.Option.{option_map}
 use Rattle.std.proofs.Math.Bool.{or-false}
 use Rattle.std.proofs.lemmas.Bool.{or_parts}
-use Rattle.refutation.specs.Hinted.{looked, hinted}
-use Rattle.refutation.specs.Numbered.{clause_at}
-use Rattle.refutation.specs.Standing.{Standing, standing, IsSound}
 use Rattle.refutation.specs.Shown.{Closes, Forces}
 use Rattle.refutation.proofs.Places.{written_cases}
 

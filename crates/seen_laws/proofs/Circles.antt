@@ -1,11 +1,5 @@
 -- Read committed refuses a circle of writes and reads.
-use Rattle.std.proofs.Common.{refl, sym, subst, arith}
-use Rattle.std.specs.List.{Contains}
-use Rattle.session_log.specs.declared.session.Op.TheVariants.{Read, Write}
-use Rattle.log_laws.proofs.Sessions.{nodes_of}
-use Rattle.level_laws.specs.Examples.{x, y}
-use Rattle.seen_laws.specs.Seen.{ReadsFrom}
-use Rattle.seen_laws.specs.Examples.{circular_reads, RefusesCircle}
+use Rattle.seen_laws.proofs.Prelude.{refl, sym, subst, arith, Contains, Read, Write, nodes_of, x, y, ReadsFrom, circular_reads, RefusesCircle}
 use Rattle.seen_laws.proofs.Examples.{Facts, facts, never}
 
 circle_facts : Facts circular_reads (nodes_of circular_reads)

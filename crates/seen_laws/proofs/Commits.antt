@@ -1,32 +1,11 @@
 -- The commits of a snapshot order stand in a causal order.
-use Rattle.std.proofs.Common.{◌≡◌, Bool, ℕ, ◌*◌, ◌<◌, ◌≤◌, List, ◌∷◌, length, map, Some, sym, subst, inl, inr, arith}
-use Rattle.std.specs.List.{Contains}
-use Rattle.std.proofs.lemmas.Bool.{cases_eq}
-use Rattle.std.proofs.lemmas.List.Elements.{Contains-append_left}
-use Rattle.session_log.specs.Text.{ClientSession}
-use Rattle.session_log.specs.declared.session.Op.{Op}
-use Rattle.session_log.specs.declared.session.Op.TheVariants.{Read, Write}
-use Rattle.serializability.specs.Replay.{Before, place_of}
-use Rattle.serializability.proofs.Places.{Has, Apart, Apart-from_IsDistinct}
-use Rattle.serializability.proofs.Once.{places_apart}
-use Rattle.serializability.proofs.Serial.{zero_first, some_cases, behind_zero}
-use Rattle.log_definitions.specs.Unknown.{ops_in, settled}
-use Rattle.log_definitions.specs.WellFormed.{written}
-use Rattle.log_definitions.specs.Serial.{committed_in, ops_of}
+use Rattle.seen_laws.proofs.Prelude.{◌≡◌, Bool, ℕ, ◌*◌, ◌<◌, ◌≤◌, List, ◌∷◌, length, map, Some, sym, subst, inl, inr, arith, Contains, cases_eq, Contains-append_left, ClientSession, Op, Read, Write, Before, place_of, Has, Apart}
+use Rattle.seen_laws.proofs.Prelude.{Apart-from_IsDistinct, places_apart, zero_first, some_cases, behind_zero, ops_in, settled, written, committed_in, ops_of, Has-written, IsSoundLog, Point, snapshot, commit, number, IsPointOrder}
+use Rattle.seen_laws.proofs.Prelude.{HasPointOrder, place, is_node, one_node, op_in_log, before_place, lo_snapshot, lo_commit, settled_sound, settled_learnt, Level, ReadCommitted, MonotonicAtomicView, ReadAtomic, Causal, last_write}
+use Rattle.seen_laws.proofs.Prelude.{ReadsBehind, IsEarlier, ReadsFrom, Direct, Past, step, path, FindsLast, HasLevelOrder, LevelWhereSnapshot, LevelWherePrefix, LevelWhereSerial}
 use Rattle.log_definitions.proofs.Members.{member}
-use Rattle.log_definitions.proofs.Chosen.{Has-written}
 use Rattle.log_definitions.proofs.OnlyTaken.{some_where_serial}
-use Rattle.log_laws.specs.Logs.{IsSoundLog}
-use Rattle.level_laws.specs.Snapshot.{Point, snapshot, commit, number, IsPointOrder, HasPointOrder}
-use Rattle.level_laws.proofs.Intervals.{place}
-use Rattle.level_laws.proofs.Nodes.{is_node, one_node, op_in_log}
-use Rattle.level_laws.proofs.Orders.{before_place, lo_snapshot, lo_commit}
-use Rattle.level_laws.proofs.Resolved.{settled_sound, settled_learnt}
 use Rattle.level_laws.proofs.Doubled.{snapshot_where_serial}
-use Rattle.seen_laws.specs.declared.level.Level.{Level}
-use Rattle.seen_laws.specs.declared.level.Level.TheVariants.{ReadCommitted, MonotonicAtomicView, ReadAtomic, Causal}
-use Rattle.seen_laws.specs.Seen.{last_write, ReadsBehind, IsEarlier, ReadsFrom, Direct, Past, step, path, FindsLast, HasLevelOrder}
-use Rattle.seen_laws.specs.Ladder.{LevelWhereSnapshot, LevelWherePrefix, LevelWhereSerial}
 use Rattle.seen_laws.proofs.Listing.{Listed, listed}
 use Rattle.seen_laws.proofs.LastWrites.{some_written}
 use Rattle.seen_laws.proofs.OfPart.{IsSplit, split_at, level_of_taken}

@@ -1,24 +1,9 @@
 -- What the levels allow and refuse, on written-out logs.
-use Rattle.std.proofs.Common.{◌≡◌, ◌≢◌, ◌⊎◌, ℕ, zero, suc, ◌<◌, ◌≤◌, List, [], ◌∷◌, ◌++◌, length, Some, None, refl, sym, ap, ◌∙◌, subst, inl, inr, arith}
-use Rattle.std.specs.List.{Contains}
-use Rattle.std.specs.Option.{option_map_or}
-use Rattle.std.proofs.lemmas.Bool.{false≢true}
-use Rattle.std.proofs.lemmas.Slice.Eq.{bytes_eq-Decides}
-use Rattle.session_log.specs.Text.{ClientSession}
-use Rattle.session_log.specs.declared.session.Op.{Op}
-use Rattle.session_log.specs.declared.session.Op.TheVariants.{Read, Write}
+use Rattle.seen_laws.proofs.Prelude.{◌≡◌, ◌≢◌, ◌⊎◌, ℕ, zero, suc, ◌<◌, ◌≤◌, List, [], ◌∷◌, ◌++◌, length, Some, None, refl, sym, ap, ◌∙◌, subst, inl, inr, arith, Contains, option_map_or, false≢true, bytes_eq-Decides, ClientSession, Op, Read}
+use Rattle.seen_laws.proofs.Prelude.{Write, Committed, committed_in, node_in, node_of, session_of, ops_of, IsLearntLog, first_or_behind, nodes_of, one_txn, x, y, lost_update, nodes_are, is_node, ops_at, Level, ReadCommitted}
+use Rattle.seen_laws.proofs.Prelude.{MonotonicAtomicView, ReadAtomic, Causal, last_write, ReadsBehind, WritesKey, IsEarlier, ReadsFrom, Direct, Past, step, path, Sees, NoneSeen, FindsLast, HasLevelOrder, AllowsLostUpdate, fractured_read}
+use Rattle.seen_laws.proofs.Prelude.{SplitsAtomic, unseen_cause, SplitsCausal, stale_read, SplitsView}
 use Rattle.session_log.specs.declared.session.Outcome.TheVariants.{Commit, Unknown}
-use Rattle.log_definitions.specs.Serial.{Committed, committed_in, node_in, node_of, session_of, ops_of}
-use Rattle.log_laws.specs.Logs.{IsLearntLog}
-use Rattle.log_laws.proofs.Lists.{first_or_behind}
-use Rattle.log_laws.proofs.Sessions.{nodes_of}
-use Rattle.level_laws.specs.Examples.{one_txn, x, y, lost_update}
-use Rattle.level_laws.proofs.Nodes.{nodes_are, is_node}
-use Rattle.level_laws.proofs.Resolved.{ops_at}
-use Rattle.seen_laws.specs.declared.level.Level.{Level}
-use Rattle.seen_laws.specs.declared.level.Level.TheVariants.{ReadCommitted, MonotonicAtomicView, ReadAtomic, Causal}
-use Rattle.seen_laws.specs.Seen.{last_write, ReadsBehind, WritesKey, IsEarlier, ReadsFrom, Direct, Past, step, path, Sees, NoneSeen, FindsLast, HasLevelOrder}
-use Rattle.seen_laws.specs.Examples.{AllowsLostUpdate, fractured_read, SplitsAtomic, unseen_cause, SplitsCausal, stale_read, SplitsView}
 use Rattle.seen_laws.proofs.Listing.{Listed, listed}
 use Rattle.seen_laws.proofs.LastWrites.{some_written, same_wid}
 

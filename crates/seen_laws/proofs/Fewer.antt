@@ -1,27 +1,9 @@
 -- Where nodes and operations are left out, but no write that is still read, what is left of a level order is one.
-use Rattle.std.proofs.Common.{◌≡◌, ℕ, ◌<◌, ◌≤◌, List, ◌∷◌, ◌++◌, length, Some, None, refl, sym, ap, ◌∙◌, subst, inl, inr, arith}
-use Rattle.std.specs.List.{Contains}
-use Rattle.std.proofs.lemmas.Bool.{cases_eq, cases_lt}
-use Rattle.std.proofs.lemmas.Option.{same_Some}
-use Rattle.std.proofs.lemmas.List.Elements.{Contains-append_left, Contains-append_right, Contains-append_cases}
-use Rattle.session_log.specs.Text.{ClientSession}
-use Rattle.session_log.specs.declared.session.Op.{Op}
-use Rattle.session_log.specs.declared.session.Op.TheVariants.{Read, Write}
-use Rattle.serializability.specs.Replay.{Before, place_of}
-use Rattle.serializability.proofs.Places.{Has, Apart}
-use Rattle.serializability.proofs.Once.{places_apart}
-use Rattle.serializability.proofs.Serial.{zero_first, some_cases}
-use Rattle.log_definitions.specs.WellFormed.{written}
-use Rattle.log_definitions.specs.Serial.{committed_in, session_of, ops_of}
-use Rattle.log_definitions.proofs.Chosen.{Has-written}
-use Rattle.log_laws.proofs.Lists.{first_or_behind}
+use Rattle.seen_laws.proofs.Prelude.{◌≡◌, ℕ, ◌<◌, ◌≤◌, List, ◌∷◌, ◌++◌, length, Some, None, refl, sym, ap, ◌∙◌, subst, inl, inr, arith, Contains, cases_eq, cases_lt, same_Some, Contains-append_left, Contains-append_right}
+use Rattle.seen_laws.proofs.Prelude.{Contains-append_cases, ClientSession, Op, Read, Write, Before, place_of, Has, Apart, places_apart, zero_first, some_cases, written, committed_in, session_of, ops_of, Has-written, first_or_behind}
+use Rattle.seen_laws.proofs.Prelude.{IsSublist, was_in, read_is_no_write, is_node, Level, ReadCommitted, MonotonicAtomicView, ReadAtomic, Causal, last_write, ReadsBehind, WritesKey, IsEarlier, ReadsFrom, Direct, Past, step, path, Sees}
+use Rattle.seen_laws.proofs.Prelude.{IsLastSeen, FindsLast, IsLevelOrder, HasLevelOrder}
 use Rattle.log_laws.proofs.Identities.{once_front, not_both}
-use Rattle.part_laws.proofs.Thinned.{IsSublist, was_in}
-use Rattle.part_laws.proofs.Replay.{read_is_no_write}
-use Rattle.level_laws.proofs.Nodes.{is_node}
-use Rattle.seen_laws.specs.declared.level.Level.{Level}
-use Rattle.seen_laws.specs.declared.level.Level.TheVariants.{ReadCommitted, MonotonicAtomicView, ReadAtomic, Causal}
-use Rattle.seen_laws.specs.Seen.{last_write, ReadsBehind, WritesKey, IsEarlier, ReadsFrom, Direct, Past, step, path, Sees, IsLastSeen, FindsLast, IsLevelOrder, HasLevelOrder}
 use Rattle.seen_laws.proofs.Listing.{Listed, listed}
 use Rattle.seen_laws.proofs.LastWrites.{some_written, none_written, last_kept, IsCut, cut_at}
 

@@ -1,17 +1,6 @@
 -- A long fork is causal, and has no prefix order.
-use Rattle.std.proofs.Common.{◌≡◌, ◌⊎◌, ℕ, zero, suc, ◌<◌, List, [], ◌∷◌, Some, refl, sym, ap, subst, inl, inr, arith}
-use Rattle.std.specs.List.{Contains}
-use Rattle.std.proofs.lemmas.Bool.{cases_lt}
-use Rattle.session_log.specs.declared.session.Op.TheVariants.{Read, Write}
-use Rattle.log_definitions.specs.Serial.{ops_of}
-use Rattle.log_laws.proofs.Sessions.{nodes_of}
-use Rattle.level_laws.specs.Snapshot.{snapshot, commit, HasPrefixOrder}
-use Rattle.level_laws.specs.Examples.{x, y}
-use Rattle.level_laws.proofs.Resolved.{ops_at}
-use Rattle.level_laws.proofs.Intervals.{place}
-use Rattle.seen_laws.specs.declared.level.Level.TheVariants.{Causal}
-use Rattle.seen_laws.specs.Seen.{last_write, WritesKey, ReadsFrom, Past, step, path, HasLevelOrder}
-use Rattle.seen_laws.specs.Examples.{long_fork, SplitsPrefix}
+use Rattle.seen_laws.proofs.Prelude.{◌≡◌, ◌⊎◌, ℕ, zero, suc, ◌<◌, List, [], ◌∷◌, Some, refl, sym, ap, subst, inl, inr, arith, Contains, cases_lt, Read, Write, ops_of, nodes_of, snapshot, commit, HasPrefixOrder, x, y, ops_at, place, Causal}
+use Rattle.seen_laws.proofs.Prelude.{last_write, WritesKey, ReadsFrom, Past, step, path, HasLevelOrder, long_fork, SplitsPrefix}
 use Rattle.seen_laws.proofs.LastWrites.{some_written}
 use Rattle.seen_laws.proofs.Snapshots.{IsMet, met}
 use Rattle.seen_laws.proofs.Examples.{Facts, facts, never, Among, among, EachRead, IsExternal, Alone, never_earlier, by_number, Is, keys_differ}

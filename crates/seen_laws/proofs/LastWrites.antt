@@ -1,24 +1,10 @@
 -- The last write of a key, and what is left of it where operations are left out.
-use Rattle.std.proofs.Common.{◌≡◌, ◌⊎◌, ℕ, true, cond, List, [], ◌∷◌, ◌++◌, Option, Some, None, refl, sym, ap, ◌∙◌, subst, inl, inr, arith}
-use Rattle.std.specs.List.{Contains}
-use Rattle.std.specs.Str.{bytes_eq}
-use Rattle.std.proofs.lemmas.Bool.{cases_Bool}
-use Rattle.std.proofs.lemmas.Option.{same_Some}
-use Rattle.std.proofs.lemmas.Slice.Eq.{bytes_eq-Decides}
+use Rattle.seen_laws.proofs.Prelude.{◌≡◌, ◌⊎◌, ℕ, true, cond, List, [], ◌∷◌, ◌++◌, Option, Some, None, refl, sym, ap, ◌∙◌, subst, inl, inr, arith, Contains, bytes_eq, cases_Bool, same_Some, bytes_eq-Decides, Op, Read, Write, Has, Apart}
+use Rattle.seen_laws.proofs.Prelude.{some_cases, written, Has-written, first_or_behind, IsSublist, was_in, read_is_no_write, last_write}
 use Rattle.list_lemmas.proofs.Elements.{behind}
-use Rattle.session_log.specs.declared.session.Op.{Op}
-use Rattle.session_log.specs.declared.session.Op.TheVariants.{Read, Write}
 use Rattle.serializability.specs.Reads.{later}
-use Rattle.serializability.proofs.Places.{Has, Apart}
-use Rattle.serializability.proofs.Serial.{some_cases}
-use Rattle.log_definitions.specs.WellFormed.{written}
-use Rattle.log_definitions.proofs.Chosen.{Has-written}
-use Rattle.log_laws.proofs.Lists.{first_or_behind}
 use Rattle.part_laws.specs.Parts.{done, left, kept}
-use Rattle.part_laws.proofs.Thinned.{IsSublist, was_in}
-use Rattle.part_laws.proofs.Replay.{read_is_no_write}
 use Rattle.part_laws.proofs.Chosen.{same_key}
-use Rattle.seen_laws.specs.Seen.{last_write}
 
 pub same_wid : (k key : List ℕ) (w wid : ℕ) → Write k w ≡ Write key wid → w ≡ wid
 same_wid k key w wid e = cc

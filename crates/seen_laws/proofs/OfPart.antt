@@ -1,26 +1,12 @@
 -- A part of a log that has a level order has one, and of the unknown transactions a level order needs the taken ones alone.
-use Rattle.std.proofs.Common.{◌≡◌, ◌⊎◌, ℕ, ◌<◌, ◌≤◌, Bool, List, [], ◌∷◌, ◌++◌, length, refl, sym, ap, subst, inl, inr, arith}
-use Rattle.std.specs.List.{Contains}
-use Rattle.std.proofs.lemmas.List.Elements.{Contains-append_left}
-use Rattle.session_log.specs.Text.{ClientSession}
-use Rattle.session_log.specs.declared.session.Op.{Op}
-use Rattle.session_log.specs.declared.session.Op.TheVariants.{Read, Write}
-use Rattle.serializability.proofs.Places.{Apart, Apart-from_IsDistinct}
-use Rattle.serializability.proofs.Serial.{some_cases}
-use Rattle.log_definitions.specs.Unknown.{ops_in, settled, taken, IsClosed}
-use Rattle.log_definitions.specs.WellFormed.{written}
-use Rattle.log_definitions.specs.Serial.{committed_in, ops_of}
+use Rattle.seen_laws.proofs.Prelude.{◌≡◌, ◌⊎◌, ℕ, ◌<◌, ◌≤◌, Bool, List, [], ◌∷◌, ◌++◌, length, refl, sym, ap, subst, inl, inr, arith, Contains, Contains-append_left, ClientSession, Op, Read, Write, Apart, Apart-from_IsDistinct, some_cases}
+use Rattle.seen_laws.proofs.Prelude.{ops_in, settled, taken, IsClosed, written, committed_in, ops_of, first_or_behind, one_node, apart_node, settled_learnt, resolved_nodes, Level, last_write, IsLevelOrder, HasLevelOrder, HasSomeLevelOrder}
+use Rattle.seen_laws.proofs.Prelude.{SomeLevelOfPart, LevelOfPart, LevelOfTaken}
 use Rattle.log_definitions.proofs.Taken.{taken_closed, taken_least}
-use Rattle.log_laws.proofs.Lists.{first_or_behind}
 use Rattle.part_laws.proofs.Logs.{part_is_log}
-use Rattle.level_laws.proofs.Nodes.{one_node, apart_node}
-use Rattle.level_laws.proofs.Resolved.{settled_learnt, resolved_nodes}
 use Rattle.level_laws.proofs.Chosen.{closed_where, at_node, of_number}
 use Rattle.level_laws.proofs.Known.{Known, IsOfNode, of_node, known_part, known_taken}
 use Rattle.level_laws.proofs.Kept.{number_at, are_kept, number_rises, are_of}
-use Rattle.seen_laws.specs.declared.level.Level.{Level}
-use Rattle.seen_laws.specs.Seen.{last_write, IsLevelOrder, HasLevelOrder, HasSomeLevelOrder}
-use Rattle.seen_laws.specs.OfPart.{SomeLevelOfPart, LevelOfPart, LevelOfTaken}
 use Rattle.seen_laws.proofs.LastWrites.{some_written}
 use Rattle.seen_laws.proofs.Same.{same_nodes, same_level}
 use Rattle.seen_laws.proofs.Fewer.{IsFewer, level_where_fewer}

@@ -1,28 +1,14 @@
 -- A snapshot order gives a causal order: that of the commits.
-use Rattle.std.proofs.Common.{◌≡◌, Bool, ◌≢◌, ◌⊎◌, ℕ, ◌*◌, ◌<◌, ◌≤◌, true, false, cond, List, [], ◌∷◌, ◌++◌, length, map, Some, None, refl, sym, ap, ◌∙◌, subst, inl, inr, arith, append_assoc}
-use Rattle.std.specs.List.{flat_map, Contains}
-use Rattle.std.specs.Str.{bytes_eq}
-use Rattle.std.proofs.lemmas.Bool.{cases_Bool, cases_eq, or_left}
-use Rattle.std.proofs.lemmas.List.{map-append}
-use Rattle.std.proofs.lemmas.List.Elements.{Contains-append_right}
+use Rattle.seen_laws.proofs.Prelude.{◌≡◌, Bool, ◌≢◌, ◌⊎◌, ℕ, ◌*◌, ◌<◌, ◌≤◌, true, false, cond, List, [], ◌∷◌, ◌++◌, length, map, Some, None, refl, sym, ap, ◌∙◌, subst, inl, inr, arith, append_assoc, flat_map, Contains, bytes_eq, cases_Bool}
+use Rattle.seen_laws.proofs.Prelude.{cases_eq, or_left, map-append, Contains-append_right, bytes_eq-Decides, ClientSession, Op, Read, Write, place_of, Has, Apart, Has-append_back, Has-append_cases, Apart-not_both, place_of-here}
+use Rattle.seen_laws.proofs.Prelude.{place_of-further, place_of-front, place_of-back, some_cases, committed_in, ops_of, Map, set, initial, Replays, Point, snapshot, commit, number, is_in, snapshot_reads_behind, snapshot_reads, rest_behind}
+use Rattle.seen_laws.proofs.Prelude.{rest, IsPointOrder, place, At, is_node, stands, last_write, ReadsBehind, WritesKey}
 use Rattle.std.proofs.lemmas.List.Concat.{flat_map-append}
-use Rattle.std.proofs.lemmas.Slice.Eq.{bytes_eq-Decides}
-use Rattle.session_log.specs.Text.{ClientSession}
-use Rattle.session_log.specs.declared.session.Op.{Op}
-use Rattle.session_log.specs.declared.session.Op.TheVariants.{Read, Write}
-use Rattle.serializability.specs.Replay.{place_of}
-use Rattle.serializability.proofs.Places.{Has, Apart, Has-append_back, Has-append_cases, Apart-not_both, place_of-here, place_of-further, place_of-front, place_of-back}
 use Rattle.serializability.proofs.Listed.{once_apart}
-use Rattle.serializability.proofs.Serial.{some_cases}
-use Rattle.log_definitions.specs.Serial.{committed_in, ops_of, Map, set, initial, Replays}
 use Rattle.log_laws.proofs.Replay.{after, after-append, Replays-append}
-use Rattle.level_laws.specs.Snapshot.{Point, snapshot, commit, number, is_in, snapshot_reads_behind, snapshot_reads, rest_behind, rest, ops_at, IsPointOrder}
+use Rattle.level_laws.specs.Snapshot.{ops_at}
 use Rattle.level_laws.proofs.Arith.{point_node, point_of_number}
 use Rattle.level_laws.proofs.Parts.{turned, after_snapshot, after_rest}
-use Rattle.level_laws.proofs.Intervals.{place, At}
-use Rattle.level_laws.proofs.Nodes.{is_node}
-use Rattle.level_laws.proofs.Orders.{stands}
-use Rattle.seen_laws.specs.Seen.{last_write, ReadsBehind, WritesKey}
 use Rattle.seen_laws.proofs.LastWrites.{later_none, later_some, this_write, none_of_this, none_written}
 
 -- ---- what a map has behind operations

@@ -1,13 +1,7 @@
 -- Moments play no part in level orders.
-use Rattle.std.proofs.Common.{◌≡◌, ℕ, List, [], length, refl, ap, ◌∙◌}
-use Rattle.std.specs.Option.{option_map, option_map_or}
-use Rattle.std.proofs.lemmas.List.{length-map}
-use Rattle.session_log.specs.Text.{ClientSession}
-use Rattle.log_definitions.specs.Serial.{Committed, committed_in, node_in, node_of}
+use Rattle.seen_laws.proofs.Prelude.{◌≡◌, ℕ, List, [], length, refl, ap, ◌∙◌, option_map, option_map_or, length-map, ClientSession, Committed, committed_in, node_in, node_of, session_kept, ops_kept, LevelWithoutMoments}
 use Rattle.level_laws.specs.Without.{without_moments}
-use Rattle.level_laws.proofs.Nodes.{session_kept, ops_kept}
 use Rattle.level_laws.proofs.Timeless.{node_without, committed_without, node_at}
-use Rattle.seen_laws.specs.OfPart.{LevelWithoutMoments}
 use Rattle.seen_laws.proofs.Same.{AreSame, same_back, same_order}
 
 -- ---- the same nodes, but for moments

@@ -1,9 +1,5 @@
 -- How many of nodes 0 to n have a property, one node after the other.
-use Rattle.std.proofs.Common.{◌≡◌, ℕ, ◌+◌, ◌<◌, ◌≤◌, Bool, true, false, get_or, take, ap, ◌∙◌, arith}
-use Rattle.std.specs.List.{count_by, range_with_len}
-use Rattle.std.proofs.lemmas.List.{take_all}
-use Rattle.std.proofs.lemmas.List.FromFn.{length-range_with_len, get_or-range_with_len}
-use Rattle.std.proofs.lemmas.List.Sums.{count_by_more_yes, count_by_more_no}
+use Rattle.serializability.proofs.Prelude.{◌≡◌, ℕ, ◌+◌, ◌<◌, ◌≤◌, Bool, true, false, get_or, take, ap, ◌∙◌, arith, count_by, range_with_len, take_all, length-range_with_len, get_or-range_with_len, count_by_more_yes, count_by_more_no}
 
 node_at : (n u : ℕ) → u < n + 1 → get_or (range_with_len 0 (n + 1)) u 0 ≡ u
 node_at n u h = omega (arith, get_or-range_with_len 0 (n + 1) u 0 h)

@@ -1,9 +1,5 @@
 -- What holds of each pair of a range.
-use Rattle.std.proofs.Common.{◌≡◌, ℕ, ◌+◌, Bool, true, false, cond, ◌∷◌, zero, suc, ◌<◌, ◌≤◌, refl, arith, sym, ◌∙◌, subst, inl, inr}
-use Rattle.std.specs.Prelude.{map}
-use Rattle.std.specs.List.{AllByRecursion, range_with_len, filter}
-use Rattle.std.proofs.lemmas.Bool.{false≢true, cases_eq}
-use Rattle.serializability.specs.Pairs.{pairs_of}
+use Rattle.serializability.proofs.Prelude.{◌≡◌, ℕ, ◌+◌, Bool, true, false, cond, ◌∷◌, zero, suc, ◌<◌, ◌≤◌, refl, arith, sym, ◌∙◌, subst, inl, inr, map, AllByRecursion, range_with_len, filter, false≢true, cases_eq, pairs_of}
 use Rattle.serializability.proofs.Places.{each_from_append, each_from_map, each_from_filter, each_from_range, each_of_append, each_of_map, each_of_filter, each_of_range}
 
 pub pair_from_step : (P : (ℕ × ℕ) → Type 0) (p : ℕ → Bool) (a n : ℕ) (t : Bool) → p a ≡ t → (p a ≡ true → AllByRecursion (λ b. P (a, b)) (filter p (range_with_len (a + 1) n))) → AllByRecursion P (pairs_of (filter p (range_with_len (a + 1) n))) → AllByRecursion P (pairs_of (cond t (a ∷ filter p (range_with_len (a + 1) n)) (filter p (range_with_len (a + 1) n))))

@@ -1,6 +1,5 @@
 -- The front of an order, and one node more.
-use Rattle.std.proofs.Common.{◌≡◌, ℕ, ◌+◌, ◌<◌, List, [], ◌∷◌, ◌++◌, length, get_or, take, drop, sym, ap, ◌∙◌, inl, inr}
-use Rattle.std.proofs.lemmas.List.{take_more, take-append-drop, at_drop_more}
+use Rattle.serializability.proofs.Prelude.{◌≡◌, ℕ, ◌+◌, ◌<◌, List, [], ◌∷◌, ◌++◌, length, get_or, take, drop, sym, ap, ◌∙◌, inl, inr, take_more, take-append-drop, at_drop_more}
 use Rattle.serializability.proofs.Places.{Has, Apart, Has-append_cases}
 
 pub front_more : (order : List ℕ) (i v : ℕ) → i < length order → get_or order i v ≡ v → take (i + 1) order ≡ take i order ++ v ∷ []

@@ -1,7 +1,5 @@
 -- The order in which the node at place p has p nodes before it.
-use Rattle.std.proofs.Common.{◌≡◌, ℕ, zero, suc, ◌+◌, ◌<◌, ◌≤◌, Bool, List, [], ◌∷◌, length, get_or, refl, ap, inl, inr, arith}
-use Rattle.std.proofs.lemmas.Bool.{cases_lt}
-use Rattle.serializability.specs.Decoded.{IsOrder, IsDecoded}
+use Rattle.serializability.proofs.Prelude.{◌≡◌, ℕ, zero, suc, ◌+◌, ◌<◌, ◌≤◌, Bool, List, [], ◌∷◌, length, get_or, refl, ap, inl, inr, arith, cases_lt, IsOrder, IsDecoded}
 use Rattle.serializability.proofs.Ranks.{rank, rank-onto, rank-zero}
 
 record Line (n : ℕ) (r : ℕ → ℕ → Bool) (p m : ℕ) : Type 0 where

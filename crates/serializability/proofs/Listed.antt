@@ -1,13 +1,8 @@
 -- Lists that have each of nodes 1 to n once.
-use Rattle.std.proofs.Common.{◌≡◌, ℕ, zero, suc, ◌+◌, ◌<◌, ◌≤◌, true, false, eqb, List, [], ◌∷◌, length, get_or, refl, sym, ◌∙◌, subst, inl, inr, arith, eqb-true, eq-eqb, ne_eqb}
-use Rattle.std.specs.Prelude.{nat_eq}
-use Rattle.std.specs.List.{list_any, range_with_len, AllByRecursion, IsDistinct}
-use Rattle.std.proofs.lemmas.Bool.{cases_Bool, false≢true}
+use Rattle.serializability.proofs.Prelude.{◌≡◌, ℕ, zero, suc, ◌+◌, ◌<◌, ◌≤◌, true, false, eqb, List, [], ◌∷◌, length, get_or, refl, sym, ◌∙◌, subst, inl, inr, arith, eqb-true, eq-eqb, ne_eqb, nat_eq, list_any, range_with_len}
+use Rattle.serializability.proofs.Prelude.{AllByRecursion, IsDistinct, cases_Bool, false≢true, length-range_with_len, length-le_from_distinct_below, ListsOnce}
 use Rattle.std.proofs.lemmas.Cmp.{nat_eq_equiv}
-use Rattle.std.proofs.lemmas.List.FromFn.{length-range_with_len}
 use Rattle.std.proofs.lemmas.Map.Made.{length-le_from_is_member}
-use Rattle.std.proofs.lemmas.Map.Steps.{length-le_from_distinct_below}
-use Rattle.serializability.specs.Replay.{ListsOnce}
 use Rattle.serializability.proofs.Places.{Has, Apart, Apart-from_IsDistinct, Has-from_Contains, Contains-from_Has}
 use Rattle.serializability.proofs.Sources.{any_found, any_from, range-from_Has}
 use Rattle.serializability.proofs.Serial.{node_of}

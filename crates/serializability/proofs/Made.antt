@@ -1,16 +1,9 @@
 -- An assignment made of an order, and the clauses that it satisfies.
-use Rattle.std.proofs.Common.{◌≡◌, ◌≢◌, ◌⊎◌, ℕ, zero, suc, ◌+◌, ◌-◌, ◌<◌, ◌≤◌, Bool, true, false, eqb, ltb, cond, not, ◌&&◌, List, [], ◌∷◌, ◌++◌, get_or, refl, sym, ap, ◌∙◌, inl, inr, arith, eqb-true, eq-eqb}
-use Rattle.std.specs.List.{filter, list_any, range_with_len, AllByRecursion}
-use Rattle.std.specs.Prelude.{map}
-use Rattle.std.proofs.lemmas.Bool.{cases_lt, cases_order, cases_Bool, cond-true, cond-false, false≢true, or_parts, and_parts, and_from, not_from_false, lt-ltb, le-ltb, or_left, or_right}
-use Rattle.serializability.specs.Replay.{Before, ListsOnce}
-use Rattle.serializability.specs.Polygraph.{Edge}
+use Rattle.serializability.proofs.Prelude.{◌≡◌, ◌≢◌, ◌⊎◌, ℕ, zero, suc, ◌+◌, ◌-◌, ◌<◌, ◌≤◌, Bool, true, false, eqb, ltb, cond, not, ◌&&◌, List, [], ◌∷◌, ◌++◌, get_or, refl, sym, ap, ◌∙◌, inl, inr, arith, eqb-true, eq-eqb, filter, list_any}
+use Rattle.serializability.proofs.Prelude.{range_with_len, AllByRecursion, map, cases_lt, cases_order, cases_Bool, cond-true, cond-false, false≢true, or_parts, and_parts, and_from, not_from_false, lt-ltb, le-ltb, or_left, or_right, Before}
+use Rattle.serializability.proofs.Prelude.{ListsOnce, Edge, pairs_of, Literal, value_of, clause_true, Known, is_free, free_pairs, pair_place, edge_literal, edge_clause, triple_clauses, triples_of, order_clauses}
 use Rattle.serializability.proofs.Places.{each_from_append, each_from_flat_map, each_from_map, each_from_range, each_of_filter}
-use Rattle.serializability.specs.Pairs.{pairs_of}
 use Rattle.serializability.proofs.Once.{at, places_apart}
-use Rattle.serializability.specs.declared.literal.Literal.{Literal}
-use Rattle.serializability.specs.Formula.{value_of, clause_true}
-use Rattle.serializability.specs.Pairs.{Known, is_free, free_pairs, pair_place, edge_literal, edge_clause, triple_clauses, triples_of, order_clauses}
 use Rattle.serializability.proofs.Tournament.{lit, lit_up, lit_down, AnyEdge, each_pair_of}
 
 -- ---- the place of a pair

@@ -1,10 +1,6 @@
 -- Places in an order that lists nodes 1 to n once each.
-use Rattle.std.proofs.Common.{◌≡◌, ◌≢◌, ℕ, suc, ◌+◌, ◌<◌, ◌≤◌, true, false, eqb, List, [], ◌∷◌, length, get_or, sym, ◌∙◌, subst, inl, inr, arith, eqb-true, eq-eqb}
-use Rattle.std.specs.List.{list_any, AllByRecursion, IsDistinct}
-use Rattle.std.specs.Prelude.{nat_eq}
-use Rattle.std.proofs.lemmas.Bool.{cases_eq, cases_lt, cases_Bool, cond-true, false≢true, or_cases, or_parts}
-use Rattle.std.proofs.lemmas.Map.Steps.{length-le_from_distinct_below}
-use Rattle.serializability.specs.Replay.{place_of, ListsOnce}
+use Rattle.serializability.proofs.Prelude.{◌≡◌, ◌≢◌, ℕ, suc, ◌+◌, ◌<◌, ◌≤◌, true, false, eqb, List, [], ◌∷◌, length, get_or, sym, ◌∙◌, subst, inl, inr, arith, eqb-true, eq-eqb, list_any, AllByRecursion, IsDistinct, nat_eq, cases_eq}
+use Rattle.serializability.proofs.Prelude.{cases_lt, cases_Bool, cond-true, false≢true, or_cases, or_parts, length-le_from_distinct_below, place_of, ListsOnce}
 use Rattle.serializability.proofs.Places.{Has, Has-from_Contains, place_of-further}
 
 abbrev pub at : List ℕ → ℕ → ℕ

@@ -1,9 +1,6 @@
 -- Places in a list of nodes.
-use Rattle.std.proofs.Common.{◌≡◌, ◌⊎◌, ℕ, zero, suc, ◌+◌, ◌<◌, ◌≤◌, Bool, true, false, eqb, cond, List, [], ◌∷◌, ◌++◌, length, get_or, refl, sym, ap, ◌∙◌, subst, inl, inr, arith, eq-eqb, ne_eqb}
-use Rattle.std.specs.List.{Contains, AllByRecursion, IsDistinct, range_with_len, filter, flat_map}
-use Rattle.std.specs.Prelude.{nat_eq, map}
-use Rattle.std.proofs.lemmas.Bool.{cases_eq, cond-true, cond-false, false≢true}
-use Rattle.serializability.specs.Replay.{place_of}
+use Rattle.serializability.proofs.Prelude.{◌≡◌, ◌⊎◌, ℕ, zero, suc, ◌+◌, ◌<◌, ◌≤◌, Bool, true, false, eqb, cond, List, [], ◌∷◌, ◌++◌, length, get_or, refl, sym, ap, ◌∙◌, subst, inl, inr, arith, eq-eqb, ne_eqb, Contains, AllByRecursion}
+use Rattle.serializability.proofs.Prelude.{IsDistinct, range_with_len, filter, flat_map, nat_eq, map, cases_eq, cond-true, cond-false, false≢true, place_of}
 
 -- v is in the list
 abbrev pub Has : ℕ → List ℕ → Type 0

@@ -1,15 +1,8 @@
 -- Counting what stands before each node, in a strict total order of nodes 0 to n.
-use Rattle.std.proofs.Common.{◌≡◌, ℕ, zero, suc, ◌+◌, ◌-◌, ◌<◌, ◌≤◌, Bool, true, false, eqb, cond, List, [], ◌∷◌, length, get_or, refl, sym, ap, ◌∙◌, subst, inl, inr, arith, eqb-true, eq-eqb, ne_eqb}
-use Rattle.std.specs.List.{count_by, list_any, range_with_len, All, Contains, IsDistinct}
-use Rattle.std.specs.Prelude.{nat_eq, map}
-use Rattle.std.proofs.lemmas.Bool.{cases_eq, cases_lt, cases_Bool, cond-true, cond-false, false≢true, true≢false, or_cases}
-use Rattle.std.proofs.lemmas.List.Sums.{sum_by-cons, count_by-le-length}
-use Rattle.std.proofs.lemmas.List.{get_or_default}
-use Rattle.std.proofs.lemmas.List.FromFn.{length-range_with_len, length-map-range_with_len, get_or-map-range_with_len}
-use Rattle.std.proofs.lemmas.Map.Steps.{length-le_from_distinct_below}
+use Rattle.serializability.proofs.Prelude.{◌≡◌, ℕ, zero, suc, ◌+◌, ◌-◌, ◌<◌, ◌≤◌, Bool, true, false, eqb, cond, List, [], ◌∷◌, length, get_or, refl, sym, ap, ◌∙◌, subst, inl, inr, arith, eqb-true, eq-eqb, ne_eqb, count_by, list_any}
+use Rattle.serializability.proofs.Prelude.{range_with_len, All, Contains, IsDistinct, nat_eq, map, cases_eq, cases_lt, cases_Bool, cond-true, cond-false, false≢true, true≢false, or_cases, sum_by-cons, count_by-le-length, get_or_default}
+use Rattle.serializability.proofs.Prelude.{length-range_with_len, length-map-range_with_len, get_or-map-range_with_len, length-le_from_distinct_below, place_of, Before, ListsOnce, IsOrder}
 use Rattle.std.proofs.lemmas.Map.Keys.{IsDistinct-from_apart}
-use Rattle.serializability.specs.Replay.{place_of, Before, ListsOnce}
-use Rattle.serializability.specs.Decoded.{IsOrder}
 use Rattle.serializability.proofs.Places.{Has, Apart, Apart-from_IsDistinct, Has_at, place_of-here, place_of-further}
 use Rattle.serializability.proofs.Sources.{Has-from_range, range-from_Has}
 use Rattle.serializability.proofs.Once.{any_index, cons_distinct}

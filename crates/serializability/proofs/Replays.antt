@@ -1,11 +1,6 @@
 -- What a replay meets, piece by piece.
-use Rattle.std.proofs.Common.{◌≡◌, ◌⊎◌, ℕ, Bool, true, false, eqb, cond, List, [], ◌∷◌, ◌++◌, Option, None, Some, refl, sym, ap, ◌∙◌, subst, inl, inr, unwrap_or}
-use Rattle.std.specs.List.{flat_map}
-use Rattle.std.proofs.lemmas.List.Concat.{flat_map-append}
-use Rattle.serializability.specs.declared.event.Event.{Event}
-use Rattle.serializability.specs.declared.event.Event.TheVariants.{Read, Write}
-use Rattle.serializability.specs.Replay.{Store, write, after, Meets}
-use Rattle.serializability.specs.Reads.{later, last_write}
+use Rattle.serializability.proofs.Prelude.{◌≡◌, ◌⊎◌, ℕ, Bool, true, false, eqb, cond, List, [], ◌∷◌, ◌++◌, Option, None, Some, refl, sym, ap, ◌∙◌, subst, inl, inr, unwrap_or, flat_map, flat_map-append, Event, Read, Write, Store, write}
+use Rattle.serializability.proofs.Prelude.{after, Meets, later, last_write}
 use Rattle.serializability.proofs.Places.{Has}
 
 pub after-append : (s : Store) (a b : List Event) → after s (a ++ b) ≡ after (after s a) b

@@ -1,14 +1,8 @@
 -- An order is serial exactly when it fits the arcs and the bipaths.
-use Rattle.std.proofs.Common.{◌≡◌, ◌≢◌, ◌⊎◌, ℕ, zero, suc, ◌+◌, ◌<◌, ◌≤◌, true, false, eqb, not, ◌&&◌, ◌||◌, List, [], ◌∷◌, ◌++◌, length, Option, None, Some, refl, sym, ap, ◌∙◌, subst, inl, inr, arith, unwrap_or, eqb-true, eq-eqb, ne_eqb, append_assoc}
-use Rattle.std.specs.Prelude.{is_some, map}
-use Rattle.std.specs.List.{filter, flat_map, AllByRecursion}
-use Rattle.std.proofs.lemmas.Bool.{cases_eq, cases_lt, false≢true, or_cases, and_parts, and_from, or_right, or_left, not-true, not_from_false, eqb-false}
-use Rattle.serializability.specs.declared.event.Event.{Event}
-use Rattle.serializability.specs.Log.{Log, precedes}
-use Rattle.serializability.specs.Replay.{place_of, Before, ListsOnce, IsSerial, after, empty, Meets}
-use Rattle.serializability.specs.Reads.{later, last_write, IsFinal, ReadsAfter, IsClean}
-use Rattle.serializability.specs.Polygraph.{Edge, Choice, KeepsOne, Fits, bipath_polygraph, rival_choice, arcs, is_arc, bipaths, bipaths_at, is_rival, all_nodes, all_keys, committed, source, reads_from}
-use Rattle.std.proofs.lemmas.List.Concat.{flat_map-append}
+use Rattle.serializability.proofs.Prelude.{◌≡◌, ◌≢◌, ◌⊎◌, ℕ, zero, suc, ◌+◌, ◌<◌, ◌≤◌, true, false, eqb, not, ◌&&◌, ◌||◌, List, [], ◌∷◌, ◌++◌, length, Option, None, Some, refl, sym, ap, ◌∙◌, subst, inl, inr, arith, unwrap_or, eqb-true}
+use Rattle.serializability.proofs.Prelude.{eq-eqb, ne_eqb, append_assoc, is_some, map, filter, flat_map, AllByRecursion, cases_eq, cases_lt, false≢true, or_cases, and_parts, and_from, or_right, or_left, not-true, not_from_false, eqb-false}
+use Rattle.serializability.proofs.Prelude.{Event, Log, precedes, place_of, Before, ListsOnce, IsSerial, after, empty, Meets, later, last_write, IsFinal, ReadsAfter, IsClean, Edge, Choice, KeepsOne, Fits, bipath_polygraph, rival_choice}
+use Rattle.serializability.proofs.Prelude.{arcs, is_arc, bipaths, bipaths_at, is_rival, all_nodes, all_keys, committed, source, reads_from, flat_map-append}
 use Rattle.serializability.proofs.Places.{Has, Apart, Has-from_Contains, Contains-from_Has, Apart-from_IsDistinct, Has-append_front, Has-append_back, Has-append_cases, Apart-not_both, place_of-here, place_of-further, place_of-front, place_of-back, Has-split, each_of_range, each_from_range, each_of_flat_map, each_from_flat_map, each_of_map, each_from_map, each_of_filter, each_from_filter}
 use Rattle.serializability.proofs.Replays.{after_is, last_write-append, Meets_read, Meets-from_reads, Meets_node, Meets-from_nodes, LastWriter, last_writer, no_writer, no_writer_from}
 use Rattle.serializability.proofs.Sources.{SourceOf, source_is, source_from, reads_from_is, reads_from_source}

@@ -1,13 +1,8 @@
 -- The node from which a node reads a key.
-use Rattle.std.proofs.Common.{◌≡◌, ◌≢◌, ◌⊎◌, ℕ, zero, suc, ◌+◌, ◌<◌, ◌≤◌, Bool, true, false, eqb, cond, List, [], ◌∷◌, ◌++◌, Option, None, Some, refl, sym, ap, ◌∙◌, subst, inl, inr, arith, unwrap_or, eqb-true, eq-eqb}
-use Rattle.std.specs.List.{find, list_any, range_with_len}
+use Rattle.serializability.proofs.Prelude.{◌≡◌, ◌≢◌, ◌⊎◌, ℕ, zero, suc, ◌+◌, ◌<◌, ◌≤◌, Bool, true, false, eqb, cond, List, [], ◌∷◌, ◌++◌, Option, None, Some, refl, sym, ap, ◌∙◌, subst, inl, inr, arith, unwrap_or, eqb-true, eq-eqb, find}
+use Rattle.serializability.proofs.Prelude.{list_any, range_with_len, cases_eq, cases_Bool, cond-true, cond-false, false≢true, or_cases, and_parts, and_from, Event, Read, Write, Log, later, last_write, external_read, IsFinal, ReadsAfter}
+use Rattle.serializability.proofs.Prelude.{IsClean, committed, all_keys, wrote, writer_of, source, reads_from}
 use Rattle.std.specs.Option.{option_map, option_map_or}
-use Rattle.std.proofs.lemmas.Bool.{cases_eq, cases_Bool, cond-true, cond-false, false≢true, or_cases, and_parts, and_from}
-use Rattle.serializability.specs.declared.event.Event.{Event}
-use Rattle.serializability.specs.declared.event.Event.TheVariants.{Read, Write}
-use Rattle.serializability.specs.Log.{Log}
-use Rattle.serializability.specs.Reads.{later, last_write, external_read, IsFinal, ReadsAfter, IsClean}
-use Rattle.serializability.specs.Polygraph.{committed, all_keys, wrote, writer_of, source, reads_from}
 use Rattle.serializability.specs.Anomalies.{is_write_of}
 use Rattle.serializability.proofs.Places.{Has}
 

@@ -1,15 +1,8 @@
 -- An assignment that satisfies the clauses of an order puts nodes 0 to n in an order.
-use Rattle.std.proofs.Common.{◌≡◌, ◌≢◌, ◌⊎◌, ℕ, zero, suc, ◌+◌, ◌<◌, ◌≤◌, Bool, true, false, eqb, ltb, cond, not, List, [], ◌∷◌, refl, sym, ap, ◌∙◌, subst, inl, inr, arith, eq-eqb, ne_eqb}
-use Rattle.std.specs.List.{filter, list_any, range_with_len, AllByRecursion}
-use Rattle.std.specs.Prelude.{map}
-use Rattle.std.proofs.lemmas.Bool.{cases_eq, cases_lt, cases_order, cases_Bool, false≢true, or_cases, and_parts, and_from, not-true, not_from_false, not_from_true, lt-ltb, le-ltb, and_left, or_left, or_right}
-use Rattle.serializability.specs.Polygraph.{Edge}
+use Rattle.serializability.proofs.Prelude.{◌≡◌, ◌≢◌, ◌⊎◌, ℕ, zero, suc, ◌+◌, ◌<◌, ◌≤◌, Bool, true, false, eqb, ltb, cond, not, List, [], ◌∷◌, refl, sym, ap, ◌∙◌, subst, inl, inr, arith, eq-eqb, ne_eqb, filter, list_any, range_with_len}
+use Rattle.serializability.proofs.Prelude.{AllByRecursion, map, cases_eq, cases_lt, cases_order, cases_Bool, false≢true, or_cases, and_parts, and_from, not-true, not_from_false, not_from_true, lt-ltb, le-ltb, and_left, or_left, or_right}
+use Rattle.serializability.proofs.Prelude.{Edge, pairs_of, Literal, value_of, literal_true, clause_true, Known, free_pairs, pair_place, edge_literal, edge_clause, triple_clauses, triples_of, order_clauses, is_before, IsOrder}
 use Rattle.serializability.proofs.Places.{each_of_append, each_of_flat_map, each_of_map, each_of_range}
-use Rattle.serializability.specs.Pairs.{pairs_of}
-use Rattle.serializability.specs.declared.literal.Literal.{Literal}
-use Rattle.serializability.specs.Formula.{value_of, literal_true, clause_true}
-use Rattle.serializability.specs.Pairs.{Known, free_pairs, pair_place, edge_literal, edge_clause, triple_clauses, triples_of, order_clauses}
-use Rattle.serializability.specs.Decoded.{is_before, IsOrder}
 
 abbrev pub lit : List (ℕ × ℕ) → List Bool → ℕ → ℕ → Bool
 lit pairs values u v = literal_true values (edge_literal pairs u v)

@@ -1,23 +1,9 @@
 -- The sessions that are found are all that are taken.
-use Rattle.std.proofs.Common.{◌≡◌, ℕ, zero, suc, Bool, true, false, cond, eqb, List, [], ◌∷◌, length, map, count_by, Option, Some, refl, sym, ap, subst, ◌∙◌, ◌+◌, ◌≤◌, arith, nat_eq, eqb-true, eq-eqb}
-use Rattle.std.specs.List.{AllByRecursion, Contains, IsDistinct}
-use Rattle.std.proofs.lemmas.Bool.{false≢true}
-use Rattle.std.proofs.lemmas.List.{take_all}
-use Rattle.std.proofs.lemmas.List.Folds.{Any-from_list_any}
-use Rattle.std.proofs.lemmas.List.Sums.{sum_by-cons}
-use Rattle.std.proofs.lemmas.Slice.Eq.{bytes_eq-Decides}
+use Rattle.session_history.proofs.Prelude.{◌≡◌, ℕ, zero, suc, Bool, true, false, cond, eqb, List, [], ◌∷◌, length, map, count_by, Option, Some, refl, sym, ap, subst, ◌∙◌, ◌+◌, ◌≤◌, arith, nat_eq, eqb-true, eq-eqb, AllByRecursion, Contains}
+use Rattle.session_history.proofs.Prelude.{IsDistinct, false≢true, take_all, Any-from_list_any, sum_by-cons, bytes_eq-Decides, ClientSession, Transaction, Read, Write, Outcome, Commit, Abort, Unknown, Apart-from_IsDistinct}
+use Rattle.session_history.proofs.Prelude.{each_of_flat_map, each_of_map, is_unknown, txns_in, ops_in, settled_as, settled, committed_ops, taken, IsNeeded, IsClosed, is_commit, written, member, each_weaker, each_member, Counts}
+use Rattle.session_history.proofs.Prelude.{each_from_committed, taken_least, ops_ended, WriteView, WriteAt, unknown_writes, last_with, has, IsOnce}
 use Rattle.list_lemmas.proofs.Bools.{same_bool}
-use Rattle.session_log.specs.Text.{ClientSession, Transaction}
-use Rattle.session_log.specs.declared.session.Op.TheVariants.{Read, Write}
-use Rattle.session_log.specs.declared.session.Outcome.{Outcome}
-use Rattle.session_log.specs.declared.session.Outcome.TheVariants.{Commit, Abort, Unknown}
-use Rattle.serializability.proofs.Places.{Apart-from_IsDistinct, each_of_flat_map, each_of_map}
-use Rattle.log_definitions.specs.Unknown.{is_unknown, txns_in, ops_in, settled_as, settled, committed_ops, taken, IsNeeded, IsClosed}
-use Rattle.session_log.specs.Text.{is_commit}
-use Rattle.log_definitions.specs.WellFormed.{written}
-use Rattle.log_definitions.proofs.Members.{member, each_weaker, each_member}
-use Rattle.log_definitions.proofs.Taken.{Counts, each_from_committed, taken_least}
-use Rattle.session_history.specs.Worklist.{ops_ended, WriteView, WriteAt, unknown_writes, last_with, has, IsOnce}
 use Rattle.session_history.proofs.Ended.{each_of_ended}
 use Rattle.session_history.proofs.Grown.{Served}
 use Rattle.session_history.proofs.Unknowns.{EachWrite, each_of_unknown}

@@ -1,14 +1,6 @@
 -- The operations of the transactions that ended in one way.
-use Rattle.std.proofs.Common.{◌≡◌, Bool, true, false, cond, List, [], refl, ap, subst, ◌∙◌}
-use Rattle.std.specs.List.{AllByRecursion}
-use Rattle.std.proofs.lemmas.Bool.{false≢true}
-use Rattle.session_log.specs.Text.{Transaction}
-use Rattle.session_log.specs.declared.session.Op.{Op}
-use Rattle.session_log.specs.declared.session.Outcome.{Outcome}
-use Rattle.session_log.specs.declared.session.Outcome.TheVariants.{Commit, Abort, Unknown}
-use Rattle.serializability.proofs.Places.{each_of_flat_map, each_from_flat_map}
-use Rattle.log_definitions.proofs.Members.{each_weaker}
-use Rattle.session_history.specs.Worklist.{same_outcome, has_ended, ops_ended}
+use Rattle.session_history.proofs.Prelude.{◌≡◌, Bool, true, false, cond, List, [], refl, ap, subst, ◌∙◌, AllByRecursion, false≢true, Transaction, Op, Outcome, Commit, Abort, Unknown, each_of_flat_map, each_from_flat_map, each_weaker}
+use Rattle.session_history.proofs.Prelude.{same_outcome, has_ended, ops_ended}
 
 ended_is : (a b : Outcome) → same_outcome a b ≡ true → a ≡ b
 ended_is Commit Commit e = refl

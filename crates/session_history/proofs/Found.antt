@@ -1,18 +1,9 @@
 -- The writes of transactions of unknown outcome, and the sessions that are taken, operation by operation.
-use Rattle.std.proofs.Common.{◌≡◌, ℕ, Bool, true, false, cond, eqb, List, [], ◌∷◌, ◌++◌, length, take, get_or, Option, Some, None, refl, sym, ap, ◌∙◌, append_assoc, nat_cmp, ◌+◌, ◌<◌}
-use Rattle.std.specs.Option.{option_or, option_map}
-use Rattle.std.specs.BTreeMap.{get, is_at}
-use Rattle.std.specs.Cmp.{unsigned_ties}
-use Rattle.std.proofs.lemmas.Grind.{flat_map-append}
-use Rattle.list_lemmas.proofs.Lists.{front_more}
-use Rattle.session_log.specs.Text.{ClientSession, Transaction}
-use Rattle.log_definitions.specs.Unknown.{is_unknown}
-use Rattle.session_log.specs.declared.session.Op.{Op}
-use Rattle.session_log.specs.declared.session.Op.TheVariants.{Read, Write}
+use Rattle.session_history.proofs.Prelude.{◌≡◌, ℕ, Bool, true, false, cond, eqb, List, [], ◌∷◌, ◌++◌, length, take, get_or, Option, Some, None, refl, sym, ap, ◌∙◌, append_assoc, nat_cmp, ◌+◌, ◌<◌, option_or, option_map, get, is_at}
+use Rattle.session_history.proofs.Prelude.{unsigned_ties, flat_map-append, front_more, ClientSession, Transaction, is_unknown, Op, Read, Write, WriteView, WriteAt, writes_of, unknown_writes_of, last_with, with_read, with_reads, write_view}
+use Rattle.session_history.proofs.Prelude.{FindsLast}
 use Rattle.session_history.specs.declared.taken.UnknownWrite.{UnknownWrite}
 use Rattle.session_history.specs.declared.taken.UnknownWrites.{UnknownWrites}
-use Rattle.session_history.specs.Worklist.{WriteView, WriteAt, writes_of, unknown_writes_of, last_with, with_read, with_reads}
-use Rattle.session_history.specs.Tracked.{write_view, FindsLast}
 
 -- ---- the table of writes
 

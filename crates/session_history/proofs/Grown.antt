@@ -1,17 +1,7 @@
 -- Sessions, with those that operations read from.
-use Rattle.std.proofs.Common.{◌≡◌, ℕ, Bool, true, false, cond, eqb, List, [], ◌∷◌, ◌++◌, map, Option, Some, None, refl, sym, ap, subst, ◌∙◌, append_assoc, append-nil, nat_eq, eq-eqb}
-use Rattle.std.specs.List.{AllByRecursion, IsDistinct}
-use Rattle.std.specs.Str.{bytes_eq}
-use Rattle.std.proofs.lemmas.Bool.{false≢true, or_left, or_right, or_parts}
-use Rattle.std.proofs.lemmas.List.{map-append}
-use Rattle.std.proofs.lemmas.List.Folds.{list_any-append}
-use Rattle.std.proofs.lemmas.Option.{same_Some}
-use Rattle.session_log.specs.Text.{ClientSession}
-use Rattle.session_log.specs.declared.session.Op.{Op}
-use Rattle.session_log.specs.declared.session.Op.TheVariants.{Read, Write}
-use Rattle.serializability.proofs.Places.{each_from_append}
-use Rattle.log_definitions.proofs.Members.{each_weaker}
-use Rattle.session_history.specs.Worklist.{WriteView, has, with_session, with_found, with_read, with_reads}
+use Rattle.session_history.proofs.Prelude.{◌≡◌, ℕ, Bool, true, false, cond, eqb, List, [], ◌∷◌, ◌++◌, map, Option, Some, None, refl, sym, ap, subst, ◌∙◌, append_assoc, append-nil, nat_eq, eq-eqb, AllByRecursion, IsDistinct, bytes_eq}
+use Rattle.session_history.proofs.Prelude.{false≢true, or_left, or_right, or_parts, map-append, list_any-append, same_Some, ClientSession, Op, Read, Write, each_from_append, each_weaker, WriteView, has, with_session, with_found, with_read}
+use Rattle.session_history.proofs.Prelude.{with_reads}
 
 has-append : (a b : List ClientSession) (n : ℕ) → has a n ≡ true → has (a ++ b) n ≡ true
 has-append a b n h = list_any-append (λ (s : ClientSession). eqb s.number n) a b ∙ or_left (has a n) (has b n) h

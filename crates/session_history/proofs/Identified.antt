@@ -1,21 +1,9 @@
 -- The write that an identity finds.
-use Rattle.std.proofs.Common.{◌≡◌, ℕ, zero, suc, ◌<◌, Bool, true, false, eqb, ◌&&◌, List, [], ◌∷◌, length, get_or, Option, None, Some, refl, sym, ap, ◌∙◌, subst, inl, inr, arith, eq-eqb}
-use Rattle.std.specs.Prelude.{MatchOption}
-use Rattle.std.specs.List.{list_any, Contains}
-use Rattle.std.proofs.lemmas.Bool.{cases_eq, cases_lt, false≢true, or_cases, or_left, or_right, and_from}
-use Rattle.session_log.specs.Text.{ClientSession}
-use Rattle.serializability.specs.declared.event.Event.{Event}
+use Rattle.session_history.proofs.Prelude.{◌≡◌, ℕ, zero, suc, ◌<◌, Bool, true, false, eqb, ◌&&◌, List, [], ◌∷◌, length, get_or, Option, None, Some, refl, sym, ap, ◌∙◌, subst, inl, inr, arith, eq-eqb, MatchOption, list_any, Contains}
+use Rattle.session_history.proofs.Prelude.{cases_eq, cases_lt, false≢true, or_cases, or_left, or_right, and_from, ClientSession, Event, Log, last_write, is_write_of, writes_as, log_of, Written, Writes, entry_of, is_write, is_last_write}
+use Rattle.session_history.proofs.Prelude.{ends_with, IsUnwritten, IsNodesWrite, IsWrite, FindsWrites}
 use Rattle.serializability.specs.declared.event.Event.TheVariants.{Write}
-use Rattle.serializability.specs.Log.{Log}
-use Rattle.serializability.specs.Reads.{last_write}
-use Rattle.serializability.specs.Anomalies.{is_write_of, writes_as}
 use Rattle.serializability.proofs.Sources.{wrote_is, wrote_from, is_write as same_write, is_write-self}
-use Rattle.log_definitions.specs.Numbers.{log_of}
-use Rattle.session_history.specs.declared.writes.Written.{Written}
-use Rattle.session_history.specs.declared.writes.Writes.{Writes}
-use Rattle.session_history.specs.Written.{entry_of, is_write, is_last_write, ends_with}
-use Rattle.session_history.specs.Writes.{IsUnwritten, IsNodesWrite, IsWrite}
-use Rattle.session_history.specs.Held.{FindsWrites}
 use Rattle.session_history.proofs.Tabled.{ops_past}
 
 any_element : {X : Type 0} (p : X → Bool) (xs : List X) (k : ℕ) (x : X) → k < length xs → get_or xs k x ≡ x → p x ≡ true → list_any p xs ≡ true

@@ -1,29 +1,9 @@
 -- What a history answers from its tables.
-use Rattle.std.proofs.Common.{◌≡◌, ℕ, suc, ◌+◌, ◌-◌, ◌<◌, ◌≤◌, ◌⊎◌, inl, inr, List, [], ◌∷◌, length, get_or, slice_get, Option, Some, None, refl, sym, ap, ◌∙◌, arith, is_some, nat_lt, Bor, IfSome}
-use Rattle.std.specs.Prelude.{option_and_then}
-use Rattle.std.specs.List.{filter_map, cons_option}
-use Rattle.std.specs.Option.{option_map, option_map_or}
-use Rattle.std.proofs.lemmas.Bool.{cases_lt, ltb-true, ltb-false}
-use Rattle.std.proofs.lemmas.List.{length-map}
-use Rattle.std.proofs.lemmas.Option.{slice_get_past, slice_get_read, slice_get-map, same_Some}
-use Rattle.session_log.specs.Text.{ClientSession}
-use Rattle.serializability.specs.Log.{Log}
-use Rattle.serializability.specs.Reads.{external_read}
-use Rattle.serializability.specs.Polygraph.{all_keys, source, writer_of}
-use Rattle.log_definitions.specs.WellFormed.{keys_in}
-use Rattle.log_definitions.specs.Serial.{Committed, committed_in, node_in, node_of, begun_of, ended_of}
-use Rattle.log_definitions.specs.Numbers.{events_of, log_of}
-use Rattle.session_history.specs.Tables.{sources_of}
-use Rattle.session_history.specs.Taken.{NumberedNode, node_view}
-use Rattle.session_history.specs.Rows.{row_view}
-use Rattle.session_history.specs.Sources.{reads_view}
-use Rattle.session_history.specs.Held.{numbered_node, node_kept, sessions_of, row_in, IsHistory}
-use Rattle.session_history.specs.declared.nodes.Node.{Node}
-use Rattle.session_history.specs.declared.rows.KeyRow.{KeyRow}
+use Rattle.session_history.proofs.Prelude.{◌≡◌, ℕ, suc, ◌+◌, ◌-◌, ◌<◌, ◌≤◌, ◌⊎◌, inl, inr, List, [], ◌∷◌, length, get_or, slice_get, Option, Some, None, refl, sym, ap, ◌∙◌, arith, is_some, nat_lt, Bor, IfSome, option_and_then, filter_map}
+use Rattle.session_history.proofs.Prelude.{cons_option, option_map, option_map_or, cases_lt, ltb-true, ltb-false, length-map, slice_get_past, slice_get_read, slice_get-map, same_Some, ClientSession, Log, external_read, all_keys, source}
+use Rattle.session_history.proofs.Prelude.{writer_of, keys_in, Committed, committed_in, node_in, node_of, begun_of, ended_of, events_of, log_of, sources_of, NumberedNode, node_view, row_view, reads_view, numbered_node, node_kept}
+use Rattle.session_history.proofs.Prelude.{sessions_of, row_in, IsHistory, Node, KeyRow, few_nodes, rules_where_no_fault, log_keys, log_nodes}
 use Rattle.session_history.specs.declared.log.History.TheInside.{Inside}
-use Rattle.log_definitions.proofs.FewNodes.{few_nodes}
-use Rattle.log_definitions.proofs.Scanning.{rules_where_no_fault}
-use Rattle.log_definitions.proofs.Nodes.{log_keys, log_nodes}
 use Rattle.session_history.proofs.Tabled.{log_ops, log_session, ops_past}
 
 module _ (h : Inside) (k : IsHistory h) where

@@ -1,20 +1,10 @@
 -- The rows of the keys, operation by operation.
-use Rattle.std.proofs.Common.{◌≡◌, ℕ, zero, suc, ◌+◌, ◌-◌, ◌<◌, Bool, true, false, cond, List, [], ◌∷◌, ◌++◌, length, length-append, map, take, get_or, set, slice_get, Option, Some, None, is_some, refl, sym, ap, subst, ◌∙◌, arith, nat_eq, All}
-use Rattle.std.specs.Option.{option_map, option_map_or, option_or}
-use Rattle.std.proofs.lemmas.Bool.{eqb-true, eqb-false, eq-eqb, ne_eqb}
-use Rattle.std.proofs.lemmas.List.Elements.{All-append, All-nil, All-cons}
-use Rattle.std.proofs.lemmas.List.{append-nil, map-append, length-map, length-take, length-set, take_more}
-use Rattle.std.proofs.lemmas.Option.{slice_get-map, slice_get_within, slice_get-get_or, get_or_from_slice_get}
+use Rattle.session_history.proofs.Prelude.{◌≡◌, ℕ, zero, suc, ◌+◌, ◌-◌, ◌<◌, Bool, true, false, cond, List, [], ◌∷◌, ◌++◌, length, length-append, map, take, get_or, set, slice_get, Option, Some, None, is_some, refl, sym, ap, subst, ◌∙◌}
+use Rattle.session_history.proofs.Prelude.{arith, nat_eq, All, option_map, option_map_or, option_or, eqb-true, eqb-false, eq-eqb, ne_eqb, All-append, All-nil, All-cons, append-nil, map-append, length-map, length-take, length-set, take_more}
+use Rattle.session_history.proofs.Prelude.{slice_get-map, slice_get_within, slice_get-get_or, get_or_from_slice_get, Event, last_write, external_read, later, last_write-append, later-None, Node, KeyRow, Reader, RowView, reader_view}
+use Rattle.session_history.proofs.Prelude.{row_view, writer_if, reader_if, row_after, row_from, no_row, IsBelow, AreRows, event_key}
 use Rattle.std.proofs.Math.Seq.{get_or-append_seam}
-use Rattle.serializability.specs.declared.event.Event.{Event}
 use Rattle.serializability.specs.declared.event.Event.TheVariants.{Read, Write}
-use Rattle.serializability.specs.Reads.{last_write, external_read, later}
-use Rattle.serializability.proofs.Replays.{last_write-append, later-None}
-use Rattle.session_history.specs.declared.nodes.Node.{Node}
-use Rattle.session_history.specs.declared.rows.KeyRow.{KeyRow}
-use Rattle.session_history.specs.declared.rows.Reader.{Reader}
-use Rattle.session_history.specs.Rows.{RowView, reader_view, row_view, writer_if, reader_if, row_after, row_from, no_row, IsBelow, AreRows}
-use Rattle.serializability.specs.Events.{event_key}
 
 -- ---- one operation more
 

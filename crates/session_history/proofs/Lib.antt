@@ -1,3 +1,4 @@
+mod Prelude
 pub mod Stepping
 pub mod Seen
 pub mod Found

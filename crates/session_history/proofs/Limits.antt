@@ -1,14 +1,9 @@
 -- What the sessions of a well-formed log keep to, and which fault others have.
-use Rattle.std.proofs.Common.{◌≡◌, ℕ, ◌+◌, ◌<◌, ◌≤◌, not, List, length, count_by, nat_lt, Option, Some, None, sym, ap, ◌∙◌, arith}
-use Rattle.std.specs.Option.{option_or}
-use Rattle.std.proofs.lemmas.Bool.{lt-ltb, le-ltb, cond-true, cond-false}
-use Rattle.session_log.specs.Text.{ClientSession, capped}
+use Rattle.session_history.proofs.Prelude.{◌≡◌, ℕ, ◌+◌, ◌<◌, ◌≤◌, not, List, length, count_by, nat_lt, Option, Some, None, sym, ap, ◌∙◌, arith, option_or, lt-ltb, le-ltb, cond-true, cond-false, ClientSession, capped, ops_in, txns_in}
+use Rattle.session_history.proofs.Prelude.{log_lines, session_twice, write_twice, session_fault, write_fault, limit_fault, list_fault, keys_in, is_aborted, IsTally}
 use Rattle.session_log.specs.declared.fault.Limit.TheVariants as limit
 use Rattle.session_log.specs.declared.fault.LogFault.TheVariants.{SessionTwice, OverLimit}
-use Rattle.log_definitions.specs.Unknown.{ops_in, txns_in}
-use Rattle.log_definitions.specs.WellFormed.{log_lines, session_twice, write_twice, session_fault, write_fault, limit_fault, list_fault, keys_in, is_aborted}
 use Rattle.session_history.specs.declared.count.Tally.{Tally}
-use Rattle.session_history.specs.Counted.{IsTally}
 use Rattle.session_history.proofs.Totals.{others_counted}
 
 -- the limits

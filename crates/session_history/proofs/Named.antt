@@ -1,12 +1,6 @@
 -- One node more in a map of names.
-use Rattle.std.proofs.Common.{◌≡◌, ℕ, ◌+◌, ◌-◌, ◌<◌, ◌≤◌, ◌&&◌, cond, List, ◌∷◌, length, drop, get_or, Option, Some, sym, ap, ◌∙◌, arith, nat_eq, nat_cmp}
-use Rattle.std.specs.Cmp.{unsigned_ties}
-use Rattle.std.specs.Ordering.{is_eq}
-use Rattle.std.specs.BTreeMap.{is_at}
-use Rattle.std.proofs.lemmas.List.{drop_more}
-use Rattle.list_lemmas.proofs.Comparisons.{eq_then}
-use Rattle.session_history.specs.declared.nodes.Node.{Node}
-use Rattle.session_history.specs.Naming.{name_cmp, node_among}
+use Rattle.session_history.proofs.Prelude.{◌≡◌, ℕ, ◌+◌, ◌-◌, ◌<◌, ◌≤◌, ◌&&◌, cond, List, ◌∷◌, length, drop, get_or, Option, Some, sym, ap, ◌∙◌, arith, nat_eq, nat_cmp, unsigned_ties, is_eq, is_at, drop_more, eq_then, Node, name_cmp}
+use Rattle.session_history.proofs.Prelude.{node_among}
 
 tie : (p q : ℕ × ℕ) → is_at (name_cmp p) q ≡ (nat_eq p.0 q.0 && nat_eq p.1 q.1)
 tie p q = eq_then (nat_cmp p.0 q.0) (nat_cmp p.1 q.1) ∙ ap (λ b. b && is_eq (nat_cmp p.1 q.1)) (sym (unsigned_ties p.0 q.0)) ∙ ap (λ b. nat_eq p.0 q.0 && b) (sym (unsigned_ties p.1 q.1))

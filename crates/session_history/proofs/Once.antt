@@ -1,19 +1,7 @@
 -- Where no identity is written twice, a write of a transaction of unknown outcome is known by it.
-use Rattle.std.proofs.Common.{◌≡◌, inl, inr, ℕ, Bool, true, false, cond, eqb, List, [], ◌∷◌, ◌++◌, map, Some, None, refl, sym, ap, subst, ◌∙◌, eq-eqb, ne_eqb}
-use Rattle.std.specs.List.{flat_map, AllByRecursion}
-use Rattle.std.specs.Option.{option_or}
-use Rattle.std.proofs.lemmas.List.{map-append}
-use Rattle.std.proofs.lemmas.Grind.{flat_map-append}
-use Rattle.session_log.specs.Text.{ClientSession, Transaction}
-use Rattle.session_log.specs.declared.session.Op.{Op}
-use Rattle.session_log.specs.declared.session.Op.TheVariants.{Read, Write}
-use Rattle.serializability.proofs.Places.{Has, Apart, Has-append_front, Has-append_back, Has-append_cases, Apart-not_both, Apart-append}
-use Rattle.log_definitions.specs.Unknown.{is_unknown, txns_in, ops_in}
-use Rattle.log_definitions.specs.WellFormed.{written}
-use Rattle.log_definitions.proofs.Members.{each_weaker}
-use Rattle.log_definitions.proofs.Settled.{txn_ops}
-use Rattle.log_definitions.proofs.Scanning.{written-append}
-use Rattle.session_history.specs.Worklist.{WriteAt, writes_of, unknown_writes_of, unknown_writes, last_with}
+use Rattle.session_history.proofs.Prelude.{◌≡◌, inl, inr, ℕ, Bool, true, false, cond, eqb, List, [], ◌∷◌, ◌++◌, map, Some, None, refl, sym, ap, subst, ◌∙◌, eq-eqb, ne_eqb, flat_map, AllByRecursion, option_or, map-append, flat_map-append}
+use Rattle.session_history.proofs.Prelude.{ClientSession, Transaction, Op, Read, Write, Has, Apart, Has-append_front, Has-append_back, Has-append_cases, Apart-not_both, Apart-append, is_unknown, txns_in, ops_in, written, each_weaker}
+use Rattle.session_history.proofs.Prelude.{txn_ops, written-append, WriteAt, writes_of, unknown_writes_of, unknown_writes, last_with}
 use Rattle.session_history.proofs.Unknowns.{writes_in}
 
 -- the one has elements of the other, and none twice where the other has none twice

@@ -1,23 +1,9 @@
 -- The transactions of all sessions, their nodes and their keys.
-use Rattle.std.proofs.Common.{◌≡◌, ℕ, zero, suc, ◌+◌, ◌<◌, ◌≤◌, Bool, true, false, not, ◌||◌, ◌&&◌, cond, List, [], ◌∷◌, ◌++◌, length, map, count_by, slice_get, refl, sym, ap, subst, ◌∙◌, arith, nat_eq}
-use Rattle.std.specs.List.{flat_map, filter, list_any, enumerate_from, AllByRecursion}
-use Rattle.std.specs.Option.{option_map_or}
-use Rattle.std.specs.Str.{bytes_eq}
-use Rattle.std.proofs.lemmas.Bool.{eq-eqb, ne_eqb}
-use Rattle.std.proofs.lemmas.List.{map-append}
-use Rattle.std.proofs.lemmas.List.Sums.{sum_by-cons}
-use Rattle.session_log.specs.Text.{ClientSession, Transaction, key_of}
-use Rattle.session_log.specs.declared.session.Op.{Op}
+use Rattle.session_history.proofs.Prelude.{◌≡◌, ℕ, zero, suc, ◌+◌, ◌<◌, ◌≤◌, Bool, true, false, not, ◌||◌, ◌&&◌, cond, List, [], ◌∷◌, ◌++◌, length, map, count_by, slice_get, refl, sym, ap, subst, ◌∙◌, arith, nat_eq, flat_map, filter}
+use Rattle.session_history.proofs.Prelude.{list_any, enumerate_from, AllByRecursion, option_map_or, bytes_eq, eq-eqb, ne_eqb, map-append, sum_by-cons, ClientSession, Transaction, key_of, Op, Event, is_committed, txns_in, settled, taken}
+use Rattle.session_history.proofs.Prelude.{resolved, first_seen, keys_in, Committed, committed_of, committed_in, events_of, ops_settled, Placed, placed_from, placed_in, NumberedNode, nodes_among, numbered_from, keys_among, event_key}
+use Rattle.session_history.proofs.Prelude.{numbered_node}
 use Rattle.session_log.specs.declared.session.Op.TheVariants as op
-use Rattle.serializability.specs.declared.event.Event.{Event}
-use Rattle.log_definitions.specs.Unknown.{is_committed, txns_in, settled, taken, resolved}
-use Rattle.log_definitions.specs.WellFormed.{first_seen, keys_in}
-use Rattle.log_definitions.specs.Serial.{Committed, committed_of, committed_in}
-use Rattle.log_definitions.specs.Numbers.{events_of}
-use Rattle.log_definitions.proofs.Settled.{ops_settled}
-use Rattle.session_history.specs.Taken.{Placed, placed_from, placed_in, NumberedNode, nodes_among, numbered_from, keys_among}
-use Rattle.serializability.specs.Events.{event_key}
-use Rattle.session_history.specs.Held.{numbered_node}
 use Rattle.session_history.proofs.Seen.{number_below, seen_here, seen_stays}
 use Rattle.session_history.proofs.Taking.{nodes_among-append}
 

@@ -1,13 +1,8 @@
 -- What each node reads, read by read.
-use Rattle.std.proofs.Common.{◌≡◌, ℕ, suc, ◌+◌, ◌<◌, Bool, true, false, cond, List, [], ◌∷◌, ◌++◌, length, map, take, get_or, set, slice_get, Some, refl, sym, ap, subst, ◌∙◌, arith, append_assoc, nat_eq, Vec, Global}
-use Rattle.std.specs.Option.{option_map}
-use Rattle.std.proofs.lemmas.Bool.{eqb-true, eqb-false, eq-eqb, ne_eqb}
-use Rattle.std.proofs.lemmas.List.{append-nil, map-append, length-map, length-take, length-set, take_more}
-use Rattle.session_history.specs.declared.reads.ReadFrom.{ReadFrom}
-use Rattle.session_history.specs.declared.rows.KeyRow.{KeyRow}
-use Rattle.session_history.specs.declared.rows.Reader.{Reader}
-use Rattle.session_history.specs.Rows.{reader_view}
-use Rattle.session_history.specs.Sources.{AreReads, reads_view, found_by, found_in, readers_of}
+use Rattle.session_history.proofs.Prelude.{◌≡◌, ℕ, suc, ◌+◌, ◌<◌, Bool, true, false, cond, List, [], ◌∷◌, ◌++◌, length, map, take, get_or, set, slice_get, Some, refl, sym, ap, subst, ◌∙◌, arith, append_assoc, nat_eq, Vec, Global}
+use Rattle.session_history.proofs.Prelude.{option_map, eqb-true, eqb-false, eq-eqb, ne_eqb, append-nil, map-append, length-map, length-take, length-set, take_more, ReadFrom, KeyRow, Reader, reader_view, AreReads, reads_view, found_by}
+use Rattle.session_history.proofs.Prelude.{readers_of}
+use Rattle.session_history.specs.Sources.{found_in}
 use Rattle.session_history.proofs.KeyRows.{slice_get-set_here, slice_get-set_apart}
 
 pub reads_same : (n : ℕ) (f g : ℕ → List (ℕ × ℕ)) (reads : List (Vec ReadFrom Global)) → ((v : ℕ) → f v ≡ g v) → AreReads n f reads → AreReads n g reads

@@ -1,17 +1,10 @@
 -- A binary search among items that are sorted by number.
-use Rattle.std.proofs.Common.{◌≡◌, ℕ, zero, suc, ◌+◌, ◌<◌, ◌≤◌, Bool, true, false, eqb, ltb, cond, List, [], ◌∷◌, length, get_or, Option, None, Some, refl, sym, ap, ◌∙◌, subst, inl, inr, arith, add-one}
-use Rattle.std.specs.Prelude.{map}
-use Rattle.std.specs.List.{cons_option, AllByRecursion, HoldsAt}
+use Rattle.session_history.proofs.Prelude.{◌≡◌, ℕ, zero, suc, ◌+◌, ◌<◌, ◌≤◌, Bool, true, false, eqb, ltb, cond, List, [], ◌∷◌, length, get_or, Option, None, Some, refl, sym, ap, ◌∙◌, subst, inl, inr, arith, add-one, map, cons_option}
+use Rattle.session_history.proofs.Prelude.{AllByRecursion, HoldsAt, option_map, is_lt, ordering_index, nat_cmp_total, cases_eq, cases_lt, cases_Bool, le-ltb, eqb-true, eq-eqb, get_or-map, length-map, All-from_recursion}
+use Rattle.session_history.proofs.Prelude.{searchable_from_sorted, pair_at, pairs}
 use Rattle.std.specs.List.Sorted.{IsSortedBy, IsNonDecreasingBy, IsPartitionPoint}
-use Rattle.std.specs.Option.{option_map}
-use Rattle.std.specs.Ordering.{nat_cmp, is_lt, ordering_index}
+use Rattle.std.specs.Ordering.{nat_cmp}
 use Rattle.std.specs.declared.cmp.Ordering.TheVariants.{Less, Equal, Greater}
-use Rattle.std.specs.Cmp.{nat_cmp_total}
-use Rattle.std.proofs.lemmas.Bool.{cases_eq, cases_lt, cases_Bool, le-ltb, eqb-true, eq-eqb}
-use Rattle.std.proofs.lemmas.List.{get_or-map, length-map}
-use Rattle.std.proofs.lemmas.List.Elements.{All-from_recursion}
-use Rattle.std.proofs.lemmas.List.Sorted.{searchable_from_sorted}
-use Rattle.session_history.specs.Tables.{pair_at, pairs}
 
 -- ---- numbers rise, from a on
 abbrev Rises : {Y : Type 0} → ℕ → List (ℕ × Y) → Type 0

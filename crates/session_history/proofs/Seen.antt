@@ -1,23 +1,9 @@
 -- Keys in the order of their first appearance, and their numbers, which later keys leave alone.
-use Rattle.std.proofs.Common.{append_assoc, append-nil, ◌≡◌, ◌⊎◌, inl, inr, ℕ, zero, suc, slice_get, subst, ◌<◌, take, get_or, ◌+◌, Bool, true, false, not, ◌||◌, cond, List, [], ◌∷◌, ◌++◌, length, map, Option, Some, None, refl, sym, ap, ◌∙◌, arith}
-use Rattle.std.specs.List.{list_any}
-use Rattle.std.specs.Str.{bytes_eq}
+use Rattle.session_history.proofs.Prelude.{append_assoc, append-nil, ◌≡◌, ◌⊎◌, inl, inr, ℕ, zero, suc, slice_get, subst, ◌<◌, take, get_or, ◌+◌, Bool, true, false, not, ◌||◌, cond, List, [], ◌∷◌, ◌++◌, length, map, Option, Some, None, refl}
+use Rattle.session_history.proofs.Prelude.{sym, ap, ◌∙◌, arith, list_any, bytes_eq, slice_cmp, texts_ties, BTreeMap, get, is_at, false≢true, cond-true, cond-false, both_ways, or_right, or_left, list_any-append, map-append, Event}
+use Rattle.session_history.proofs.Prelude.{bytes_eq-Decides, bytes_flip, front_more, first_seen, key_of, number_in, event_of, events_of, Op, number_among, KeepsPlaces}
 use Rattle.std.specs.Ordering.{nat_cmp}
-use Rattle.std.specs.Cmp.Lexicographic.{slice_cmp, texts_ties}
 use Rattle.std.specs.Map.{lookup}
-use Rattle.std.specs.BTreeMap.{BTreeMap, get, is_at}
-use Rattle.std.proofs.lemmas.Bool.{false≢true, cond-true, cond-false, both_ways, or_right, or_left}
-use Rattle.std.proofs.lemmas.List.Folds.{list_any-append}
-use Rattle.std.proofs.lemmas.List.{map-append}
-use Rattle.serializability.specs.declared.event.Event.{Event}
-use Rattle.std.proofs.lemmas.Slice.Eq.{bytes_eq-Decides}
-use Rattle.list_lemmas.proofs.Comparisons.{bytes_flip}
-use Rattle.list_lemmas.proofs.Lists.{front_more}
-use Rattle.log_definitions.specs.WellFormed.{first_seen}
-use Rattle.session_log.specs.Text.{key_of}
-use Rattle.log_definitions.specs.Numbers.{number_in, event_of, events_of}
-use Rattle.session_log.specs.declared.session.Op.{Op}
-use Rattle.session_history.specs.Numbering.{number_among, KeepsPlaces}
 
 pub seen_append : (s a b : List (List ℕ)) → first_seen s (a ++ b) ≡ first_seen (first_seen s a) b
 seen_append s [] b = refl

@@ -1,8 +1,5 @@
 -- One step of a loop over what a slice holds, seen as a list of values, and what an option holds.
-use Rattle.std.proofs.Common.{◌≡◌, ℕ, ◌+◌, ◌<◌, ◌≤◌, List, [], ◌∷◌, ◌++◌, length, map, take, get_or, sym, ap, ◌∙◌, subst, append-nil}
-use Rattle.std.specs.List.{flat_map}
-use Rattle.std.proofs.lemmas.List.{map-append, take_more, take_all}
-use Rattle.std.proofs.lemmas.Grind.{flat_map-append}
+use Rattle.session_history.proofs.Prelude.{◌≡◌, ℕ, ◌+◌, ◌<◌, ◌≤◌, List, [], ◌∷◌, ◌++◌, length, map, take, get_or, sym, ap, ◌∙◌, subst, append-nil, flat_map, map-append, take_more, take_all, flat_map-append}
 
 -- what is passed on is what is there
 pub step : {X Y : Type 0} (f : X → Y) (xs passed : List X) (i : ℕ) (x : X) → passed ≡ xs → i < length passed → x ≡ get_or passed i x → map f (take (i + 1) xs) ≡ map f (take i xs) ++ f x ∷ []

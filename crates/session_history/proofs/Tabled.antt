@@ -1,38 +1,13 @@
 -- The tables of the nodes are those of the log.
-use Rattle.std.proofs.Common.{◌≡◌, ℕ, zero, suc, ◌+◌, ◌<◌, ◌≤◌, ◌⊎◌, inl, inr, Bool, true, false, not, ◌&&◌, cond, List, [], ◌∷◌, ◌++◌, length, length-append, map, count_by, get_or, slice_get, Option, Some, None, is_some, unwrap_or, refl, sym, ap, subst, ◌∙◌, arith, append_assoc, nat_eq, All, Vec, Global}
-use Rattle.std.specs.List.{filter, filter_map, cons_option, list_any, find, range_with_len, AllByRecursion}
-use Rattle.std.specs.Option.{option_map, option_map_or}
+use Rattle.session_history.proofs.Prelude.{◌≡◌, ℕ, zero, suc, ◌+◌, ◌<◌, ◌≤◌, ◌⊎◌, inl, inr, Bool, true, false, not, ◌&&◌, cond, List, [], ◌∷◌, ◌++◌, length, length-append, map, count_by, get_or, slice_get, Option, Some, None, is_some}
+use Rattle.session_history.proofs.Prelude.{unwrap_or, refl, sym, ap, subst, ◌∙◌, arith, append_assoc, nat_eq, All, Vec, Global, filter, filter_map, cons_option, list_any, find, range_with_len, AllByRecursion, option_map, option_map_or}
+use Rattle.session_history.proofs.Prelude.{both_ways, eqb-true, eqb-false, eq-eqb, ne_eqb, cases_lt, slice_get_past, slice_get-get_or, slice_get-map, same_Some, All-from_recursion, append-nil, length-map, ClientSession, Event, Log}
+use Rattle.session_history.proofs.Prelude.{last_write, external_read, committed, wrote, writer_of, source, writes_as, is_committed, txns_in, settled, taken, resolved, first_seen, keys_in, Committed, committed_in, node_in, node_of}
+use Rattle.session_history.proofs.Prelude.{events_of, aborted_in, log_of, sources_of, node_named, Placed, placed_in, NumberedNode, node_view, nodes_among, numbered_from, keys_among, HoldsAll, Transactions, node_among, RowView, row_view}
+use Rattle.session_history.proofs.Prelude.{reader_view, row_after, row_from, no_row, writer_if, reader_if, AreRows, event_key, log_keys, log_nodes, AreReads, final_node, found_by, readers_of, ReadFrom, Reader, entry_of, is_last_write}
+use Rattle.session_history.proofs.Prelude.{ends_with, HasWrites, readers_in, row_in, numbered_node, FindsWrites, Node, KeyRow, Written, Writes}
 use Rattle.std.proofs.Math.Path.{fun_ext}
-use Rattle.std.proofs.lemmas.Bool.{both_ways, eqb-true, eqb-false, eq-eqb, ne_eqb, cases_lt}
-use Rattle.std.proofs.lemmas.Option.{slice_get_past, slice_get-get_or, slice_get-map, same_Some}
-use Rattle.std.proofs.lemmas.List.Elements.{All-from_recursion}
-use Rattle.std.proofs.lemmas.List.{append-nil, length-map}
-use Rattle.session_log.specs.Text.{ClientSession}
-use Rattle.serializability.specs.declared.event.Event.{Event}
-use Rattle.serializability.specs.Log.{Log}
-use Rattle.serializability.specs.Reads.{last_write, external_read}
-use Rattle.serializability.specs.Polygraph.{committed, wrote, writer_of, source}
-use Rattle.serializability.specs.Anomalies.{writes_as}
-use Rattle.log_definitions.specs.Unknown.{is_committed, txns_in, settled, taken, resolved}
-use Rattle.log_definitions.specs.WellFormed.{first_seen, keys_in}
-use Rattle.log_definitions.specs.Serial.{Committed, committed_in, node_in, node_of}
-use Rattle.log_definitions.specs.Numbers.{events_of, aborted_in, log_of}
-use Rattle.session_history.specs.Tables.{sources_of, node_named}
-use Rattle.session_history.specs.Taken.{Placed, placed_in, NumberedNode, node_view, nodes_among, numbered_from, keys_among, HoldsAll}
-use Rattle.session_history.specs.declared.nodes.Transactions.{Transactions}
-use Rattle.session_history.specs.Naming.{node_among}
-use Rattle.session_history.specs.Rows.{RowView, row_view, reader_view, row_after, row_from, no_row, writer_if, reader_if, AreRows}
-use Rattle.serializability.specs.Events.{event_key}
-use Rattle.log_definitions.proofs.Nodes.{log_keys, log_nodes}
-use Rattle.session_history.specs.Sources.{AreReads, final_node, found_by, found_in, readers_of}
-use Rattle.session_history.specs.declared.reads.ReadFrom.{ReadFrom}
-use Rattle.session_history.specs.declared.rows.Reader.{Reader}
-use Rattle.session_history.specs.Written.{entry_of, is_last_write, ends_with, HasWrites}
-use Rattle.session_history.specs.Held.{readers_in, row_in, numbered_node, FindsWrites}
-use Rattle.session_history.specs.declared.nodes.Node.{Node}
-use Rattle.session_history.specs.declared.rows.KeyRow.{KeyRow}
-use Rattle.session_history.specs.declared.writes.Written.{Written}
-use Rattle.session_history.specs.declared.writes.Writes.{Writes}
+use Rattle.session_history.specs.Sources.{found_in}
 use Rattle.session_history.proofs.Placings.{one_there, aborted_there, nodes_in, txns_placed, all_below, keys_settled, keys_placed, committed_placed}
 use Rattle.session_history.proofs.KeyRows.{rows_same}
 

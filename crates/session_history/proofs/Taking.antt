@@ -1,28 +1,10 @@
 -- Transactions, one after the other.
-use Rattle.std.proofs.Common.{◌≡◌, ℕ, ◌+◌, ◌<◌, Bool, true, false, cond, List, [], ◌∷◌, ◌++◌, length, length-append, map, Option, take, drop, get_or, count_by, refl, sym, ap, subst, ◌∙◌, arith, append_assoc}
-use Rattle.std.specs.List.{flat_map}
-use Rattle.std.proofs.lemmas.List.{append-nil, map-append, length-map, length-take, drop_more}
-use Rattle.std.proofs.lemmas.Grind.{flat_map-append}
-use Rattle.std.proofs.lemmas.List.Sums.{sum_by-cons, sum_by-append}
-use Rattle.session_log.specs.Text.{ClientSession, Transaction, view, view_txn, op_line, end_line, txn_lines, session_lines}
+use Rattle.session_history.proofs.Prelude.{◌≡◌, ℕ, ◌+◌, ◌<◌, Bool, true, false, cond, List, [], ◌∷◌, ◌++◌, length, length-append, map, Option, take, drop, get_or, count_by, refl, sym, ap, subst, ◌∙◌, arith, append_assoc, flat_map}
+use Rattle.session_history.proofs.Prelude.{append-nil, map-append, length-map, length-take, drop_more, flat_map-append, sum_by-cons, sum_by-append, ClientSession, Transaction, view, view_txn, op_line, end_line, txn_lines, session_lines}
+use Rattle.session_history.proofs.Prelude.{Txn, Session, Op, Read, Write, Outcome, Commit, Abort, Unknown, Event, is_committed, txns_in, settle, settled, first_seen, writes_from, log_lines, key_of, events_of, writes_from-append, Node}
+use Rattle.session_history.proofs.Prelude.{Transactions, HasSeen, HasWrites, writes_at, Placed, placed_from, placed_in, NumberedNode, node_view, nodes_among, numbered_from, keys_among, Takes, IsStart, HoldsAll}
 use Rattle.session_log.specs.declared.line.Line.{Line}
-use Rattle.session_log.specs.declared.session.Txn.{Txn}
-use Rattle.session_log.specs.declared.session.Session.{Session}
 use Rattle.session_log.specs.declared.line.Line.TheVariants as line
-use Rattle.session_log.specs.declared.session.Op.{Op}
-use Rattle.session_log.specs.declared.session.Op.TheVariants.{Read, Write}
-use Rattle.session_log.specs.declared.session.Outcome.{Outcome}
-use Rattle.session_log.specs.declared.session.Outcome.TheVariants.{Commit, Abort, Unknown}
-use Rattle.serializability.specs.declared.event.Event.{Event}
-use Rattle.log_definitions.specs.Unknown.{is_committed, txns_in, settle, settled}
-use Rattle.log_definitions.specs.WellFormed.{first_seen, writes_from, log_lines}
-use Rattle.session_log.specs.Text.{key_of}
-use Rattle.log_definitions.specs.Numbers.{events_of}
-use Rattle.log_definitions.proofs.Lines.{writes_from-append}
-use Rattle.session_history.specs.declared.nodes.Node.{Node}
-use Rattle.session_history.specs.declared.nodes.Transactions.{Transactions}
-use Rattle.session_history.specs.Written.{HasSeen, HasWrites, writes_at}
-use Rattle.session_history.specs.Taken.{Placed, placed_from, placed_in, NumberedNode, node_view, nodes_among, numbered_from, keys_among, Takes, IsStart, HoldsAll}
 use Rattle.session_history.proofs.Stepping.{step, step_in}
 use Rattle.session_history.proofs.Seen.{seen_append}
 

@@ -1,12 +1,6 @@
 -- How much sessions hold.
-use Rattle.std.proofs.Common.{◌≡◌, ℕ, ◌+◌, ◌≤◌, Bool, true, false, not, cond, List, [], ◌∷◌, ◌++◌, length, length-append, map, count_by, refl, arith}
-use Rattle.std.specs.List.{flat_map}
-use Rattle.std.proofs.lemmas.List.Sums.{sum_by-cons, sum_by-append}
-use Rattle.session_log.specs.Text.{ClientSession, Transaction, txn_lines, session_lines}
-use Rattle.session_log.specs.declared.session.Outcome.{Outcome}
-use Rattle.session_log.specs.declared.session.Outcome.TheVariants.{Commit, Abort, Unknown}
-use Rattle.log_definitions.specs.Unknown.{is_committed, is_unknown, txns_in, settle, settled, taken, resolved}
-use Rattle.log_definitions.specs.WellFormed.{log_lines, is_aborted}
+use Rattle.session_history.proofs.Prelude.{◌≡◌, ℕ, ◌+◌, ◌≤◌, Bool, true, false, not, cond, List, [], ◌∷◌, ◌++◌, length, length-append, map, count_by, refl, arith, flat_map, sum_by-cons, sum_by-append, ClientSession, Transaction, txn_lines}
+use Rattle.session_history.proofs.Prelude.{session_lines, Outcome, Commit, Abort, Unknown, is_committed, is_unknown, txns_in, settle, settled, taken, resolved, log_lines, is_aborted}
 use Rattle.session_history.proofs.Taking.{length-txn_lines}
 
 one_if : Bool → ℕ

@@ -1,21 +1,8 @@
 -- The first session number that stood before.
-use Rattle.std.proofs.Common.{◌≡◌, ℕ, ◌+◌, ◌<◌, Bool, true, false, ◌||◌, cond, List, [], ◌∷◌, ◌++◌, length, length-append, map, take, drop, get_or, Option, Some, None, refl, sym, ap, ◌∙◌, nat_eq, nat_cmp}
-use Rattle.std.specs.List.{flat_map, list_any}
-use Rattle.std.specs.BTreeMap.{is_at}
-use Rattle.std.specs.Cmp.{unsigned_ties}
-use Rattle.std.proofs.lemmas.Bool.{eqb-true, eqb-false, eq-eqb, ne_eqb}
-use Rattle.std.proofs.lemmas.List.{append-nil, map-append, take_more, take-append-drop}
-use Rattle.std.proofs.lemmas.List.Folds.{list_any-append}
-use Rattle.std.proofs.lemmas.Grind.{flat_map-append}
-use Rattle.session_log.specs.Text.{ClientSession, Transaction, view, op_line, end_line, txn_lines, session_lines}
+use Rattle.session_history.proofs.Prelude.{◌≡◌, ℕ, ◌+◌, ◌<◌, Bool, true, false, ◌||◌, cond, List, [], ◌∷◌, ◌++◌, length, length-append, map, take, drop, get_or, Option, Some, None, refl, sym, ap, ◌∙◌, nat_eq, nat_cmp, flat_map, list_any}
+use Rattle.session_history.proofs.Prelude.{is_at, unsigned_ties, eqb-true, eqb-false, eq-eqb, ne_eqb, append-nil, map-append, take_more, take-append-drop, list_any-append, flat_map-append, ClientSession, Transaction, view, op_line}
+use Rattle.session_history.proofs.Prelude.{end_line, txn_lines, session_lines, Op, Read, Write, Outcome, Commit, Abort, Unknown, Session, log_lines, repeated, sessions_from, session_twice, sessions_from-append}
 use Rattle.session_log.specs.declared.line.Line.TheVariants as line
-use Rattle.session_log.specs.declared.session.Op.{Op}
-use Rattle.session_log.specs.declared.session.Op.TheVariants.{Read, Write}
-use Rattle.session_log.specs.declared.session.Outcome.{Outcome}
-use Rattle.session_log.specs.declared.session.Outcome.TheVariants.{Commit, Abort, Unknown}
-use Rattle.session_log.specs.declared.session.Session.{Session}
-use Rattle.log_definitions.specs.WellFormed.{log_lines, repeated, sessions_from, session_twice}
-use Rattle.log_definitions.proofs.Lines.{sessions_from-append}
 use Rattle.session_history.proofs.Writing.{repeated_found, repeated_push}
 
 none_in_txn : (n : ℕ) (ops : List Op) (o : Outcome) (ended : Option ℕ) → sessions_from n (map op_line ops ++ end_line o ended ∷ []) ≡ []

@@ -1,18 +1,7 @@
 -- The writes of transactions of unknown outcome.
-use Rattle.std.proofs.Common.{◌≡◌, ℕ, Bool, true, false, cond, eqb, List, [], ◌∷◌, Option, Some, None, refl, ap, subst, ◌∙◌, eqb-true}
-use Rattle.std.specs.List.{AllByRecursion, Contains}
-use Rattle.std.specs.Option.{option_or}
-use Rattle.std.proofs.lemmas.Bool.{false≢true}
-use Rattle.std.proofs.lemmas.Option.{same_Some}
-use Rattle.session_log.specs.Text.{ClientSession, Transaction}
-use Rattle.session_log.specs.declared.session.Op.{Op}
-use Rattle.session_log.specs.declared.session.Op.TheVariants.{Read, Write}
-use Rattle.session_log.specs.declared.session.Outcome.{Outcome}
-use Rattle.session_log.specs.declared.session.Outcome.TheVariants.{Commit, Abort, Unknown}
-use Rattle.serializability.proofs.Places.{each_of_flat_map, each_from_flat_map}
-use Rattle.log_definitions.specs.Unknown.{is_unknown}
-use Rattle.log_definitions.proofs.Members.{each_weaker, each_member}
-use Rattle.session_history.specs.Worklist.{WriteView, WriteAt, writes_of, unknown_writes_of, unknown_writes, last_with}
+use Rattle.session_history.proofs.Prelude.{◌≡◌, ℕ, Bool, true, false, cond, eqb, List, [], ◌∷◌, Option, Some, None, refl, ap, subst, ◌∙◌, eqb-true, AllByRecursion, Contains, option_or, false≢true, same_Some, ClientSession, Transaction, Op}
+use Rattle.session_history.proofs.Prelude.{Read, Write, Outcome, Commit, Abort, Unknown, each_of_flat_map, each_from_flat_map, is_unknown, each_weaker, each_member, WriteView, WriteAt, writes_of, unknown_writes_of, unknown_writes}
+use Rattle.session_history.proofs.Prelude.{last_with}
 
 -- what holds of each of the writes holds of the one that is found
 pub last_each : (P : WriteAt → Type 0) (wid : ℕ) (xs : List WriteAt) (w : WriteView) → AllByRecursion P xs → last_with wid xs ≡ Some w → P (wid, w)

@@ -1,22 +1,10 @@
 -- The sessions that are found by reading, session by session, are taken.
-use Rattle.std.proofs.Common.{◌≡◌, ℕ, true, List, [], ◌∷◌, ◌++◌, length, map, take, get_or, Option, refl, sym, ap, subst, ◌∙◌, ◌+◌, ◌<◌, ◌≤◌, arith, nat_eq, length-append}
-use Rattle.std.specs.List.{AllByRecursion, Contains, IsDistinct}
-use Rattle.std.proofs.lemmas.List.{take-append-le}
+use Rattle.session_history.proofs.Prelude.{◌≡◌, ℕ, true, List, [], ◌∷◌, ◌++◌, length, map, take, get_or, Option, refl, sym, ap, subst, ◌∙◌, ◌+◌, ◌<◌, ◌≤◌, arith, nat_eq, length-append, AllByRecursion, Contains, IsDistinct, take-append-le}
+use Rattle.session_history.proofs.Prelude.{Any-from_list_any, bytes_eq-Decides, front_more, ClientSession, Op, Read, Write, Commit, Unknown, each_from_append, each_from_flat_map, each_of_map, each_from_map, length_mapped, settled_as}
+use Rattle.session_history.proofs.Prelude.{settled, committed_ops, taken, IsNeeded, is_commit, member, themselves, each_weaker, any_member, Counts, EachCounted, each_of_committed, needed_taken, ops_ended, committed_in_all, WriteView}
+use Rattle.session_history.proofs.Prelude.{unknown_writes, last_with, with_reads}
 use Rattle.std.proofs.lemmas.Map.Made.{length-le_from_is_member}
 use Rattle.std.proofs.lemmas.Cmp.{nat_eq_equiv}
-use Rattle.std.proofs.lemmas.List.Folds.{Any-from_list_any}
-use Rattle.std.proofs.lemmas.Slice.Eq.{bytes_eq-Decides}
-use Rattle.list_lemmas.proofs.Lists.{front_more}
-use Rattle.session_log.specs.Text.{ClientSession}
-use Rattle.session_log.specs.declared.session.Op.{Op}
-use Rattle.session_log.specs.declared.session.Op.TheVariants.{Read, Write}
-use Rattle.session_log.specs.declared.session.Outcome.TheVariants.{Commit, Unknown}
-use Rattle.serializability.proofs.Places.{each_from_append, each_from_flat_map, each_of_map, each_from_map, length_mapped}
-use Rattle.log_definitions.specs.Unknown.{settled_as, settled, committed_ops, taken, IsNeeded}
-use Rattle.session_log.specs.Text.{is_commit}
-use Rattle.log_definitions.proofs.Members.{member, themselves, each_weaker, any_member}
-use Rattle.log_definitions.proofs.Taken.{Counts, EachCounted, each_of_committed, needed_taken}
-use Rattle.session_history.specs.Worklist.{ops_ended, committed_in_all, WriteView, unknown_writes, last_with, with_reads}
 use Rattle.session_history.proofs.Ended.{each_from_ended}
 use Rattle.session_history.proofs.Grown.{numbers, Served, Finds, grown, all_still}
 use Rattle.session_history.proofs.Unknowns.{last_each, IsUnknownWrite, all_unknown}

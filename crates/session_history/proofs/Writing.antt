@@ -1,22 +1,10 @@
 -- One write more in a table of writes.
-use Rattle.std.proofs.Common.{◌≡◌, ℕ, ◌+◌, ◌<◌, Bool, true, false, ◌||◌, ◌&&◌, cond, List, [], ◌∷◌, ◌++◌, length, length-take, take, drop, get_or, Option, Some, None, is_some, unwrap_or, slice_index, refl, sym, ap, ◌∙◌, arith, append_assoc, nat_eq, nat_cmp}
-use Rattle.std.specs.List.{list_any}
-use Rattle.std.specs.Option.{option_map_or}
-use Rattle.std.specs.BTreeMap.{is_at, get}
-use Rattle.std.specs.Cmp.{unsigned_ties}
+use Rattle.session_history.proofs.Prelude.{◌≡◌, ℕ, ◌+◌, ◌<◌, Bool, true, false, ◌||◌, ◌&&◌, cond, List, [], ◌∷◌, ◌++◌, length, length-take, take, drop, get_or, Option, Some, None, is_some, unwrap_or, slice_index, refl, sym, ap, ◌∙◌, arith}
+use Rattle.session_history.proofs.Prelude.{append_assoc, nat_eq, nat_cmp, list_any, option_map_or, is_at, get, unsigned_ties, eqb-true, eqb-false, eq-eqb, ne_eqb, take_more, drop_more, take-append-drop, list_any-append, Event, last_write}
+use Rattle.session_history.proofs.Prelude.{later, writes_as, is_write_of, last_write-append, repeated, Written, Writes, entry_of, is_write, is_last_write, ends_with, writes_at, HasSeen, HasWrites}
 use Rattle.std.proofs.Math.Bool.{or_assoc, or-false, or-true}
-use Rattle.std.proofs.lemmas.Bool.{eqb-true, eqb-false, eq-eqb, ne_eqb}
-use Rattle.std.proofs.lemmas.List.{take_more, drop_more, take-append-drop}
-use Rattle.std.proofs.lemmas.List.Folds.{list_any-append}
-use Rattle.serializability.specs.declared.event.Event.{Event}
 use Rattle.serializability.specs.declared.event.Event.TheVariants.{Read, Write}
-use Rattle.serializability.specs.Reads.{last_write, later}
-use Rattle.serializability.specs.Anomalies.{writes_as, is_write_of}
-use Rattle.serializability.proofs.Replays.{last_write-append}
-use Rattle.log_definitions.specs.WellFormed.{repeated}
-use Rattle.session_history.specs.declared.writes.Written.{Written}
-use Rattle.session_history.specs.declared.writes.Writes.{Writes}
-use Rattle.session_history.specs.Written.{entry_of, is_write, is_last_write, ends_with, writes_at, HasSeen, HasWrites, IsTaking}
+use Rattle.session_history.specs.Written.{IsTaking}
 
 -- ---- the first identity that stood before
 

@@ -1,25 +1,9 @@
 -- A line more of a session that is being read.
-use Rattle.std.proofs.Common.{◌≡◌, ℕ, zero, suc, ◌<◌, false, List, [], ◌∷◌, ◌++◌, map, Option, None, Some, Ok, refl, sym, ap, ◌∙◌, subst, arith, append_assoc, Vec, Global}
-use Rattle.std.specs.List.{flat_map, AllByRecursion}
-use Rattle.std.proofs.lemmas.Bool.{false≢true}
-use Rattle.std.proofs.lemmas.List.{append-nil, map-append}
-use Rattle.std.proofs.lemmas.List.Concat.{flat_map-append}
-use Rattle.session_log.specs.Text.{Transaction, op_line, end_line, txn_lines, view_txn, IsLegalLine, IsLegalMoment, IsLegalOp, IsLegalTxn, MayEndAt, IsKnown, IsKnownBeforeLast, HasNoMoments}
-use Rattle.session_log.specs.Moments.{is_earlier, IsMoment}
-use Rattle.session_log.specs.Version.{has_moments}
-use Rattle.session_log.specs.Faults.{Inside, after}
-use Rattle.session_log.specs.Reading.{place_at, open_lines, IsLegalOpen, AreEnded, Adds}
-use Rattle.session_log.specs.declared.line.Line.{Line}
+use Rattle.session_log.proofs.Prelude.{◌≡◌, ℕ, zero, suc, ◌<◌, false, List, [], ◌∷◌, ◌++◌, map, Option, None, Some, Ok, refl, sym, ap, ◌∙◌, subst, arith, append_assoc, Vec, Global, flat_map, AllByRecursion, false≢true, append-nil}
+use Rattle.session_log.proofs.Prelude.{map-append, flat_map-append, Transaction, op_line, end_line, txn_lines, view_txn, IsLegalLine, IsLegalMoment, IsLegalOp, IsLegalTxn, MayEndAt, IsKnown, IsKnownBeforeLast, HasNoMoments, is_earlier}
+use Rattle.session_log.proofs.Prelude.{IsMoment, has_moments, Inside, after, place_at, open_lines, IsLegalOpen, AreEnded, Adds, Line, Op, Read, Write, Outcome, Commit, Abort, Unknown, OpenTxn, LineState, Reading, Version}
 use Rattle.session_log.specs.declared.line.Line.TheVariants as line
-use Rattle.session_log.specs.declared.session.Op.{Op}
-use Rattle.session_log.specs.declared.session.Op.TheVariants.{Read, Write}
-use Rattle.session_log.specs.declared.session.Outcome.{Outcome}
-use Rattle.session_log.specs.declared.session.Outcome.TheVariants.{Commit, Abort, Unknown}
-use Rattle.session_log.specs.declared.parse.OpenTxn.{OpenTxn}
-use Rattle.session_log.specs.declared.parse.LineState.{LineState}
 use Rattle.session_log.specs.declared.parse.LineState.TheVariants as progress
-use Rattle.session_log.specs.declared.parse.Reading.{Reading}
-use Rattle.session_log.specs.declared.version.Version.{Version}
 
 pub all_more : {X : Type 0} (P : X → Type 0) (xs : List X) (x : X) → AllByRecursion P xs → P x → AllByRecursion P (xs ++ x ∷ [])
 all_more P [] x h p = (p, tt)

@@ -1,21 +1,10 @@
 -- The start and the end of a block's lines.
-use Rattle.std.proofs.Common.{◌≡◌, ◌⊎◌, inl, inr, ℕ, false, List, [], ◌∷◌, ◌++◌, length, map, Option, Some, None, refl, sym, ap, ◌∙◌, subst, arith}
-use Rattle.std.specs.List.{flat_map, AllByRecursion}
-use Rattle.std.proofs.lemmas.List.{append-nil}
-use Rattle.session_log.specs.Lines.{lines}
-use Rattle.session_log.specs.Text.{line_text, text_of_lines, txn_lines, session_text, view_txn, Transaction, IsLegalTxn, IsKnown, IsKnownBeforeLast, HasNoMoments, IsHeldBy}
-use Rattle.session_log.specs.Version.{has_moments}
-use Rattle.session_log.specs.Faults.{first_fault, fault_at_end}
-use Rattle.session_log.specs.Reading.{place_at, place_of, lines_of, open_lines, IsLegalReading, IsLegalOpen, AreEnded}
+use Rattle.session_log.proofs.Prelude.{◌≡◌, ◌⊎◌, inl, inr, ℕ, false, List, [], ◌∷◌, ◌++◌, length, map, Option, Some, None, refl, sym, ap, ◌∙◌, subst, arith, flat_map, AllByRecursion, append-nil, lines, line_text, text_of_lines, txn_lines}
+use Rattle.session_log.proofs.Prelude.{session_text, view_txn, Transaction, IsLegalTxn, IsKnown, IsKnownBeforeLast, HasNoMoments, IsHeldBy, has_moments, first_fault, fault_at_end, place_at, place_of, lines_of, open_lines, IsLegalReading}
+use Rattle.session_log.proofs.Prelude.{IsLegalOpen, AreEnded, LogFault, OpenTxn, LineState, One, Two, Three, Version, Reading}
 use Rattle.session_log.specs.declared.line.Line.TheVariants as line
-use Rattle.session_log.specs.declared.fault.LogFault.{LogFault}
 use Rattle.session_log.specs.declared.fault.LogFault.TheVariants as faults
-use Rattle.session_log.specs.declared.parse.OpenTxn.{OpenTxn}
 use Rattle.session_log.specs.declared.parse.LineState.TheVariants as progress
-use Rattle.session_log.specs.declared.parse.LineState.{LineState}
-use Rattle.session_log.specs.declared.version.Version.TheVariants.{One, Two, Three}
-use Rattle.session_log.specs.declared.version.Version.{Version}
-use Rattle.session_log.specs.declared.parse.Reading.{Reading}
 use Rattle.session_log.proofs.Steps.{fault_end}
 
 pub lines_of_none : (r : Reading) → r.txns.items ≡ [] → r.progress ≡ progress.Between → lines_of r ≡ []

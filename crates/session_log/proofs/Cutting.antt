@@ -1,21 +1,10 @@
 -- The blocks of a log, from left to right.
-use Rattle.std.proofs.Common.{◌≡◌, ◌≢◌, ℕ, zero, suc, ◌+◌, ◌≤◌, Bool, true, false, cond, List, [], ◌∷◌, ◌++◌, length, nat_eq, Option, Some, None, refl, sym, ap, ◌∙◌, arith, codes, append_assoc, length-append, if◌then◌else◌}
-use Rattle.std.specs.Prelude.{count_by}
-use Rattle.std.specs.Int.{from_bool}
-use Rattle.std.specs.Option.{option_eq}
-use Rattle.std.proofs.lemmas.List.{append-nil}
+use Rattle.session_log.proofs.Prelude.{◌≡◌, ◌≢◌, ℕ, zero, suc, ◌+◌, ◌≤◌, Bool, true, false, cond, List, [], ◌∷◌, ◌++◌, length, nat_eq, Option, Some, None, refl, sym, ap, ◌∙◌, arith, codes, append_assoc, length-append, if◌then◌else◌}
+use Rattle.session_log.proofs.Prelude.{count_by, from_bool, option_eq, append-nil, flat_map-append, lines, bytes_of, is_session_line, NoSessionLine, ends_block, blocks, text_of, located, blocks_of, session_limit_fault, fault_of_size}
+use Rattle.session_log.proofs.Prelude.{eqb-true, eqb-false, le-ltb, lt-ltb, Block, header_text, first_line, version_of, body_of, Version, One, Two, Three}
 use Rattle.std.proofs.lemmas.List.Sums.{sum_by-cons, sum_by-append}
-use Rattle.std.proofs.lemmas.List.Concat.{flat_map-append}
-use Rattle.session_log.specs.Lines.{lines, bytes_of}
-use Rattle.session_log.specs.Faults.{is_session_line, NoSessionLine}
-use Rattle.session_log.specs.Blocks.{ends_block, blocks, text_of, located, blocks_of, session_limit_fault, fault_of_size}
 use Rattle.session_log.specs.declared.fault.LogFault.TheVariants.{OverLimit}
 use Rattle.session_log.specs.declared.fault.Limit.TheVariants.{Sessions}
-use Rattle.std.proofs.lemmas.Bool.{eqb-true, eqb-false, le-ltb, lt-ltb}
-use Rattle.session_log.specs.declared.block.Block.{Block}
-use Rattle.session_log.specs.Version.{header_text, first_line, version_of, body_of}
-use Rattle.session_log.specs.declared.version.Version.{Version}
-use Rattle.session_log.specs.declared.version.Version.TheVariants.{One, Two, Three}
 use Rattle.session_log.proofs.Lines.{lines-nil, lines_line}
 use Rattle.session_log.proofs.Versions.{header_lines}
 

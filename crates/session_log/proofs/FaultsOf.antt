@@ -1,7 +1,5 @@
 -- What a fault says of a log.
-use Rattle.std.proofs.Common.{◌≡◌, Option, Some, arith, sym, subst}
-use Rattle.session_log.specs.Faults.{IsFault}
-use Rattle.session_log.specs.declared.fault.LogFault.{LogFault}
+use Rattle.session_log.proofs.Prelude.{◌≡◌, Option, Some, arith, sym, subst, IsFault, LogFault}
 use Rattle.session_log.specs.declared.fault.LogFault.TheVariants as faults
 
 pub this_fault : (f : LogFault) (o : Option LogFault) → o ≡ Some f → IsFault f o

@@ -1,26 +1,14 @@
 -- A line has a form exactly where it is that form's text.
-use Rattle.std.proofs.Common.{◌≡◌, ◌⊎◌, inl, inr, ℕ, zero, ◌+◌, ◌<◌, ◌^◌, suc, Bool, true, false, not, cond, eqb, List, [], ◌∷◌, ◌++◌, length, get_or, take, drop, nat_lt, nat_le, nat_eq, if◌then◌else◌, Option, Some, None, refl, sym, ap, ◌∙◌, arith, ◌==◌, ◌&&◌, ◌||◌, position, subst, codes, append_assoc, length-append, option_and_then, slice_index}
-use Rattle.std.specs.List.{position_or_len, list_all, starts_with}
-use Rattle.std.specs.Char.{is_ascii_digit}
-use Rattle.std.specs.Fmt.{decimal}
+use Rattle.session_log.proofs.Prelude.{◌≡◌, ◌⊎◌, inl, inr, ℕ, zero, ◌+◌, ◌<◌, ◌^◌, suc, Bool, true, false, not, cond, eqb, List, [], ◌∷◌, ◌++◌, length, get_or, take, drop, nat_lt, nat_le, nat_eq, if◌then◌else◌, Option, Some, None, refl}
+use Rattle.session_log.proofs.Prelude.{sym, ap, ◌∙◌, arith, ◌==◌, ◌&&◌, ◌||◌, position, subst, codes, append_assoc, length-append, option_and_then, slice_index, position_or_len, list_all, starts_with, is_ascii_digit, decimal, digits_value}
+use Rattle.session_log.proofs.Prelude.{ltb-true, leb-true, le-leb, lt-ltb, eqb-true, eq-eqb, and_parts, and_from, or_cases, or_left, or_right, not-true, not_from_false, ne_eqb, cond-true, false≢true, Decides-eqb, bytes_eq-Decides}
+use Rattle.session_log.proofs.Prelude.{starts_is, decimal-digits_value, digits_decimal, digits_value-decimal, decimal_nonempty, first_decimal, decimal_digit, take_at, drop_at, is_key, IsKey, is_key_byte, is_numeral, number_of, session_of}
+use Rattle.session_log.proofs.Prelude.{keyed_of, form_of, line_text, IsLegalLine, Line, Version, One, Two, Three, has_unknown_line, has_moments}
 use Rattle.std.specs.Str.{bytes_eq}
-use Rattle.std.specs.Str.Parse.{digits_value}
-use Rattle.std.proofs.lemmas.Bool.{ltb-true, leb-true, le-leb, lt-ltb, eqb-true, eq-eqb, and_parts, and_from, or_cases, or_left, or_right, not-true, not_from_false, ne_eqb, cond-true, false≢true}
-use Rattle.std.proofs.lemmas.Bool.Decides.{Decides-eqb}
 use Rattle.std.proofs.lemmas.Option.{cond_some, option_and_then_some, same_Some}
-use Rattle.std.proofs.lemmas.Slice.Eq.{bytes_eq-Decides, starts_is}
-use Rattle.std.proofs.lemmas.Fmt.{decimal-digits_value, digits_decimal, digits_value-decimal, decimal_nonempty, first_decimal, decimal_digit}
-use Rattle.std.proofs.lemmas.List.{take_at, drop_at}
 use Rattle.session_log.proofs.Digits.{own}
 use Rattle.session_log.proofs.Lines.{split_at_space}
-use Rattle.session_log.specs.Key.{is_key, IsKey, is_key_byte}
-use Rattle.session_log.specs.Lines.{is_numeral, number_of, session_of, keyed_of, form_of}
-use Rattle.session_log.specs.Text.{line_text, IsLegalLine}
-use Rattle.session_log.specs.declared.line.Line.{Line}
 use Rattle.session_log.specs.declared.line.Line.TheVariants as line
-use Rattle.session_log.specs.declared.version.Version.{Version}
-use Rattle.session_log.specs.declared.version.Version.TheVariants.{One, Two, Three}
-use Rattle.session_log.specs.Version.{has_unknown_line, has_moments}
 
 -- numbers
 

@@ -1,15 +1,9 @@
 -- The least version of a list of sessions.
-use Rattle.std.proofs.Common.{◌≡◌, ◌≤◌, Bool, true, false, List, [], ◌∷◌, map, refl, sym, ap, ◌∙◌, subst, inl, inr, arith, ◌||◌}
-use Rattle.std.specs.Prelude.{is_some}
-use Rattle.std.specs.List.{list_any, AllByRecursion}
-use Rattle.std.proofs.lemmas.Bool.{cases_Bool, or_parts}
+use Rattle.session_log.proofs.Prelude.{◌≡◌, ◌≤◌, Bool, true, false, List, [], ◌∷◌, map, refl, sym, ap, ◌∙◌, subst, inl, inr, arith, ◌||◌, is_some, list_any, AllByRecursion, cases_Bool, or_parts, ClientSession, Transaction, view, view_txn}
+use Rattle.session_log.proofs.Prelude.{IsHeldBy, IsKnown, HasNoMoments, is_unknown, has_unknown, has_moment, least_version, version_number, Version, One, Two, Three}
 use Rattle.list_lemmas.proofs.Options.{none_of}
-use Rattle.session_log.specs.Text.{ClientSession, Transaction, view, view_txn, IsHeldBy, IsKnown, HasNoMoments, is_unknown, has_unknown, has_moment, least_version}
-use Rattle.session_log.specs.Version.{version_number}
 use Rattle.session_log.specs.declared.session.Session.{Session}
 use Rattle.session_log.specs.declared.session.Txn.{Txn}
-use Rattle.session_log.specs.declared.version.Version.{Version}
-use Rattle.session_log.specs.declared.version.Version.TheVariants.{One, Two, Three}
 
 none_known : (ts : List Transaction) → list_any (λ (t : Transaction). is_unknown t.outcome) ts ≡ false → AllByRecursion IsKnown ts
 none_known [] h = tt

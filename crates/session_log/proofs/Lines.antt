@@ -1,10 +1,7 @@
 -- The lines of a text, by its first LF.
-use Rattle.std.proofs.Common.{◌≡◌, ℕ, ◌+◌, ◌<◌, ◌≤◌, suc, Bool, true, false, not, cond, eqb, List, [], ◌∷◌, ◌++◌, length, take, drop, nat_lt, Some, None, refl, sym, ap, ◌∙◌, arith, ◌==◌, position, subst}
-use Rattle.std.proofs.lemmas.Bool.{eqb-true, and_parts, not-true}
-use Rattle.std.proofs.lemmas.Bool.{ltb-false}
+use Rattle.session_log.proofs.Prelude.{◌≡◌, ℕ, ◌+◌, ◌<◌, ◌≤◌, suc, Bool, true, false, not, cond, eqb, List, [], ◌∷◌, ◌++◌, length, take, drop, nat_lt, Some, None, refl, sym, ap, ◌∙◌, arith, ◌==◌, position, subst, eqb-true, and_parts}
+use Rattle.session_log.proofs.Prelude.{not-true, ltb-false, position_or_len, list_all, lines, onto_line}
 use borrow.Author.Tests.{ltb-true}
-use Rattle.std.specs.List.{position_or_len, list_all}
-use Rattle.session_log.specs.Lines.{lines, onto_line}
 
 abbrev pub is_lf : ℕ → Bool
 is_lf b = b == 10

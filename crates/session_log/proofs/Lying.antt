@@ -1,17 +1,9 @@
 -- Where the blocks of a log lie, and what their bytes are.
-use Rattle.std.proofs.Common.{◌≡◌, ◌⊎◌, inl, inr, ℕ, ◌+◌, ◌-◌, ◌<◌, ◌≤◌, Bool, true, false, List, [], ◌∷◌, ◌++◌, length, take, refl, sym, ap, ◌∙◌, subst, arith, append_assoc, length-append, slice_range, ◌==◌, eqb}
-use Rattle.std.specs.List.{flat_map, AllByRecursion, list_all, Contains}
-use Rattle.std.proofs.lemmas.List.{append-nil, take_at, drop_at}
-use Rattle.std.proofs.lemmas.List.Elements.{All-from_recursion}
-use Rattle.std.proofs.lemmas.Bool.{and_from, and_parts, not-true, not_from_false, eqb-true}
-use Rattle.session_log.specs.Lines.{lines, bytes_of, onto_line}
-use Rattle.session_log.specs.Faults.{is_session_line, IsBlock}
-use Rattle.session_log.specs.Blocks.{ends_block, onto_block, blocks, text_of, located, blocks_of, block_text}
-use Rattle.session_log.specs.declared.block.Block.{Block}
+use Rattle.session_log.proofs.Prelude.{◌≡◌, ◌⊎◌, inl, inr, ℕ, ◌+◌, ◌-◌, ◌<◌, ◌≤◌, Bool, true, false, List, [], ◌∷◌, ◌++◌, length, take, refl, sym, ap, ◌∙◌, subst, arith, append_assoc, length-append, slice_range, ◌==◌, eqb, flat_map}
+use Rattle.session_log.proofs.Prelude.{AllByRecursion, list_all, Contains, append-nil, take_at, drop_at, All-from_recursion, and_from, and_parts, not-true, not_from_false, eqb-true, lines, bytes_of, onto_line, is_session_line, IsBlock}
+use Rattle.session_log.proofs.Prelude.{ends_block, onto_block, blocks, text_of, located, blocks_of, block_text, Block, header_text, first_line, version_of, body_of, Version}
 use Rattle.session_log.proofs.Lines.{lines-nil, lines-cons, lines-cons_lf, is_other, lines_line}
 use Rattle.session_log.proofs.Versions.{header_and_body, header_room}
-use Rattle.session_log.specs.Version.{header_text, first_line, version_of, body_of}
-use Rattle.session_log.specs.declared.version.Version.{Version}
 
 -- lines as a text has them: only the last may lack its LF, and then it is not empty
 abbrev pub AreLines : List (List ℕ × Bool) → Type 0

@@ -1,21 +1,9 @@
 -- One line more, and what it does to the first fault.
-use Rattle.std.proofs.Common.{◌≡◌, ℕ, ◌+◌, ◌<◌, ◌^◌, Bool, true, false, List, [], ◌∷◌, ◌++◌, length, Option, Some, None, Result, Ok, Err, refl, sym, ap, ◌∙◌, arith, codes, nat_eq}
-use Rattle.std.specs.List.{starts_with}
-use Rattle.session_log.specs.Lines.{lines, bytes_of}
-use Rattle.session_log.specs.Text.{line_text, text_of_lines, IsLegalLine}
-use Rattle.session_log.specs.Faults.{Place, Start, Between, Inside, Over, after, after_form, form_at, step, first_fault, is_session_line, IsBlock, NoSessionLine, IsFault, FailsAs, going_on}
-use Rattle.session_log.specs.Reading.{IsBodyLine}
-use Rattle.session_log.specs.declared.line.Line.{Line}
+use Rattle.session_log.proofs.Prelude.{◌≡◌, ℕ, ◌+◌, ◌<◌, ◌^◌, Bool, true, false, List, [], ◌∷◌, ◌++◌, length, Option, Some, None, Result, Ok, Err, refl, sym, ap, ◌∙◌, arith, codes, nat_eq, starts_with, lines, bytes_of, line_text}
+use Rattle.session_log.proofs.Prelude.{text_of_lines, IsLegalLine, Place, Start, Between, Inside, Over, after, after_form, form_at, step, first_fault, is_session_line, IsBlock, NoSessionLine, IsFault, FailsAs, going_on, IsBodyLine, Line}
+use Rattle.session_log.proofs.Prelude.{Version, LogFault, Adds, Takes, place_of, lines_of, fault_at_end, Reading, IfOk, IfErr, append-nil, flat_map-append}
 use Rattle.session_log.specs.declared.line.Line.TheVariants as line
-use Rattle.session_log.specs.declared.version.Version.{Version}
-use Rattle.session_log.specs.declared.fault.LogFault.{LogFault}
 use Rattle.session_log.specs.declared.fault.LogFault.TheVariants as faults
-use Rattle.session_log.specs.Reading.{Adds, Takes, place_of, lines_of}
-use Rattle.session_log.specs.Faults.{fault_at_end}
-use Rattle.session_log.specs.declared.parse.Reading.{Reading}
-use Rattle.std.specs.Prelude.{IfOk, IfErr}
-use Rattle.std.proofs.lemmas.List.{append-nil}
-use Rattle.std.proofs.lemmas.List.Concat.{flat_map-append}
 use Rattle.session_log.proofs.Forms.{form_sound}
 
 pub step_start : (v : Version) (n : ℕ) (l : List ℕ × Bool) → step v n Start l ≡ after_form n Start (form_at v l)

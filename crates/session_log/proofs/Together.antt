@@ -1,19 +1,10 @@
 -- What the blocks of a log say of the log.
-use Rattle.std.proofs.Common.{◌≡◌, ℕ, ◌+◌, Bool, true, false, List, [], ◌∷◌, ◌++◌, length, map, Option, Some, None, Result, Ok, Err, refl, sym, ap, ◌∙◌, subst, arith, append_assoc, length-append, slice_range, codes, nat_eq}
-use Rattle.std.specs.List.{flat_map, AllByRecursion, starts_with, Contains}
-use Rattle.std.proofs.lemmas.List.Elements.{All-from_recursion}
-use Rattle.std.specs.Option.{option_or}
-use Rattle.session_log.specs.Lines.{lines, form_of}
-use Rattle.session_log.specs.Text.{ClientSession, line_text, session_text, log_text}
-use Rattle.session_log.specs.Faults.{Place, Start, Between, Inside, Over, first_fault, fault_at_end, going_on, step, after_form, grammar_fault, is_session_line}
-use Rattle.session_log.specs.Blocks.{ends_block, blocks, text_of, located, blocks_of, block_text, block_fault, first_of}
-use Rattle.session_log.specs.declared.line.Line.{Line}
+use Rattle.session_log.proofs.Prelude.{◌≡◌, ℕ, ◌+◌, Bool, true, false, List, [], ◌∷◌, ◌++◌, length, map, Option, Some, None, Result, Ok, Err, refl, sym, ap, ◌∙◌, subst, arith, append_assoc, length-append, slice_range, codes, nat_eq}
+use Rattle.session_log.proofs.Prelude.{flat_map, AllByRecursion, starts_with, Contains, All-from_recursion, option_or, lines, form_of, ClientSession, line_text, session_text, log_text, Place, Start, Between, Inside, Over, first_fault}
+use Rattle.session_log.proofs.Prelude.{fault_at_end, going_on, step, after_form, grammar_fault, is_session_line, ends_block, blocks, text_of, located, blocks_of, block_text, block_fault, first_of, Line, header_text, first_line, version_of}
+use Rattle.session_log.proofs.Prelude.{body_of, Block, Version, LogFault}
 use Rattle.session_log.specs.declared.line.Line.TheVariants as line
-use Rattle.session_log.specs.Version.{header_text, first_line, version_of, body_of}
-use Rattle.session_log.specs.declared.block.Block.{Block}
-use Rattle.session_log.specs.declared.version.Version.{Version}
 use Rattle.session_log.proofs.Versions.{header_and_body}
-use Rattle.session_log.specs.declared.fault.LogFault.{LogFault}
 use Rattle.session_log.proofs.Forms.{form_sound}
 use Rattle.session_log.proofs.Lying.{Good, middle, text_of_lines_is, text_blocks, good_blocks, are_lines, lines_text_of, blocks_cons}
 

@@ -1,15 +1,6 @@
 -- A log is the header of its version and the body behind it.
-use Rattle.std.proofs.Common.{◌≡◌, ℕ, ◌+◌, ◌<◌, ◌≤◌, true, false, List, [], ◌∷◌, ◌++◌, length, length-append, drop, nat_eq, refl, sym, ap, ◌∙◌, subst, inl, inr, arith, codes}
-use Rattle.std.specs.List.{flat_map, starts_with}
-use Rattle.std.proofs.lemmas.Bool.{cases_Bool}
-use Rattle.std.proofs.lemmas.Bool.Decides.{Decides-eqb}
-use Rattle.std.proofs.lemmas.List.{drop_at}
-use Rattle.std.proofs.lemmas.Slice.Eq.{starts_is}
-use Rattle.session_log.specs.Lines.{lines}
-use Rattle.session_log.specs.Text.{ClientSession, line_text, session_text, log_text}
-use Rattle.session_log.specs.Version.{header_text, first_line, version_of, body_of, version_number}
-use Rattle.session_log.specs.declared.version.Version.{Version}
-use Rattle.session_log.specs.declared.version.Version.TheVariants.{One, Two, Three}
+use Rattle.session_log.proofs.Prelude.{◌≡◌, ℕ, ◌+◌, ◌<◌, ◌≤◌, true, false, List, [], ◌∷◌, ◌++◌, length, length-append, drop, nat_eq, refl, sym, ap, ◌∙◌, subst, inl, inr, arith, codes, flat_map, starts_with, cases_Bool, Decides-eqb, drop_at}
+use Rattle.session_log.proofs.Prelude.{starts_is, lines, ClientSession, line_text, session_text, log_text, header_text, first_line, version_of, body_of, version_number, Version, One, Two, Three}
 use Rattle.session_log.proofs.Lines.{lines-nil, lines_line}
 
 -- the version is told by the first bytes

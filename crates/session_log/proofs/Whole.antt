@@ -1,28 +1,11 @@
 -- A legal list of sessions is accepted, and no other has its text.
-use Rattle.std.proofs.Common.{◌≡◌, ℕ, zero, suc, ◌+◌, ◌<◌, ◌^◌, Bool, true, false, List, [], ◌∷◌, ◌++◌, map, Option, None, Some, Ok, refl, sym, ap, ◌∙◌, subst, arith, append_assoc, ◌==◌}
-use Rattle.std.specs.Char.{is_ascii_digit}
-use Rattle.std.specs.Fmt.{decimal}
-use Rattle.std.specs.List.{flat_map, AllByRecursion, list_all}
-use Rattle.std.proofs.lemmas.Bool.{and_parts, and_from, not_from_false, ne_eqb}
-use Rattle.std.proofs.lemmas.List.{map-append}
-use Rattle.std.proofs.lemmas.List.Concat.{flat_map-append}
+use Rattle.session_log.proofs.Prelude.{◌≡◌, ℕ, zero, suc, ◌+◌, ◌<◌, ◌^◌, Bool, true, false, List, [], ◌∷◌, ◌++◌, map, Option, None, Some, Ok, refl, sym, ap, ◌∙◌, subst, arith, append_assoc, ◌==◌, is_ascii_digit, decimal, flat_map}
+use Rattle.session_log.proofs.Prelude.{AllByRecursion, list_all, and_parts, and_from, not_from_false, ne_eqb, map-append, flat_map-append, digits_decimal, is_key_byte, IsKey, lines, is_earlier, IsMoment, ClientSession, Transaction}
+use Rattle.session_log.proofs.Prelude.{line_text, text_of_lines, op_line, end_line, txn_lines, session_lines, session_text, log_text, IsLegal, IsLegalLine, IsLegalMoment, IsLegalTxn, IsLegalOp, MayEndAt, IsKnown, IsKnownBeforeLast}
+use Rattle.session_log.proofs.Prelude.{HasNoMoments, IsHeldBy, is_unknown, Place, Start, Between, Inside, Over, first_fault, grammar_fault, step, after, after_form, form_at, is_session_line, Line, Op, Read, Write, Outcome, Commit, Abort}
+use Rattle.session_log.proofs.Prelude.{Unknown, header_text, first_line, version_of, body_of, has_unknown_line, Version, One, Two, Three, option_map_or}
 use Rattle.std.proofs.lemmas.List.Folds.{list_all-append}
-use Rattle.std.proofs.lemmas.Fmt.{digits_decimal}
-use Rattle.session_log.specs.Key.{is_key_byte, IsKey}
-use Rattle.session_log.specs.Lines.{lines}
-use Rattle.session_log.specs.Moments.{is_earlier, IsMoment}
-use Rattle.session_log.specs.Text.{ClientSession, Transaction, line_text, text_of_lines, op_line, end_line, txn_lines, session_lines, session_text, log_text, IsLegal, IsLegalLine, IsLegalMoment, IsLegalTxn, IsLegalOp, MayEndAt, IsKnown, IsKnownBeforeLast, HasNoMoments, IsHeldBy, is_unknown}
-use Rattle.session_log.specs.Faults.{Place, Start, Between, Inside, Over, first_fault, grammar_fault, step, after, after_form, form_at, is_session_line}
-use Rattle.session_log.specs.declared.line.Line.{Line}
 use Rattle.session_log.specs.declared.line.Line.TheVariants as line
-use Rattle.session_log.specs.declared.session.Op.{Op}
-use Rattle.session_log.specs.declared.session.Op.TheVariants.{Read, Write}
-use Rattle.session_log.specs.declared.session.Outcome.{Outcome}
-use Rattle.session_log.specs.declared.session.Outcome.TheVariants.{Commit, Abort, Unknown}
-use Rattle.session_log.specs.Version.{header_text, first_line, version_of, body_of, has_unknown_line}
-use Rattle.session_log.specs.declared.version.Version.{Version}
-use Rattle.session_log.specs.declared.version.Version.TheVariants.{One, Two, Three}
-use Rattle.std.specs.Option.{option_map_or}
 use Rattle.session_log.proofs.Lines.{lines-nil, is_other, lines_line}
 use Rattle.session_log.proofs.Versions.{version_of_log, body_of_log}
 use Rattle.session_log.proofs.Digits.{own}

@@ -1,22 +1,9 @@
 -- Walks back along the sources of a key.
-use Rattle.std.proofs.Common.{◌≡◌, ◌≢◌, ◌⊎◌, ℕ, zero, suc, ◌+◌, ◌<◌, ◌≤◌, List, [], ◌∷◌, ◌++◌, length, reverse, None, Some, refl, sym, ap, subst, ◌∙◌, inl, inr, arith, length-append}
-use Rattle.std.specs.Prelude.{nat_eq, is_some}
-use Rattle.std.specs.List.{AllByRecursion, IsDistinct}
-use Rattle.std.proofs.lemmas.List.{reverse-append, length-reverse}
+use Rattle.write_chains.proofs.Prelude.{◌≡◌, ◌≢◌, ◌⊎◌, ℕ, zero, suc, ◌+◌, ◌<◌, ◌≤◌, List, [], ◌∷◌, ◌++◌, length, reverse, None, Some, refl, sym, ap, subst, ◌∙◌, inl, inr, arith, length-append, nat_eq, is_some, AllByRecursion, IsDistinct}
+use Rattle.write_chains.proofs.Prelude.{reverse-append, length-reverse, Log, IsClean, external_read, option_map, source, writer_of, Has, Apart, Apart-from_IsDistinct, source_is, writers_in, next, IsLinked, last, IsClosedChain, NoneCloses}
+use Rattle.write_chains.proofs.Prelude.{IsNext, next_from, some_one, last_push, linked_push, each_contained, IsOpenIn, IsOpen}
 use Rattle.std.proofs.lemmas.Map.Steps.{length-le_from_distinct_below}
-use Rattle.serializability.specs.Log.{Log}
-use Rattle.serializability.specs.Reads.{IsClean, external_read}
-use Rattle.std.specs.Option.{option_map}
-use Rattle.serializability.specs.Polygraph.{source, writer_of}
-use Rattle.serializability.proofs.Places.{Has, Apart, Apart-from_IsDistinct}
-use Rattle.serializability.proofs.Sources.{source_is}
-use Rattle.session_history.specs.Tables.{writers_in}
-use Rattle.chain_laws.specs.Chains.{next, IsLinked, last, IsClosedChain, NoneCloses}
-use Rattle.chain_laws.proofs.Walks.{IsNext, next_from, some_one}
-use Rattle.chain_laws.proofs.Closed.{last_push, linked_push}
 use Rattle.chain_laws.proofs.Maximal.{below_all}
-use Rattle.reach_laws.proofs.Walks.{each_contained}
-use Rattle.write_chains.specs.Walks.{IsOpenIn, IsOpen}
 use Rattle.write_chains.proofs.Nexts.{IsOneWriter, writer_among}
 
 -- behind v each of these nodes is the one that the node before it reads from

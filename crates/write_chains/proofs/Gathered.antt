@@ -1,20 +1,7 @@
 -- The readings of the keys, and the readers of the nodes, one by one.
-use Rattle.std.proofs.Common.{◌≡◌, ℕ, zero, suc, ◌+◌, ◌-◌, ◌<◌, ◌≤◌, false, cond, eqb, List, [], ◌∷◌, ◌++◌, Option, None, Some, refl, sym, ap, subst, ◌∙◌, arith, inl, inr}
-use Rattle.std.specs.Prelude.{map}
-use Rattle.std.specs.List.{filter, filter_map, cons_option, range_with_len, AllByRecursion}
-use Rattle.std.specs.Option.{option_map, option_map_or}
-use Rattle.std.proofs.lemmas.Bool.{cases_eq, eq-eqb, ne_eqb}
-use Rattle.std.proofs.lemmas.List.{append-nil, map-append}
-use Rattle.std.proofs.lemmas.List.Elements.{filter_map-append, filter-append}
-use Rattle.serializability.specs.Log.{Log}
-use Rattle.serializability.specs.Polygraph.{source, committed}
-use Rattle.session_history.specs.Tables.{sources_of}
-use Rattle.session_history.specs.declared.reads.ReadFrom.{ReadFrom}
-use Rattle.chain_laws.specs.Chains.{readers, reads_key}
-use Rattle.write_chains.specs.declared.readings.Reading.{Reading}
-use Rattle.write_chains.specs.Readings.{readings_among, readings_in, readings_by, readers_among}
-use Rattle.serializability.proofs.Sources.{source_within}
-use Rattle.serializability.proofs.SoFar.{range_last}
+use Rattle.write_chains.proofs.Prelude.{◌≡◌, ℕ, zero, suc, ◌+◌, ◌-◌, ◌<◌, ◌≤◌, false, cond, eqb, List, [], ◌∷◌, ◌++◌, Option, None, Some, refl, sym, ap, subst, ◌∙◌, arith, inl, inr, map, filter, filter_map, cons_option, range_with_len}
+use Rattle.write_chains.proofs.Prelude.{AllByRecursion, option_map, option_map_or, cases_eq, eq-eqb, ne_eqb, append-nil, map-append, filter_map-append, filter-append, Log, source, committed, sources_of, ReadFrom, readers, reads_key}
+use Rattle.write_chains.proofs.Prelude.{Reading, readings_among, readings_in, readings_by, readers_among, source_within, range_last}
 
 abbrev pub reading : ℕ → ℕ → Reading
 reading r w = record { reader = r; source = w }

@@ -1,16 +1,6 @@
 -- The heads of a key among its writers, and where walks along a table end.
-use Rattle.std.proofs.Common.{◌≡◌, ℕ, zero, suc, Bool, true, false, not, List, [], ◌∷◌, ◌++◌, Option, None, Some, refl, ap, arith}
-use Rattle.std.specs.Prelude.{is_some, map}
-use Rattle.std.specs.List.{filter}
-use Rattle.std.specs.Option.{option_map_or}
-use Rattle.serializability.specs.Log.{Log}
-use Rattle.serializability.specs.Polygraph.{source, committed}
-use Rattle.session_history.specs.Tables.{writers_in}
-use Rattle.chain_laws.specs.Chains.{writes, readers, next, tail_from, heads}
-use Rattle.write_chains.specs.Walks.{end_by}
-use Rattle.write_chains.specs.Views.{ChainView, chain_from}
-use Rattle.std.proofs.lemmas.List.{append-nil, map-append}
-use Rattle.std.proofs.lemmas.List.Elements.{filter-append}
+use Rattle.write_chains.proofs.Prelude.{◌≡◌, ℕ, zero, suc, Bool, true, false, not, List, [], ◌∷◌, ◌++◌, Option, None, Some, refl, ap, arith, is_some, map, filter, option_map_or, Log, source, committed, writers_in, writes, readers, next}
+use Rattle.write_chains.proofs.Prelude.{tail_from, heads, end_by, ChainView, chain_from, append-nil, map-append, filter-append}
 use Rattle.list_lemmas.proofs.Lists.{filter_both}
 
 -- whether v reads the key from nobody

@@ -1,17 +1,9 @@
 -- What the chains of a history answer from their tables.
-use Rattle.std.proofs.Common.{◌≡◌, ℕ, ◌+◌, ◌<◌, List, [], ◌∷◌, ◌++◌, Option, None, Some, length, get_or, refl, sym, ap, ◌∙◌, arith}
-use Rattle.std.specs.List.{cons_option}
-use Rattle.std.specs.Option.{option_map}
-use Rattle.std.proofs.lemmas.List.{append-nil, length-map, get_or-map}
-use Rattle.std.proofs.lemmas.List.Elements.{filter_map-append}
+use Rattle.write_chains.proofs.Prelude.{◌≡◌, ℕ, ◌+◌, ◌<◌, List, [], ◌∷◌, ◌++◌, Option, None, Some, length, get_or, refl, sym, ap, ◌∙◌, arith, cons_option, option_map, append-nil, length-map, get_or-map, filter_map-append, range_last}
+use Rattle.write_chains.proofs.Prelude.{log_of, pair_at, pairs, unless_empty, key_view, key_in, sessions_of, AreChains}
 use Rattle.std.proofs.lemmas.List.FromFn.{length-map-range_with_len, get_or-map-range_with_len}
-use Rattle.serializability.proofs.SoFar.{range_last}
-use Rattle.log_definitions.specs.Numbers.{log_of}
 use Rattle.write_chains.specs.declared.chain.KeyChains.{KeyChains}
 use Rattle.write_chains.specs.declared.all.Chains.TheInside.{Inside}
-use Rattle.session_history.specs.Tables.{pair_at, pairs}
-use Rattle.write_chains.specs.Lists.{unless_empty}
-use Rattle.write_chains.specs.Held.{key_view, key_in, sessions_of, AreChains}
 
 pub keys_held : (c : Inside) → AreChains c → length c.keys.items ≡ (log_of (sessions_of c)).keys
 keys_held c h = grind (arith, length-map, length-map-range_with_len)

@@ -1,14 +1,7 @@
 -- Inner edges, node by node and key by key.
-use Rattle.std.proofs.Common.{◌≡◌, ℕ, ◌+◌, List, [], ◌∷◌, ◌++◌, refl, sym, ap, ◌∙◌, arith, append_assoc}
-use Rattle.std.specs.List.{flat_map, range_with_len}
-use Rattle.serializability.specs.Log.{Log}
+use Rattle.write_chains.proofs.Prelude.{◌≡◌, ℕ, ◌+◌, List, [], ◌∷◌, ◌++◌, refl, sym, ap, ◌∙◌, arith, append_assoc, flat_map, range_with_len, Log, readers, next, inner_at, map, append-nil, map-append, range_last, edges_before}
 use Rattle.serializability.specs.Polygraph as graph
-use Rattle.chain_laws.specs.Chains.{readers, next, inner_at}
-use Rattle.std.specs.Prelude.{map}
-use Rattle.std.proofs.lemmas.List.{append-nil, map-append}
 use Rattle.std.proofs.lemmas.Grind.{flat_map-append}
-use Rattle.serializability.proofs.SoFar.{range_last}
-use Rattle.write_chains.specs.Views.{edges_before}
 
 -- the inner edges of a key
 abbrev pub inner_of : Log → ℕ → List graph.Edge

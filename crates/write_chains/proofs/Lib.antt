@@ -1,3 +1,4 @@
+mod Prelude
 pub mod Pushes
 pub mod Gathered
 pub mod Nexts

@@ -1,20 +1,9 @@
 -- The writer behind each node, writer by writer.
-use Rattle.std.proofs.Common.{◌≡◌, ◌≢◌, ◌⊎◌, ℕ, ◌+◌, ◌<◌, ◌≤◌, true, List, [], ◌∷◌, ◌++◌, length, get_or, set, Option, None, Some, sym, ap, subst, ◌∙◌, inl, inr, arith}
-use Rattle.std.specs.List.{Contains, AllByRecursion}
-use Rattle.std.proofs.lemmas.Bool.{cases_eq, cases_lt}
-use Rattle.std.proofs.lemmas.List.{length-set, get_or-set_same, get_or-set_other, get_or_past}
-use Rattle.serializability.specs.Log.{Log}
-use Rattle.serializability.specs.Reads.{IsClean}
-use Rattle.serializability.specs.Polygraph.{source, committed}
-use Rattle.serializability.proofs.Places.{Has, Has-from_Contains, Has-append_cases, each_of_filter, each_from_filter, each_of_range, each_from_range}
+use Rattle.write_chains.proofs.Prelude.{◌≡◌, ◌≢◌, ◌⊎◌, ℕ, ◌+◌, ◌<◌, ◌≤◌, true, List, [], ◌∷◌, ◌++◌, length, get_or, set, Option, None, Some, sym, ap, subst, ◌∙◌, inl, inr, arith, Contains, AllByRecursion, cases_eq, cases_lt, length-set}
+use Rattle.write_chains.proofs.Prelude.{get_or-set_same, get_or-set_other, get_or_past, Log, IsClean, source, committed, Has, Has-from_Contains, Has-append_cases, each_of_filter, each_from_filter, each_of_range, each_from_range}
+use Rattle.write_chains.proofs.Prelude.{each_from_contained, each_contained, writers_in, writes, next, IsNext, next_is, next_from, some_one, IsTable, AreLinks, FitTogether}
 use Rattle.serializability.proofs.Serial.{some_cases}
-use Rattle.reach_laws.proofs.Walks.{each_from_contained, each_contained}
-use Rattle.session_history.specs.Tables.{writers_in}
-use Rattle.chain_laws.specs.Chains.{writes, next}
-use Rattle.chain_laws.proofs.Walks.{IsNext, next_is, next_from, some_one}
 use Rattle.write_chains.specs.declared.links.Links.{Links}
-use Rattle.write_chains.specs.Lists.{IsTable}
-use Rattle.write_chains.specs.Views.{AreLinks, FitTogether}
 
 -- ---- writers
 pub record IsOneWriter (log : Log) (x v : ℕ) : Type 0 where

@@ -1,10 +1,6 @@
 -- Lists by number, item by item.
-use Rattle.std.proofs.Common.{◌≡◌, ℕ, ◌<◌, cond, List, [], ◌∷◌, ◌++◌, length, set, slice_get, Some, sym, ap, ◌∙◌, nat_eq, Vec, Global, arith}
-use Rattle.std.specs.Option.{option_map}
-use Rattle.std.proofs.lemmas.Bool.{eqb-true}
-use Rattle.std.proofs.lemmas.List.{append-nil, length-set}
+use Rattle.write_chains.proofs.Prelude.{◌≡◌, ℕ, ◌<◌, cond, List, [], ◌∷◌, ◌++◌, length, set, slice_get, Some, sym, ap, ◌∙◌, nat_eq, Vec, Global, arith, option_map, eqb-true, append-nil, length-set, AreLists}
 use Rattle.session_history.proofs.KeyRows.{slice_get-set_here, slice_get-set_apart}
-use Rattle.write_chains.specs.Lists.{AreLists}
 
 pub lists_same : {X : Type 0} (n : ℕ) (f g : ℕ → List X) (lists : List (Vec X Global)) → ((v : ℕ) → v < n → f v ≡ g v) → AreLists n f lists → AreLists n g lists
 lists_same n f g lists e h = record { count = h.count; each = λ v lt. h.each v lt ∙ ap (λ l. Some l) (e v lt) }

@@ -1,4 +1,4 @@
-use Rattle.serializability.specs.declared.anomaly.ReadAnomaly.TheVariants.{Unknown, Aborted, Intermediate, OwnWriteMissed, Future, Split}
+use Rattle.anomaly_laws.proofs.Prelude.{Unknown, Aborted, Intermediate, OwnWriteMissed, Future, Split}
 use Rattle.anomaly_laws.proofs.Meaning.{kind_holds, no_read_earlier, both_update, no_read_beside}
 use Rattle.anomaly_laws.proofs.laws.reported_anomaly_holds.Goals as goal
 

@@ -1,4 +1,4 @@
-use Rattle.cube_laws.specs.State.{opening_state}
+use Rattle.cube_laws.proofs.Prelude.{opening_state}
 use Rattle.cube_laws.proofs.Grown.{grown_opening, grown_after}
 use Rattle.cube_laws.proofs.laws.closings_keep_the_budget.Goals as goal
 

@@ -1,6 +1,4 @@
-use Rattle.desk.specs.History.{replay}
-use Rattle.cube_laws.specs.State.{opening_state}
-use Rattle.cube_laws.specs.Steps.{next_of}
+use Rattle.cube_laws.proofs.Prelude.{replay, opening_state, next_of}
 use Rattle.cube_laws.proofs.Grown.{grown_opening}
 use Rattle.cube_laws.proofs.Alive.{alive_opening, alive_after, none_alive}
 use Rattle.cube_laws.proofs.laws.no_order_fits_where_every_cube_is_refuted.Goals as goal

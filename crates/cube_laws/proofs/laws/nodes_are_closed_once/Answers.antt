@@ -1,5 +1,4 @@
-use Rattle.std.proofs.Common.{arith}
-use Rattle.cube_laws.specs.State.{opening_state}
+use Rattle.cube_laws.proofs.Prelude.{arith, opening_state}
 use Rattle.cube_laws.proofs.Closings.{closed_once, closed_count}
 use Rattle.cube_laws.proofs.laws.nodes_are_closed_once.Goals as goal
 

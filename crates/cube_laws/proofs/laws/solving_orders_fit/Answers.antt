@@ -1,4 +1,4 @@
-use Rattle.cube_laws.specs.State.{opening_state}
+use Rattle.cube_laws.proofs.Prelude.{opening_state}
 use Rattle.cube_laws.proofs.Grown.{grown_opening}
 use Rattle.cube_laws.proofs.Alive.{each_solves_rightly}
 use Rattle.cube_laws.proofs.laws.solving_orders_fit.Goals as goal

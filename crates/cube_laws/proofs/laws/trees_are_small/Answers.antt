@@ -1,7 +1,4 @@
-use Rattle.std.proofs.Common.{length, arith}
-use Rattle.desk.specs.History.{replay}
-use Rattle.cube_laws.specs.State.{opening_state}
-use Rattle.cube_laws.specs.Steps.{next_of}
+use Rattle.cube_laws.proofs.Prelude.{length, arith, replay, opening_state, next_of}
 use Rattle.cube_laws.proofs.Grown.{grown_opening, grown_after, few_nodes, whole_power}
 use Rattle.cube_laws.proofs.laws.trees_are_small.Goals as goal
 

@@ -1,7 +1,4 @@
-use Rattle.std.proofs.Common.{◌≡◌, List, [], ◌∷◌, ◌++◌, All, refl, sym, ap, ◌∙◌, subst, arith, append_assoc, length}
-use Rattle.std.proofs.lemmas.List.Elements.{All-push}
-use Rattle.std.proofs.lemmas.List.{append-nil}
-use Rattle.desk.specs.History.{part_of}
+use Rattle.desk.proofs.Prelude.{◌≡◌, List, [], ◌∷◌, ◌++◌, All, refl, sym, ap, ◌∙◌, subst, arith, append_assoc, length, All-push, append-nil, part_of}
 use Rattle.desk.proofs.desk.compare_all.Goals as goal
 
 nothing : {A : Type 0} (xs : List A) → length xs ≡ 0 → xs ≡ []

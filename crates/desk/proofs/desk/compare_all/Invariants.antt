@@ -1,5 +1,4 @@
-use Rattle.std.proofs.Common.{◌≡◌, All, ◌++◌}
-use Rattle.desk.specs.History.{part_of}
+use Rattle.desk.proofs.Prelude.{◌≡◌, All, ◌++◌, part_of}
 use Rattle.desk.proofs.desk.compare_all.Given as goal
 
 abbrev pub invariant-loop-left : goal.invariant-loop-left

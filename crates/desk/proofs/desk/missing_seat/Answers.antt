@@ -1,5 +1,4 @@
-use Rattle.std.proofs.Common.{◌≡◌, ◌⊎◌, ℕ, ◌+◌, ◌≤◌, true, sym, ◌∙◌, subst, ⊎_elim, arith}
-use Rattle.desk.specs.Seats.{has_seat}
+use Rattle.desk.proofs.Prelude.{◌≡◌, ◌⊎◌, ℕ, ◌+◌, ◌≤◌, true, sym, ◌∙◌, subst, ⊎_elim, arith, has_seat}
 use Rattle.desk.proofs.desk.missing_seat.Goals as goal
 
 split_last : (n k : ℕ) → n ≤ k + 1 → (n ≤ k) ⊎ (n ≡ k + 1)

@@ -1,4 +1,4 @@
-use Rattle.desk.specs.Seats.{HasSeatsTo}
+use Rattle.desk.proofs.Prelude.{HasSeatsTo}
 use Rattle.desk.proofs.desk.missing_seat.Given as goal
 
 abbrev pub invariant-loop-before : goal.invariant-loop-before

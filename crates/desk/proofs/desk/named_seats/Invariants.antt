@@ -1,5 +1,4 @@
-use Rattle.std.proofs.Common.{◌≡◌, ◌++◌, length}
-use Rattle.desk.specs.Seats.{AreFresh}
+use Rattle.desk.proofs.Prelude.{◌≡◌, ◌++◌, length, AreFresh}
 use Rattle.desk.proofs.desk.named_seats.Given as goal
 
 abbrev pub invariant-loop-seat : goal.invariant-loop-seat

@@ -1,6 +1,4 @@
-use Rattle.std.proofs.Common.{◌≡◌, ◌+◌, ◌-◌, [], ◌∷◌, ◌++◌, sym, ap, ◌∙◌, arith}
-use Rattle.std.specs.Prelude.{slice_get, vec_len, vec_capacity}
-use Rattle.desk.specs.History.{part_of}
+use Rattle.desk.proofs.Prelude.{◌≡◌, ◌+◌, ◌-◌, [], ◌∷◌, ◌++◌, sym, ap, ◌∙◌, arith, slice_get, vec_len, vec_capacity, part_of}
 use Rattle.desk.proofs.Legal.{part_of-mine}
 use Rattle.desk.proofs.Tied.{row_at, tied_write, room_for}
 use Rattle.desk.proofs.guarded.enter.Goals as goal

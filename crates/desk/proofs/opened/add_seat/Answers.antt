@@ -1,4 +1,4 @@
-use Rattle.std.proofs.Common.{◌≡◌, ◌+◌, length, arith}
+use Rattle.desk.proofs.Prelude.{◌≡◌, ◌+◌, length, arith}
 use Rattle.desk.proofs.Seating.{seated_push}
 use Rattle.desk.proofs.opened.add_seat.Goals as goal
 

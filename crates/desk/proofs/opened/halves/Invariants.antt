@@ -1,6 +1,4 @@
-use Rattle.std.proofs.Common.{◌≡◌}
-use Rattle.std.specs.Prelude.{vec_len}
-use Rattle.desk.specs.Rows.{AreSeated}
+use Rattle.desk.proofs.Prelude.{◌≡◌, vec_len, AreSeated}
 use Rattle.desk.proofs.opened.halves.Given as goal
 
 abbrev pub invariant-loop-before : goal.invariant-loop-before

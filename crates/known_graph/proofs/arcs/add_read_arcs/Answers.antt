@@ -1,7 +1,4 @@
-use Rattle.std.proofs.Common.{take, ap, ◌∙◌, arith}
-use Rattle.std.proofs.lemmas.List.{take_all}
-use Rattle.log_definitions.specs.Numbers.{log_of}
-use Rattle.serializability.specs.Polygraph.{reads_from}
+use Rattle.known_graph.proofs.Prelude.{take, ap, ◌∙◌, arith, take_all, log_of, reads_from}
 use Rattle.known_graph.proofs.ReadSources.{read_within, reads_from_any}
 use Rattle.known_graph.proofs.ArcSets.{is_source, source_added, source_all}
 use Rattle.known_graph.proofs.arcs.add_read_arcs.Goals as goal

@@ -1,7 +1,4 @@
-use Rattle.std.proofs.Common.{◌≡◌, ◌⊎◌, ◌↔◌, true, take}
-use Rattle.std.specs.List.{Contains}
-use Rattle.serializability.specs.Polygraph.{Edge}
-use Rattle.known_graph.specs.Graphs.{IsKnownGraph}
+use Rattle.known_graph.proofs.Prelude.{◌≡◌, ◌⊎◌, ◌↔◌, true, take, Contains, Edge, IsKnownGraph}
 use Rattle.known_graph.proofs.ArcSets.{is_source}
 use Rattle.known_graph.proofs.arcs.add_read_arcs.Given as goal
 

@@ -1,5 +1,4 @@
-use Rattle.std.proofs.Common.{◌≡◌, ◌+◌, sym, ◌∙◌, arith}
-use Rattle.log_definitions.specs.Numbers.{log_of}
+use Rattle.known_graph.proofs.Prelude.{◌≡◌, ◌+◌, sym, ◌∙◌, arith, log_of}
 use Rattle.known_graph.proofs.ArcSets.{session_added}
 use Rattle.known_graph.proofs.arcs.add_session_arc.Goals as goal
 

@@ -1,6 +1,4 @@
-use Rattle.std.proofs.Common.{◌+◌, ◌*◌, ◌/◌, ◌<◌, ap, sym, subst}
-use Rattle.known_graph.specs.Bits.{row_len}
-use Rattle.known_graph.specs.Held.{bit_place}
+use Rattle.known_graph.proofs.Prelude.{◌+◌, ◌*◌, ◌/◌, ◌<◌, ap, sym, subst, row_len, bit_place}
 use Rattle.known_graph.proofs.Edges.{place_within}
 use Rattle.known_graph.proofs.bit_table.bit_place.Goals as goal
 

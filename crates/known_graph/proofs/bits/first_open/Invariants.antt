@@ -1,4 +1,4 @@
-use Rattle.std.proofs.Common.{◌*◌}
+use Rattle.known_graph.proofs.Prelude.{◌*◌}
 use Rattle.known_graph.proofs.Opened.{AreDoneTo}
 use Rattle.known_graph.proofs.bits.first_open.Given as goal
 

@@ -1,6 +1,4 @@
-use Rattle.std.proofs.Common.{◌≡◌, ◌/◌, ◌%◌, ◌^◌, ◌<◌, ◌≤◌, eqb, length, get_or, sym, ap, ◌∙◌, rules}
-use Rattle.std.specs.Prelude.{bit_and}
-use Rattle.std.proofs.lemmas.List.{get_or_read}
+use Rattle.known_graph.proofs.Prelude.{◌≡◌, ◌/◌, ◌%◌, ◌^◌, ◌<◌, ◌≤◌, eqb, length, get_or, sym, ap, ◌∙◌, rules, bit_and, get_or_read}
 use Rattle.known_graph.proofs.Words.{bit_of-read, bit_of-past}
 use Rattle.known_graph.proofs.bits.has_bit.Goals as goal
 

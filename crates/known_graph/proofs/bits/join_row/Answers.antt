@@ -1,4 +1,4 @@
-use Rattle.std.proofs.Common.{◌≡◌, ◌+◌, ◌*◌, ◌<◌, length, subst, arith}
+use Rattle.known_graph.proofs.Prelude.{◌≡◌, ◌+◌, ◌*◌, ◌<◌, length, subst, arith}
 use Rattle.known_graph.proofs.JoinedRows.{IsRowJoined, row_joined_none, row_joined_more, row_joined_bits}
 use Rattle.known_graph.proofs.bits.join_row.Goals as goal
 

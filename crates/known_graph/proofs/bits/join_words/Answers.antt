@@ -1,4 +1,4 @@
-use Rattle.std.proofs.Common.{◌<◌, length, arith}
+use Rattle.known_graph.proofs.Prelude.{◌<◌, length, arith}
 use Rattle.known_graph.proofs.Joined.{joined_none, joined_more, joined_bits}
 use Rattle.known_graph.proofs.bits.join_words.Goals as goal
 

@@ -1,5 +1,4 @@
-use Rattle.std.proofs.Common.{refl}
-use Rattle.known_graph.specs.Bits.{row_len}
+use Rattle.known_graph.proofs.Prelude.{refl, row_len}
 use Rattle.known_graph.proofs.bits.row_len.Goals as goal
 
 pub returns-clause-value : goal.returns-clause-value

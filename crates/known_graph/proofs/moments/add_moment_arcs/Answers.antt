@@ -1,6 +1,4 @@
-use Rattle.std.proofs.Common.{nat_lt, take, sym, refl, ◌∙◌, rules, arith}
-use Rattle.std.proofs.lemmas.List.{take_all}
-use Rattle.std.proofs.lemmas.List.Sorted.{IsPartitionPoint-from_clause, IsPartitionedBy-ltb}
+use Rattle.known_graph.proofs.Prelude.{nat_lt, take, sym, refl, ◌∙◌, rules, arith, take_all, IsPartitionPoint-from_clause, IsPartitionedBy-ltb}
 use Rattle.known_graph.proofs.EndedNodes.{no_ends, none_of, none_added, apart_where, same_where, end_within, end_added, no_end_added, ends_added}
 use Rattle.known_graph.proofs.moments.add_moment_arcs.Goals as goal
 use Rattle.known_graph.proofs.moments.add_moment_arcs.Goals.{then-ne, else-ne}

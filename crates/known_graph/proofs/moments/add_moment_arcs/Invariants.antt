@@ -1,5 +1,4 @@
-use Rattle.std.proofs.Common.{◌≡◌, take}
-use Rattle.known_graph.specs.Graphs.{IsKnownGraph}
+use Rattle.known_graph.proofs.Prelude.{◌≡◌, take, IsKnownGraph}
 use Rattle.known_graph.proofs.EndedNodes.{EndsAdded}
 use Rattle.known_graph.proofs.moments.add_moment_arcs.Given as goal
 

@@ -1,6 +1,4 @@
-use Rattle.std.proofs.Common.{sym, ap, ◌∙◌, rules, arith}
-use Rattle.std.proofs.lemmas.List.Sorted.{IsNonDecreasingBy-from_sort_by_key}
-use Rattle.log_definitions.specs.Serial.{ended_of}
+use Rattle.known_graph.proofs.Prelude.{sym, ap, ◌∙◌, rules, arith, IsNonDecreasingBy-from_sort_by_key, ended_of}
 use Rattle.known_graph.proofs.EndedNodes.{none_ended, ended_none, ended_more, ended_all, none_of}
 use Rattle.known_graph.proofs.moments.ended_nodes.Goals as goal
 use Rattle.known_graph.proofs.moments.ended_nodes.Goals.{in-Some+in_ok-push, in_default}

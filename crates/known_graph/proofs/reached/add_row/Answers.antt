@@ -1,5 +1,4 @@
-use Rattle.std.proofs.Common.{◌≡◌, ◌+◌, ◌*◌, ◌<◌, ◌++◌, length, get_or, refl, sym, ap, ◌∙◌, arith}
-use Rattle.known_graph.specs.Tree.{reached_from, word_numbers}
+use Rattle.known_graph.proofs.Prelude.{◌≡◌, ◌+◌, ◌*◌, ◌<◌, ◌++◌, length, get_or, refl, sym, ap, ◌∙◌, arith, reached_from, word_numbers}
 use Rattle.known_graph.proofs.Fresh.{fresh_below, fresh_word, fresh_word_bit, fresh_more, fresh_all, add_numbers, either_more, behind_more, either_row}
 use Rattle.known_graph.proofs.reached.add_row.Goals as goal
 

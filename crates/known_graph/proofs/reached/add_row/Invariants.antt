@@ -1,6 +1,4 @@
-use Rattle.std.proofs.Common.{◌≡◌, ℕ, ◌<◌, ◌≤◌, ◌++◌, ◌^◌, get_or}
-use Rattle.std.specs.Prelude.{bit_or}
-use Rattle.known_graph.specs.Tree.{reached_from}
+use Rattle.known_graph.proofs.Prelude.{◌≡◌, ℕ, ◌<◌, ◌≤◌, ◌++◌, ◌^◌, get_or, bit_or, reached_from}
 use Rattle.known_graph.proofs.Fresh.{fresh_below}
 use Rattle.known_graph.proofs.reached.add_row.Given as goal
 

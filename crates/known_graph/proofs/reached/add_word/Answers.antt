@@ -1,8 +1,4 @@
-use Rattle.std.proofs.Common.{◌≡◌, ◌+◌, ◌<◌, ◌^◌, ◌++◌, sym, ap, ◌∙◌, arith}
-use Rattle.std.specs.Int.{trailing_zeros, w64}
-use Rattle.std.proofs.lemmas.Nat.Bits.{bit_at-trailing_zeros}
-use Rattle.std.proofs.lemmas.List.{append-nil}
-use Rattle.known_graph.specs.Tree.{reached_from, word_numbers}
+use Rattle.known_graph.proofs.Prelude.{◌≡◌, ◌+◌, ◌<◌, ◌^◌, ◌++◌, sym, ap, ◌∙◌, arith, trailing_zeros, w64, bit_at-trailing_zeros, append-nil, reached_from, word_numbers}
 use Rattle.known_graph.proofs.Fresh.{word_numbers-zero, word_numbers-first, without_bit, without_bit-lt, without_bit-bit, add_first}
 use Rattle.known_graph.proofs.reached.add_word.Goals as goal
 

@@ -1,6 +1,4 @@
-use Rattle.std.proofs.Common.{◌≡◌, ℕ, ◌+◌, ◌<◌, ◌≤◌, ◌++◌}
-use Rattle.std.specs.Int.{bit_at}
-use Rattle.known_graph.specs.Tree.{reached_from, word_numbers}
+use Rattle.known_graph.proofs.Prelude.{◌≡◌, ℕ, ◌+◌, ◌<◌, ◌≤◌, ◌++◌, bit_at, reached_from, word_numbers}
 use Rattle.known_graph.proofs.reached.add_word.Given as goal
 
 abbrev pub invariant-loop-rest : goal.invariant-loop-rest

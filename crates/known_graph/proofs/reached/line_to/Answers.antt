@@ -1,5 +1,4 @@
-use Rattle.std.proofs.Common.{◌<◌, get_or, arith}
-use Rattle.known_graph.specs.Tree.{from_at}
+use Rattle.known_graph.proofs.Prelude.{◌<◌, get_or, arith, from_at}
 use Rattle.known_graph.proofs.Trees.{node_read, from_read, behind_step}
 use Rattle.known_graph.proofs.reached.line_to.Goals as goal
 

@@ -1,7 +1,4 @@
-use Rattle.std.proofs.Common.{◌<◌, List, length}
-use Rattle.std.specs.List.{Contains}
-use Rattle.serializability.specs.Polygraph.{Edge}
-use Rattle.known_graph.specs.Tree.{node_at, IsTree}
+use Rattle.known_graph.proofs.Prelude.{◌<◌, List, length, Contains, Edge, node_at, IsTree}
 use Rattle.known_graph.proofs.Lines.{Behind}
 use Rattle.known_graph.proofs.reached.line_to.Given as goal
 

@@ -1,5 +1,4 @@
-use Rattle.std.proofs.Common.{◌≡◌, drop}
-use Rattle.known_graph.specs.Tests.{leads}
+use Rattle.known_graph.proofs.Prelude.{◌≡◌, drop, leads}
 use Rattle.known_graph.proofs.walks.leads.Given as goal
 
 abbrev pub invariant-loop-node : goal.invariant-loop-node

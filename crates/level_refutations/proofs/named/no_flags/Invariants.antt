@@ -1,4 +1,4 @@
-use Rattle.std.proofs.Common.{◌≡◌, length}
+use Rattle.level_refutations.proofs.Prelude.{◌≡◌, length}
 use Rattle.level_refutations.proofs.named.no_flags.Given as goal
 
 abbrev pub invariant-loop-session : goal.invariant-loop-session

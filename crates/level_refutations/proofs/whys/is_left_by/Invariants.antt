@@ -1,7 +1,4 @@
-use Rattle.std.proofs.Common.{◌≡◌, map, drop}
-use Rattle.std.specs.List.{list_any, enumerate_from}
-use Rattle.session_log.specs.Text.{view_txn}
-use Rattle.level_refutations.specs.Whys.{is_left_at}
+use Rattle.level_refutations.proofs.Prelude.{◌≡◌, map, drop, list_any, enumerate_from, view_txn, is_left_at}
 use Rattle.level_refutations.proofs.whys.is_left_by.Given as goal
 
 abbrev pub invariant-loop-txn : goal.invariant-loop-txn

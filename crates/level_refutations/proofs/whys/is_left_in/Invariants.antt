@@ -1,7 +1,4 @@
-use Rattle.std.proofs.Common.{◌≡◌, map, drop}
-use Rattle.std.specs.List.{list_any, enumerate_from}
-use Rattle.session_log.specs.Text.{view}
-use Rattle.level_refutations.specs.Whys.{is_left_by, is_left_in}
+use Rattle.level_refutations.proofs.Prelude.{◌≡◌, map, drop, list_any, enumerate_from, view, is_left_by, is_left_in}
 use Rattle.level_refutations.proofs.whys.is_left_in.Given as goal
 
 abbrev pub invariant-loop-i : goal.invariant-loop-i

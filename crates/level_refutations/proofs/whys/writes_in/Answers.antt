@@ -1,4 +1,4 @@
-use Rattle.std.proofs.Common.{sym, ◌∙◌}
+use Rattle.level_refutations.proofs.Prelude.{sym, ◌∙◌}
 use Rattle.level_refutations.proofs.Standing.{any_map}
 use Rattle.level_refutations.proofs.whys.writes_in.Goals as goal
 

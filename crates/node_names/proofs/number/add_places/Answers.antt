@@ -1,10 +1,5 @@
-use Rattle.std.proofs.Common.{◌≤◌, ◌+◌, ◌++◌, List, map, length, sym, ap, ◌∙◌, arith, Vec}
-use Rattle.list_lemmas.proofs.Lists.{append_none}
-use Rattle.list_lemmas.proofs.Elements.{item, get_map}
-use Rattle.session_log.specs.Text.{view_txn}
+use Rattle.node_names.proofs.Prelude.{◌≤◌, ◌+◌, ◌++◌, List, map, length, sym, ap, ◌∙◌, arith, Vec, append_none, item, get_map, view_txn, Committed, nodes_from}
 use Rattle.serializability.proofs.Places.{length_mapped}
-use Rattle.log_definitions.specs.Serial.{Committed}
-use Rattle.node_names.specs.Names.{nodes_from}
 use Rattle.node_names.proofs.Names.{append_once}
 use Rattle.node_names.proofs.Nodes.{node_here, none_here, none_behind}
 use Rattle.node_names.proofs.number.add_places.Goals.{then-is_committed+in_ok-push, else-is_committed}

@@ -1,7 +1,4 @@
-use Rattle.std.proofs.Common.{◌≡◌, ◌++◌, ℕ, map}
-use Rattle.session_log.specs.Text.{view_txn}
-use Rattle.log_definitions.specs.Serial.{Committed}
-use Rattle.node_names.specs.Names.{nodes_from}
+use Rattle.node_names.proofs.Prelude.{◌≡◌, ◌++◌, ℕ, map, view_txn, Committed, nodes_from}
 use Rattle.node_names.proofs.number.add_places.Given as goal
 
 abbrev pub invariant-loop-i : goal.invariant-loop-i

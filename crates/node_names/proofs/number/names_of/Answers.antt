@@ -1,17 +1,9 @@
-use Rattle.std.proofs.Common.{◌+◌, ◌++◌, List, map, sym, ap, ◌∙◌}
-use Rattle.std.specs.Prelude.{drop}
-use Rattle.std.proofs.lemmas.List.{drop_all, map-append, append_assoc}
-use Rattle.list_lemmas.proofs.Lists.{append_none}
-use Rattle.list_lemmas.proofs.Elements.{get_drop, item}
-use Rattle.session_log.specs.Text.{view, view_txn}
+use Rattle.node_names.proofs.Prelude.{◌+◌, ◌++◌, List, map, sym, ap, ◌∙◌, drop, drop_all, map-append, append_assoc, append_none, get_drop, item, view, view_txn, Committed, nodes_from, nodes_of, names_of}
 use Rattle.session_log.specs.declared.session.Session.{Session}
 use Rattle.session_log.specs.declared.session.Txn.{Txn}
-use Rattle.log_definitions.specs.Serial.{Committed}
 use Rattle.log_definitions.proofs.Settled.{IsLearnt}
 use Rattle.log_laws.proofs.Txns.{split}
 use Rattle.log_laws.proofs.Shifted.{nodes_are}
-use Rattle.node_names.specs.Names.{nodes_from}
-use Rattle.node_names.specs.Names.{nodes_of, names_of}
 use Rattle.node_names.proofs.Names.{named_here}
 use Rattle.node_names.proofs.number.names_of.Goals as goal
 

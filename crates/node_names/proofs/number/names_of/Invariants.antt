@@ -1,7 +1,4 @@
-use Rattle.std.proofs.Common.{◌≡◌, ◌++◌, map}
-use Rattle.std.specs.Prelude.{drop}
-use Rattle.session_log.specs.Text.{view}
-use Rattle.node_names.specs.Names.{nodes_of, names_of}
+use Rattle.node_names.proofs.Prelude.{◌≡◌, ◌++◌, map, drop, view, nodes_of, names_of}
 use Rattle.node_names.proofs.number.names_of.Given as goal
 
 abbrev pub invariant-loop-session : goal.invariant-loop-session

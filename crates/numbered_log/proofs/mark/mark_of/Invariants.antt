@@ -1,6 +1,4 @@
-use Rattle.std.proofs.Common.{◌≡◌}
-use Rattle.std.specs.Prelude.{drop}
-use Rattle.key_tables.specs.Table.{mark_behind, mark_of}
+use Rattle.numbered_log.proofs.Prelude.{◌≡◌, drop, mark_behind, mark_of}
 use Rattle.numbered_log.proofs.mark.mark_of.Given as goal
 
 abbrev pub invariant-loop-byte : goal.invariant-loop-byte

@@ -1,5 +1,4 @@
-use Rattle.std.proofs.Common.{◌≡◌, take}
-use Rattle.order_text.specs.Text.{order_text}
+use Rattle.order_text.proofs.Prelude.{◌≡◌, take, order_text}
 use Rattle.order_text.proofs.print.print_order.Given as goal
 
 abbrev pub invariant-loop-node : goal.invariant-loop-node

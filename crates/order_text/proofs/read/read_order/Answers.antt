@@ -1,8 +1,5 @@
-use Rattle.std.proofs.Common.{length, sym, ◌∙◌, arith}
-use Rattle.std.proofs.lemmas.Bool.{eqb-true}
+use Rattle.order_text.proofs.Prelude.{length, sym, ◌∙◌, arith, eqb-true, lines, order_fault}
 use Rattle.std.proofs.lemmas.Result.{err_from_is_err_and}
-use Rattle.session_log.specs.Lines.{lines}
-use Rattle.order_text.specs.Faults.{order_fault}
 use Rattle.order_text.proofs.Reading.{IsRead, text_on, nodes_on, fault_on, fault_stop, no_lines, short_fault, is_fault}
 use Rattle.order_text.proofs.read.read_order.Goals as goal
 

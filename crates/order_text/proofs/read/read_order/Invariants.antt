@@ -1,7 +1,4 @@
-use Rattle.std.proofs.Common.{◌≡◌, ◌+◌, ◌≤◌, ◌++◌, length}
-use Rattle.session_log.specs.Lines.{lines}
-use Rattle.order_text.specs.Text.{order_text, AreNodes}
-use Rattle.order_text.specs.Faults.{first_fault}
+use Rattle.order_text.proofs.Prelude.{◌≡◌, ◌+◌, ◌≤◌, ◌++◌, length, lines, order_text, AreNodes, first_fault}
 use Rattle.order_text.proofs.read.read_order.Given as goal
 
 abbrev pub invariant-loop-rest : goal.invariant-loop-rest

@@ -1,9 +1,7 @@
-use Rattle.std.proofs.Common.{rules, tests}
+use Rattle.polygraph.proofs.Prelude.{rules, tests, rival_choice, is_other}
 use Rattle.std.proofs.lemmas.Iterator.{YieldsList-from_slice, YieldsList-from_map}
 use Rattle.std.proofs.lemmas.Iterator.Adapters.{items_from_extend}
 use Rattle.std.proofs.lemmas.Iterator.Consumers.{YieldsList-from_filter, YieldsList-at}
-use Rattle.serializability.specs.Polygraph.{rival_choice}
-use Rattle.polygraph.specs.Rivals.{is_other}
 use Rattle.polygraph.proofs.bipath.add_rivals.Goals as goal
 
 pub returns-clause-ok : goal.returns-clause-ok

@@ -1,7 +1,4 @@
-use Rattle.std.proofs.Common.{◌+◌, length, ap, ◌∙◌, arith}
-use Rattle.log_definitions.specs.Numbers.{log_of}
-use Rattle.session_history.specs.Tables.{sources_of}
-use Rattle.known_graph.proofs.Rests.{split_length}
+use Rattle.polygraph.proofs.Prelude.{◌+◌, length, ap, ◌∙◌, arith, log_of, sources_of, split_length}
 use Rattle.polygraph.proofs.Readers.{all_bipaths, first_reader, read_at, first_read, rival_number}
 use Rattle.polygraph.proofs.bipath.bipath_count.Goals as goal
 

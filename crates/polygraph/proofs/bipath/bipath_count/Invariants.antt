@@ -1,8 +1,5 @@
-use Rattle.std.proofs.Common.{◌≡◌, ◌≤◌, ◌+◌, drop, length}
-use Rattle.log_definitions.specs.Numbers.{log_of}
+use Rattle.polygraph.proofs.Prelude.{◌≡◌, ◌≤◌, ◌+◌, drop, length, log_of, sources_of, up_to}
 use Rattle.serializability.specs.Polygraph as spec
-use Rattle.session_history.specs.Tables.{sources_of}
-use Rattle.known_graph.proofs.Rests.{up_to}
 use Rattle.polygraph.proofs.Readers.{of_readers, of_reads}
 use Rattle.polygraph.proofs.bipath.bipath_count.Given as goal
 

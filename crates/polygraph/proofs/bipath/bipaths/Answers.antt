@@ -1,5 +1,4 @@
-use Rattle.std.proofs.Common.{ap, ◌∙◌}
-use Rattle.log_definitions.specs.Numbers.{log_of}
+use Rattle.polygraph.proofs.Prelude.{ap, ◌∙◌, log_of}
 use Rattle.polygraph.proofs.Readers.{bipaths_joined}
 use Rattle.polygraph.proofs.bipath.bipaths.Goals as goal
 

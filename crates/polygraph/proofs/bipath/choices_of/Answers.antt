@@ -1,7 +1,4 @@
-use Rattle.std.proofs.Common.{◌+◌, ap, ◌∙◌, arith}
-use Rattle.log_definitions.specs.Numbers.{log_of}
-use Rattle.session_history.specs.Tables.{sources_of}
-use Rattle.known_graph.proofs.Rests.{piece_begun, piece_more, before}
+use Rattle.polygraph.proofs.Prelude.{◌+◌, ap, ◌∙◌, arith, log_of, sources_of, piece_begun, piece_more, before}
 use Rattle.polygraph.proofs.Readers.{all_bipaths, first_reader, read_at, first_read}
 use Rattle.polygraph.proofs.bipath.choices_of.Goals as goal
 

@@ -1,4 +1,4 @@
-use Rattle.std.proofs.Common.{◌≡◌, take}
+use Rattle.polygraph.proofs.Prelude.{◌≡◌, take}
 use Rattle.polygraph.proofs.bipath.with_lists.Given as goal
 
 abbrev pub invariant-loop-bipath : goal.invariant-loop-bipath

@@ -1,4 +1,4 @@
-use Rattle.std.proofs.Common.{arith, below_more, rules}
+use Rattle.polygraph.proofs.Prelude.{arith, below_more, rules}
 use Rattle.polygraph.proofs.Kept.{edge_absent, edge_later}
 use Rattle.polygraph.proofs.fits.keeps_known.Goals as goal
 use Rattle.polygraph.proofs.fits.keeps_known.Goals.{else-has_edge-via-then-has_edge+else-not-before, else-has_edge-via-else-has_edge}

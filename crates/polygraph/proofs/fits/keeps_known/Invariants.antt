@@ -1,6 +1,4 @@
-use Rattle.std.proofs.Common.{ℕ, ◌<◌}
-use Rattle.std.specs.Prelude.{slice_index}
-use Rattle.std.specs.List.{Contains}
+use Rattle.polygraph.proofs.Prelude.{ℕ, ◌<◌, slice_index, Contains}
 use Rattle.polygraph.proofs.fits.keeps_known.Given as goal
 
 abbrev pub invariant-loop-v : goal.invariant-loop-v

@@ -1,8 +1,4 @@
-use Rattle.std.proofs.Common.{◌≡◌, ◌∙◌, ap, refl, sym}
-use Rattle.std.specs.List.{list_all}
-use Rattle.std.proofs.lemmas.Bool.{false≢true}
-use Rattle.serializability.specs.Replay.{ListsOnce}
-use Rattle.polygraph.specs.Places.{keeps_one}
+use Rattle.polygraph.proofs.Prelude.{◌≡◌, ◌∙◌, ap, refl, sym, list_all, false≢true, ListsOnce, keeps_one}
 use Rattle.polygraph.proofs.Kept.{fits_is, kept_where_fits, all_where_fits}
 use Rattle.polygraph.proofs.fits.order_fits.Goals as goal
 

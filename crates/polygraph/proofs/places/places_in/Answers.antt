@@ -1,6 +1,4 @@
-use Rattle.std.proofs.Common.{◌≡◌, refl, get_or, sym, subst, arith}
-use Rattle.std.proofs.lemmas.Bool.{false≢true}
-use Rattle.serializability.proofs.Listed.{once_length, not_once_outside}
+use Rattle.polygraph.proofs.Prelude.{◌≡◌, refl, get_or, sym, subst, arith, false≢true, once_length, not_once_outside}
 use Rattle.polygraph.proofs.Placed.{nothing_placed, not_once_twice, placed_more, once_placed, all_placed}
 use Rattle.polygraph.proofs.places.places_in.Goals as goal
 use Rattle.polygraph.proofs.places.places_in.Goals.{then-number-eq0-via-then-number-eq0, then-number-eq0-via-else-number-eq0+then-number-n, then-number-eq0-via-else-number-eq0+else-number-n+then-places-number-ne0}

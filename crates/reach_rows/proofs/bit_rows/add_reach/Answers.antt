@@ -1,6 +1,4 @@
-use Rattle.std.proofs.Common.{◌≡◌, ◌⊎◌, ◌+◌, inl, inr, subst, sym, ◌∙◌, arith}
-use Rattle.std.specs.List.{Contains}
-use Rattle.std.proofs.lemmas.Bool.{false≢true}
+use Rattle.reach_rows.proofs.Prelude.{◌≡◌, ◌⊎◌, ◌+◌, inl, inr, subst, sym, ◌∙◌, arith, Contains, false≢true}
 use Rattle.reach_rows.proofs.Growing.{IsGrownTo, grown_none, grown_past, grown_here, grown_all, row_grown}
 use Rattle.reach_rows.proofs.bit_rows.add_reach.Goals as goal
 use Rattle.reach_rows.proofs.bit_rows.add_reach.Goals.{then-x-u, then-x-u-via-then-x-u, then-x-u-via-else-x-u+then-has, else-x-u+else-has}

@@ -1,9 +1,6 @@
-use Rattle.std.proofs.Common.{◌≡◌, ◌≤◌, ◌+◌, ◌-◌, ◌++◌, [], ◌∷◌, length, get_or, IfOk, sym, ap, ◌∙◌, subst, arith}
+use Rattle.reach_rows.proofs.Prelude.{◌≡◌, ◌≤◌, ◌+◌, ◌-◌, ◌++◌, [], ◌∷◌, length, get_or, IfOk, sym, ap, ◌∙◌, subst, arith, length_push, IsPart, AreReachRows}
 use Rattle.std.proofs.lemmas.Iterator.Adapters.{YieldsList-from_vec}
 use Rattle.std.proofs.lemmas.Iterator.Consumers.{YieldsList-turn, YieldsList-end}
-use Rattle.std.proofs.lemmas.List.{length_push}
-use Rattle.reach_rows.specs.Parts.{IsPart}
-use Rattle.reach_rows.specs.Sources.{AreReachRows}
 use Rattle.reach_rows.proofs.Behind.{rows_none, rows_joined}
 use Rattle.reach_rows.proofs.parts.joined.Goals as goal
 

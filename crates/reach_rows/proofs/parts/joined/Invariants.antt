@@ -1,5 +1,4 @@
-use Rattle.std.proofs.Common.{length, get_or}
-use Rattle.reach_rows.specs.Sources.{AreReachRows}
+use Rattle.reach_rows.proofs.Prelude.{length, get_or, AreReachRows}
 use Rattle.reach_rows.proofs.parts.joined.Given as goal
 
 abbrev pub invariant-loop-part : goal.invariant-loop-part

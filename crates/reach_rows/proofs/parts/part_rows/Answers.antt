@@ -1,8 +1,4 @@
-use Rattle.std.proofs.Common.{◌≡◌, ◌≤◌, ◌+◌, ◌-◌, get_or, ap, subst, arith}
-use Rattle.std.proofs.lemmas.Nat.{mul-le}
-use Rattle.known_graph.specs.Bits.{row_len}
-use Rattle.known_graph.proofs.Grouped.{row_len_small}
-use Rattle.reach_rows.specs.Sources.{AreReachRows}
+use Rattle.reach_rows.proofs.Prelude.{◌≡◌, ◌≤◌, ◌+◌, ◌-◌, get_or, ap, subst, arith, mul-le, row_len, row_len_small, AreReachRows}
 use Rattle.reach_rows.proofs.Parting.{starts_within}
 use Rattle.reach_rows.proofs.parts.part_rows.Goals as goal
 

@@ -1,4 +1,4 @@
-use Rattle.reach_rows.specs.Sources.{AreReachRows}
+use Rattle.reach_rows.proofs.Prelude.{AreReachRows}
 use Rattle.reach_rows.proofs.parts.part_rows.Given as goal
 
 abbrev pub invariant-loop-source : goal.invariant-loop-source

@@ -1,5 +1,4 @@
-use Rattle.std.proofs.Common.{◌≡◌, ◌+◌, ◌≤◌, length}
-use Rattle.reach_rows.specs.Parts.{ArePartStarts}
+use Rattle.reach_rows.proofs.Prelude.{◌≡◌, ◌+◌, ◌≤◌, length, ArePartStarts}
 use Rattle.reach_rows.proofs.parts.part_starts.Given as goal
 
 abbrev pub invariant-loop-worker : goal.invariant-loop-worker

@@ -1,4 +1,4 @@
-use Rattle.std.proofs.Common.{◌+◌, ◌-◌, ◌≤◌}
+use Rattle.reach_rows.proofs.Prelude.{◌+◌, ◌-◌, ◌≤◌}
 use Rattle.reach_rows.proofs.parts.source_after.Given as goal
 
 abbrev pub invariant-loop-source : goal.invariant-loop-source

@@ -1,5 +1,4 @@
-use Rattle.std.proofs.Common.{arith}
-use Rattle.known_graph.proofs.Grouped.{row_len_small}
+use Rattle.reach_rows.proofs.Prelude.{arith, row_len_small}
 use Rattle.reach_rows.proofs.parts.work_of.Goals as goal
 
 pub overflow_add-work : goal.overflow_add-work

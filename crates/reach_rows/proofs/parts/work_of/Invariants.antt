@@ -1,4 +1,4 @@
-use Rattle.std.proofs.Common.{◌+◌, ◌*◌, ◌≤◌}
+use Rattle.reach_rows.proofs.Prelude.{◌+◌, ◌*◌, ◌≤◌}
 use Rattle.reach_rows.proofs.parts.work_of.Given as goal
 
 abbrev pub invariant-loop-word : goal.invariant-loop-word

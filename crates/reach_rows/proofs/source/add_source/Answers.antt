@@ -1,8 +1,4 @@
-use Rattle.std.proofs.Common.{◌≡◌, ◌≤◌, ℕ, ◌+◌, ◌++◌, length, take, sym, ap, ◌∙◌, subst, arith}
-use Rattle.std.proofs.lemmas.List.{length-take-le}
-use Rattle.known_graph.specs.Bits.{row_len}
-use Rattle.known_graph.proofs.Grouped.{row_len_small}
-use Rattle.reach_rows.specs.Sources.{AreReachRows}
+use Rattle.reach_rows.proofs.Prelude.{◌≡◌, ◌≤◌, ℕ, ◌+◌, ◌++◌, length, take, sym, ap, ◌∙◌, subst, arith, length-take-le, row_len, row_len_small, AreReachRows}
 use Rattle.reach_rows.proofs.Behind.{rows_one, rows_cut, rows_joined}
 use Rattle.reach_rows.proofs.source.add_source.Goals as goal
 

@@ -1,8 +1,4 @@
-use Rattle.std.proofs.Common.{◌≡◌, ◌||◌, ◌↔◌, ℕ, true, sym, ap, ◌∙◌, arith}
-use Rattle.std.specs.List.{Contains}
-use Rattle.known_graph.specs.Bits.{bit_of}
-use Rattle.known_graph.proofs.Words.{bit_of-zeros}
-use Rattle.known_graph.proofs.Grouped.{row_len_small}
+use Rattle.reach_rows.proofs.Prelude.{◌≡◌, ◌||◌, ◌↔◌, ℕ, true, sym, ap, ◌∙◌, arith, Contains, bit_of, bit_of-zeros, row_len_small}
 use Rattle.reach_rows.proofs.Spreading.{spread_row}
 use Rattle.reach_rows.proofs.source.reach_row.Goals as goal
 

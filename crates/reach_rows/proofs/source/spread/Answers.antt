@@ -1,12 +1,5 @@
-use Rattle.std.proofs.Common.{◌≡◌, replicate, ◌+◌, ◌↔◌, ℕ, true, eqb, ◌∙◌, subst, arith}
-use Rattle.std.specs.List.{Contains}
-use Rattle.std.proofs.lemmas.Bool.{or_left, or_right}
-use Rattle.std.proofs.Common.{eq-eqb, refl}
-use Rattle.known_graph.specs.Bits.{bit_of}
+use Rattle.reach_rows.proofs.Prelude.{◌≡◌, replicate, ◌+◌, ◌↔◌, ℕ, true, eqb, ◌∙◌, subst, arith, Contains, or_left, or_right, eq-eqb, refl, bit_of, row_len_small, bit_of-zeros, node_word}
 use Rattle.known_graph.proofs.Opened.{left_falls}
-use Rattle.known_graph.proofs.Grouped.{row_len_small}
-use Rattle.known_graph.proofs.Words.{bit_of-zeros}
-use Rattle.known_graph.proofs.Edges.{node_word}
 use Rattle.reach_rows.proofs.Spreading.{IsSpreadStep, spreading_none, spreading_more}
 use Rattle.reach_rows.proofs.source.spread.Goals as goal
 

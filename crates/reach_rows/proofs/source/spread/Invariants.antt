@@ -1,5 +1,4 @@
-use Rattle.std.proofs.Common.{◌+◌}
-use Rattle.known_graph.specs.Bits.{bit_of}
+use Rattle.reach_rows.proofs.Prelude.{◌+◌, bit_of}
 use Rattle.known_graph.specs.Groups.{left_of}
 use Rattle.reach_rows.proofs.Spreading.{IsSpreading}
 use Rattle.reach_rows.proofs.source.spread.Given as goal

@@ -1,6 +1,5 @@
-use Rattle.std.proofs.Common.{◌≡◌, ◌+◌, ◌-◌, ◌^◌, min, length, take, sum_by, map}
-use Rattle.log_definitions.specs.Numbers.{log_of}
-use Rattle.write_chains.proofs.Gathered.{pair_of}
+use Rattle.reasons.proofs.Prelude.{◌≡◌, ◌+◌, ◌-◌, ◌^◌, min, length, take, map, log_of, pair_of}
+use Rattle.std.proofs.Common.{sum_by}
 use Rattle.reasons.proofs.Pairs.{looks_by}
 use Rattle.reasons.proofs.crossed.add_looks.Given as goal
 

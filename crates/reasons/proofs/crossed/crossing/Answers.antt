@@ -1,4 +1,4 @@
-use Rattle.reason_laws.specs.declared.crossing.Crossing.{Crossing}
+use Rattle.reasons.proofs.Prelude.{Crossing}
 use Rattle.reasons.proofs.Squares.{crossed_by}
 use Rattle.reasons.proofs.crossed.crossing.Goals as goal
 

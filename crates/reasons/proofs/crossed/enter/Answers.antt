@@ -1,4 +1,4 @@
-use Rattle.std.proofs.Common.{rules}
+use Rattle.reasons.proofs.Prelude.{rules}
 use Rattle.reasons.proofs.Squares.{has_entered}
 use Rattle.reasons.proofs.crossed.enter.Goals as goal
 

@@ -1,5 +1,4 @@
-use Rattle.std.proofs.Common.{◌≡◌, ◌-◌, ◌^◌, min}
-use Rattle.log_definitions.specs.Numbers.{log_of}
+use Rattle.reasons.proofs.Prelude.{◌≡◌, ◌-◌, ◌^◌, min, log_of}
 use Rattle.reasons.proofs.Pairs.{looks_below}
 use Rattle.reasons.proofs.crossed.looks_of.Given as goal
 

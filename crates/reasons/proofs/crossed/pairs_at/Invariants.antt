@@ -1,5 +1,4 @@
-use Rattle.log_definitions.specs.Numbers.{log_of}
-use Rattle.reasons.specs.Crossed.{ArePairs}
+use Rattle.reasons.proofs.Prelude.{log_of, ArePairs}
 use Rattle.reasons.proofs.crossed.pairs_at.Given as goal
 
 abbrev pub invariant-loop-number : goal.invariant-loop-number

@@ -1,6 +1,4 @@
-use Rattle.std.proofs.Common.{◌≡◌, ◌++◌, map, take}
-use Rattle.write_chains.proofs.Gathered.{pair_of}
-use Rattle.reasons.specs.Crossed.{pairs_by}
+use Rattle.reasons.proofs.Prelude.{◌≡◌, ◌++◌, map, take, pair_of, pairs_by}
 use Rattle.reasons.proofs.crossed.put_reads.Given as goal
 
 abbrev pub invariant-loop-read : goal.invariant-loop-read

@@ -1,10 +1,8 @@
-use Rattle.std.proofs.Common.{map, rules}
-use Rattle.std.specs.BTreeMap.{get, IsFromIterResult}
+use Rattle.reasons.proofs.Prelude.{map, rules, get, IsFromIterResult, triple_cmp, by_versions, AreReaders}
 use Rattle.std.proofs.lemmas.Iterator.{YieldsList-from_map, YieldsList-from_slice}
 use Rattle.std.proofs.lemmas.Iterator.Adapters.{fact_from_collect}
 use Rattle.std.proofs.lemmas.Iterator.Consumers.{YieldsList-at}
 use Rattle.std.proofs.lemmas.Result.{IfOk-weaker}
-use Rattle.reasons.specs.Crossed.{triple_cmp, by_versions, AreReaders}
 use Rattle.reasons.proofs.Squares.{are_readers}
 use Rattle.reasons.proofs.crossed.readers_of.Goals as goal
 

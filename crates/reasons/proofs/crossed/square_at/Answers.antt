@@ -1,9 +1,4 @@
-use Rattle.std.proofs.Common.{◌+◌, take, subst, inl, inr, Contains}
-use Rattle.std.proofs.lemmas.List.{take_all}
-use Rattle.std.proofs.lemmas.List.Elements.{Contains-push_cases}
-use Rattle.list_lemmas.proofs.Lists.{front_more}
-use Rattle.log_definitions.specs.Numbers.{log_of}
-use Rattle.reasons.specs.Crossed.{NoSquareOf}
+use Rattle.reasons.proofs.Prelude.{◌+◌, take, subst, inl, inr, Contains, take_all, Contains-push_cases, front_more, log_of, NoSquareOf}
 use Rattle.reasons.proofs.Squares.{square_from, none_with}
 use Rattle.reasons.proofs.crossed.square_at.Goals as goal
 

@@ -1,5 +1,4 @@
-use Rattle.std.proofs.Common.{ℕ, take, Contains}
-use Rattle.reasons.specs.Crossed.{NoSquareOf}
+use Rattle.reasons.proofs.Prelude.{ℕ, take, Contains, NoSquareOf}
 use Rattle.reasons.proofs.crossed.square_at.Given as goal
 
 abbrev pub invariant-loop-version : goal.invariant-loop-version

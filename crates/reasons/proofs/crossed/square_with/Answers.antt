@@ -1,7 +1,4 @@
-use Rattle.std.proofs.Common.{sym, subst, take, take_all}
-use Rattle.std.specs.BTreeMap.{get}
-use Rattle.list_lemmas.proofs.Lists.{front_more}
-use Rattle.reasons.specs.Crossed.{pair_cmp, triple_cmp}
+use Rattle.reasons.proofs.Prelude.{sym, subst, take, take_all, get, front_more, pair_cmp, triple_cmp}
 use Rattle.reasons.proofs.Squares.{IsMet, entered, none_met}
 use Rattle.reasons.proofs.crossed.square_with.Goals as goal
 

@@ -1,6 +1,4 @@
-use Rattle.std.proofs.Common.{take}
-use Rattle.std.specs.BTreeMap.{get}
-use Rattle.reasons.specs.Crossed.{pair_cmp, triple_cmp}
+use Rattle.reasons.proofs.Prelude.{take, get, pair_cmp, triple_cmp}
 use Rattle.reasons.proofs.Squares.{IsMet}
 use Rattle.reasons.proofs.crossed.square_with.Given as goal
 

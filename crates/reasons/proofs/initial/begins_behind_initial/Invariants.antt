@@ -1,6 +1,4 @@
-use Rattle.log_definitions.specs.Numbers.{log_of}
-use Rattle.reasons.specs.Firsts.{NoneBefore}
-use Rattle.reasons.specs.Initials.{IsBeginning, ArePlain}
+use Rattle.reasons.proofs.Prelude.{log_of, NoneBefore, IsBeginning, ArePlain}
 use Rattle.reasons.proofs.initial.begins_behind_initial.Given as goal
 
 abbrev pub invariant-loop-place : goal.invariant-loop-place

@@ -1,7 +1,4 @@
-use Rattle.std.proofs.Common.{arith}
-use Rattle.std.proofs.lemmas.Bool.{false≢true}
-use Rattle.log_definitions.specs.Numbers.{log_of}
-use Rattle.reason_laws.proofs.Numbers.{within}
+use Rattle.reasons.proofs.Prelude.{arith, false≢true, log_of, within}
 use Rattle.reasons.proofs.Initials.{zero_unread, too_far}
 use Rattle.reasons.proofs.initial.follows_initial.Goals as goal
 

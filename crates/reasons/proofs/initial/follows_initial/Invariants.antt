@@ -1,4 +1,4 @@
-use Rattle.log_definitions.specs.Numbers.{log_of}
+use Rattle.reasons.proofs.Prelude.{log_of}
 use Rattle.reasons.proofs.Initials.{Walked}
 use Rattle.reasons.proofs.initial.follows_initial.Given as goal
 

@@ -1,5 +1,4 @@
-use Rattle.std.proofs.Common.{arith, ap, length}
-use Rattle.log_definitions.specs.Numbers.{log_of}
+use Rattle.reasons.proofs.Prelude.{arith, ap, length, log_of}
 use Rattle.reasons.proofs.Overwrites.{least_all}
 use Rattle.reasons.proofs.overwritten.least_write.Goals as goal
 

@@ -1,5 +1,4 @@
-use Rattle.log_definitions.specs.Numbers.{log_of}
-use Rattle.reasons.specs.Overwrites.{IsLeastWrite}
+use Rattle.reasons.proofs.Prelude.{log_of, IsLeastWrite}
 use Rattle.reasons.proofs.overwritten.least_write.Given as goal
 
 abbrev pub invariant-loop-place : goal.invariant-loop-place

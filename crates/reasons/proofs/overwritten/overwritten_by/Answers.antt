@@ -1,4 +1,4 @@
-use Rattle.std.proofs.Common.{refl}
+use Rattle.reasons.proofs.Prelude.{refl}
 use Rattle.reasons.proofs.Overwrites.{none_overwritten}
 use Rattle.reasons.proofs.overwritten.overwritten_by.Goals as goal
 

@@ -1,5 +1,4 @@
-use Rattle.std.proofs.Common.{sym, ◌∙◌}
-use Rattle.std.proofs.lemmas.Bool.{eqb-false, not-true}
+use Rattle.reasons.proofs.Prelude.{sym, ◌∙◌, eqb-false, not-true}
 use Rattle.reasons.proofs.Firsts.{none_of_other}
 use Rattle.reasons.proofs.read.may_name.Goals as goal
 

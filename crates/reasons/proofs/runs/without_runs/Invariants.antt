@@ -1,5 +1,4 @@
-use Rattle.std.proofs.Common.{◌≡◌, ◌++◌, length}
-use Rattle.reasons.specs.Runs.{told_behind, without_runs}
+use Rattle.reasons.proofs.Prelude.{◌≡◌, ◌++◌, length, told_behind, without_runs}
 use Rattle.reasons.proofs.runs.without_runs.Given as goal
 
 abbrev pub invariant-loop-node : goal.invariant-loop-node

@@ -1,6 +1,4 @@
-use Rattle.std.proofs.Common.{◌≡◌, ◌+◌, ◌∷◌, ◌∙◌, sym, ap, get_or, drop, length, add-one}
-use Rattle.std.proofs.Math.Seq.{drop-cons}
-use Rattle.refutation.specs.Hinted.{hinted}
+use Rattle.refutation.proofs.Prelude.{◌≡◌, ◌+◌, ◌∷◌, ◌∙◌, sym, ap, get_or, drop, length, add-one, drop-cons, hinted}
 use Rattle.refutation.proofs.Units.{hinted_nothing}
 use Rattle.refutation.proofs.hints.take_step.Goals as goal
 

@@ -1,6 +1,4 @@
-use Rattle.std.proofs.Common.{◌≡◌, length, drop}
-use Rattle.refutation.specs.Hinted.{hinted}
-use Rattle.refutation.specs.Known.{with_false, all_open}
+use Rattle.refutation.proofs.Prelude.{◌≡◌, length, drop, hinted, with_false, all_open}
 use Rattle.refutation.proofs.hints.take_step.Given as goal
 
 abbrev pub invariant-loop-hint : goal.invariant-loop-hint

@@ -1,7 +1,4 @@
-use Rattle.std.proofs.Common.{Bool, List, Some, map}
-use Rattle.std.specs.List.{AllByRecursion}
-use Rattle.serializability.specs.Formula.{clause_true}
-use Rattle.serializability.specs.declared.literal.Literal.{Literal}
+use Rattle.refutation.proofs.Prelude.{Bool, List, Some, map, AllByRecursion, clause_true, Literal}
 use Rattle.refutation.proofs.Units.{satisfied_given}
 use Rattle.refutation.proofs.laws.refuted_formula_is_not_satisfied.Goals as goal
 

@@ -1,9 +1,4 @@
-use Rattle.std.proofs.Common.{ap, sym, arith, map, length}
-use Rattle.std.proofs.lemmas.List.{length-map}
-use Rattle.std.proofs.lemmas.List.Sums.{count_by-le-length}
-use Rattle.session_log.specs.Text.{view}
-use Rattle.log_definitions.specs.Unknown.{is_committed, is_unknown, txns_in}
-use Rattle.log_definitions.specs.WellFormed.{is_aborted}
+use Rattle.session_history.proofs.Prelude.{ap, sym, arith, map, length, length-map, count_by-le-length, view, is_committed, is_unknown, txns_in, is_aborted}
 use Rattle.session_history.proofs.Totals.{committed_nodes, txns_below_lines}
 use Rattle.session_history.proofs.Tabled.{keys_held, count_held, committed_held}
 use Rattle.session_history.proofs.count.counts_of.Goals as goal

@@ -1,7 +1,6 @@
-use Rattle.std.proofs.Common.{map-id, ◌≡◌, [], ◌∷◌, sym, ap, ◌∙◌, arith, length}
+use Rattle.session_history.proofs.Prelude.{map-id, ◌≡◌, [], ◌∷◌, sym, ap, ◌∙◌, arith, length, first_seen}
 use Rattle.std.proofs.lemmas.Iterator.Adapters.{YieldsList-from_vec}
 use Rattle.std.proofs.lemmas.Iterator.Consumers.{YieldsList-end}
-use Rattle.log_definitions.specs.WellFormed.{first_seen}
 use Rattle.session_history.proofs.Seen.{seen_append, seen_again}
 use Rattle.session_history.proofs.key_set.indexed.Goals as goal
 

@@ -1,5 +1,4 @@
-use Rattle.std.proofs.Common.{◌≡◌, []}
-use Rattle.log_definitions.specs.WellFormed.{first_seen}
+use Rattle.session_history.proofs.Prelude.{◌≡◌, [], first_seen}
 use Rattle.session_history.proofs.key_set.indexed.Given as goal
 
 abbrev pub invariant-loop-text : goal.invariant-loop-text

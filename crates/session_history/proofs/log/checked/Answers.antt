@@ -1,9 +1,4 @@
-use Rattle.std.proofs.Common.{Some, None, ap, sym, ◌∙◌, arith, map, length, nat_cmp}
-use Rattle.std.specs.BTreeSet.{contains}
-use Rattle.session_log.specs.Text.{view}
-use Rattle.log_definitions.specs.WellFormed.{list_fault}
-use Rattle.log_definitions.proofs.Scanning.{rules_where_no_fault}
-use Rattle.session_log.specs.Version.{first_line}
+use Rattle.session_history.proofs.Prelude.{Some, None, ap, sym, ◌∙◌, arith, map, length, nat_cmp, contains, view, list_fault, rules_where_no_fault, first_line}
 use Rattle.session_history.proofs.Limits.{not_aborted, within_limits, fault_session, fault_operations, fault_committed, fault_keys, fault_write}
 use Rattle.session_history.proofs.Totals.{settled_counted}
 use Rattle.session_history.proofs.Tabled.{keys_settled_held, taken_held}

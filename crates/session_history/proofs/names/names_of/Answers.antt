@@ -1,6 +1,4 @@
-use Rattle.std.proofs.Common.{◌∙◌, ap, refl}
-use Rattle.std.specs.BTreeMap.{get}
-use Rattle.session_history.specs.Naming.{name_cmp}
+use Rattle.session_history.proofs.Prelude.{◌∙◌, ap, refl, get, name_cmp}
 use Rattle.session_history.proofs.Named.{name_more, names_all}
 use Rattle.session_history.proofs.names.names_of.Goals as goal
 

@@ -1,6 +1,4 @@
-use Rattle.std.proofs.Common.{◌≡◌, ℕ, ◌+◌, ◌-◌, length, drop}
-use Rattle.std.specs.BTreeMap.{get}
-use Rattle.session_history.specs.Naming.{name_cmp, node_among}
+use Rattle.session_history.proofs.Prelude.{◌≡◌, ℕ, ◌+◌, ◌-◌, length, drop, get, name_cmp, node_among}
 use Rattle.session_history.proofs.names.names_of.Given as goal
 
 abbrev pub invariant-loop-i : goal.invariant-loop-i

@@ -1,8 +1,4 @@
-use Rattle.std.proofs.Common.{ℕ, ◌∙◌, ap, sym, ◌++◌, map, take, cond, nat_eq, ◌∷◌, []}
-use Rattle.std.proofs.lemmas.List.{take_all}
-use Rattle.session_history.specs.Rows.{reader_view}
-use Rattle.session_history.specs.Written.{entry_of}
-use Rattle.session_history.specs.Sources.{final_node, found_by}
+use Rattle.session_history.proofs.Prelude.{ℕ, ◌∙◌, ap, sym, ◌++◌, map, take, cond, nat_eq, ◌∷◌, [], take_all, reader_view, entry_of, final_node, found_by}
 use Rattle.session_history.proofs.Reading.{reads_same, reader_more}
 use Rattle.session_history.proofs.reads.add_key.Goals as goal
 

@@ -1,7 +1,4 @@
-use Rattle.std.proofs.Common.{◌≡◌, ℕ, List, ◌++◌, length, map, take}
-use Rattle.session_history.specs.Written.{entry_of}
-use Rattle.session_history.specs.Rows.{reader_view}
-use Rattle.session_history.specs.Sources.{AreReads, final_node, found_by}
+use Rattle.session_history.proofs.Prelude.{◌≡◌, ℕ, List, ◌++◌, length, map, take, entry_of, reader_view, AreReads, final_node, found_by}
 use Rattle.session_history.proofs.reads.add_key.Given as goal
 
 abbrev pub invariant-loop-reader : goal.invariant-loop-reader

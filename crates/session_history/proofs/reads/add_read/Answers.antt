@@ -1,5 +1,4 @@
-use Rattle.std.proofs.Common.{◌<◌, ◌-◌, length, refl, arith}
-use Rattle.std.proofs.lemmas.Option.{slice_get_read}
+use Rattle.session_history.proofs.Prelude.{◌<◌, ◌-◌, length, refl, arith, slice_get_read}
 use Rattle.session_history.proofs.Reading.{read_added}
 use Rattle.session_history.proofs.reads.add_read.Goals as goal
 

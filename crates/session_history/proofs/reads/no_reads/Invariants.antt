@@ -1,5 +1,4 @@
-use Rattle.std.proofs.Common.{[]}
-use Rattle.session_history.specs.Sources.{AreReads}
+use Rattle.session_history.proofs.Prelude.{[], AreReads}
 use Rattle.session_history.proofs.reads.no_reads.Given as goal
 
 abbrev pub invariant-loop-i : goal.invariant-loop-i

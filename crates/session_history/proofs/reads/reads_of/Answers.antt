@@ -1,6 +1,5 @@
-use Rattle.std.proofs.Common.{ℕ, ◌∙◌, ap, sym, map, take}
-use Rattle.session_history.specs.Written.{entry_of}
-use Rattle.session_history.specs.Sources.{final_node, found_in, readers_of}
+use Rattle.session_history.proofs.Prelude.{ℕ, ◌∙◌, ap, sym, map, take, entry_of, final_node, readers_of}
+use Rattle.session_history.specs.Sources.{found_in}
 use Rattle.session_history.proofs.Reading.{key_more}
 use Rattle.session_history.proofs.reads.reads_of.Goals as goal
 

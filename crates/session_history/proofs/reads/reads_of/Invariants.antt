@@ -1,6 +1,5 @@
-use Rattle.std.proofs.Common.{map, take}
-use Rattle.session_history.specs.Written.{entry_of}
-use Rattle.session_history.specs.Sources.{AreReads, final_node, found_in, readers_of}
+use Rattle.session_history.proofs.Prelude.{map, take, entry_of, AreReads, final_node, readers_of}
+use Rattle.session_history.specs.Sources.{found_in}
 use Rattle.session_history.proofs.reads.reads_of.Given as goal
 
 abbrev pub invariant-loop-key : goal.invariant-loop-key

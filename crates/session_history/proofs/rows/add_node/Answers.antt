@@ -1,7 +1,5 @@
-use Rattle.std.proofs.Common.{◌∙◌, ap, sym, take, get_or, ◌++◌, ◌∷◌, []}
-use Rattle.std.proofs.lemmas.List.{take_more, take_all}
+use Rattle.session_history.proofs.Prelude.{◌∙◌, ap, sym, take, get_or, ◌++◌, ◌∷◌, [], take_more, take_all, row_after}
 use Rattle.serializability.specs.declared.event.Event.TheVariants.{Read}
-use Rattle.session_history.specs.Rows.{row_after}
 use Rattle.session_history.proofs.KeyRows.{rows_same}
 use Rattle.session_history.proofs.rows.add_node.Goals as goal
 

@@ -1,5 +1,4 @@
-use Rattle.std.proofs.Common.{◌≡◌, ℕ, ◌<◌, length, take}
-use Rattle.session_history.specs.Rows.{RowView, IsBelow, AreRows, row_after}
+use Rattle.session_history.proofs.Prelude.{◌≡◌, ℕ, ◌<◌, length, take, RowView, IsBelow, AreRows, row_after}
 use Rattle.session_history.proofs.rows.add_node.Given as goal
 
 abbrev pub invariant-loop-event : goal.invariant-loop-event

@@ -1,4 +1,4 @@
-use Rattle.session_history.specs.Rows.{AreRows, no_row}
+use Rattle.session_history.proofs.Prelude.{AreRows, no_row}
 use Rattle.session_history.proofs.rows.empty_rows.Given as goal
 
 abbrev pub invariant-loop-i : goal.invariant-loop-i

@@ -1,6 +1,4 @@
-use Rattle.std.proofs.Common.{◌<◌, length, refl, arith}
-use Rattle.std.proofs.lemmas.Option.{slice_get_read}
-use Rattle.serializability.specs.Events.{event_key}
+use Rattle.session_history.proofs.Prelude.{◌<◌, length, refl, arith, slice_get_read, event_key}
 use Rattle.session_history.proofs.KeyRows.{rows_entered_at}
 use Rattle.session_history.proofs.rows.enter.Goals as goal
 

@@ -1,5 +1,4 @@
-use Rattle.std.proofs.Common.{map, take, ap, sym, ◌∙◌}
-use Rattle.session_history.specs.Rows.{row_from, no_row}
+use Rattle.session_history.proofs.Prelude.{map, take, ap, sym, ◌∙◌, row_from, no_row}
 use Rattle.session_history.proofs.KeyRows.{node_below, node_rows_more}
 use Rattle.session_history.proofs.rows.rows_of.Goals as goal
 

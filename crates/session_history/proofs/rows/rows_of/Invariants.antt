@@ -1,5 +1,4 @@
-use Rattle.std.proofs.Common.{map, take}
-use Rattle.session_history.specs.Rows.{AreRows, row_from, no_row}
+use Rattle.session_history.proofs.Prelude.{map, take, AreRows, row_from, no_row}
 use Rattle.session_history.proofs.rows.rows_of.Given as goal
 
 abbrev pub invariant-loop-i : goal.invariant-loop-i

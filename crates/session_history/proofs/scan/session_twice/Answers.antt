@@ -1,6 +1,4 @@
-use Rattle.std.proofs.Common.{sym, ◌∙◌, arith, nat_cmp, ◌+◌}
-use Rattle.std.specs.BTreeSet.{contains}
-use Rattle.std.proofs.lemmas.Bool.{not-true, not-false}
+use Rattle.session_history.proofs.Prelude.{sym, ◌∙◌, arith, nat_cmp, ◌+◌, contains, not-true, not-false}
 use Rattle.session_history.proofs.Twice.{lines_more, lines_within, twice_found, none_more, seen_more}
 use Rattle.session_history.proofs.scan.session_twice.Goals as goal
 

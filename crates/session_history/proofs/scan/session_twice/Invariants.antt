@@ -1,8 +1,4 @@
-use Rattle.std.proofs.Common.{◌≡◌, ◌==◌, ℕ, None, [], ◌+◌, map, take, length, nat_cmp}
-use Rattle.std.specs.List.{list_any}
-use Rattle.std.specs.BTreeSet.{contains}
-use Rattle.session_log.specs.Text.{view}
-use Rattle.log_definitions.specs.WellFormed.{log_lines, repeated, sessions_from}
+use Rattle.session_history.proofs.Prelude.{◌≡◌, ◌==◌, ℕ, None, [], ◌+◌, map, take, length, nat_cmp, list_any, contains, view, log_lines, repeated, sessions_from}
 use Rattle.session_history.proofs.scan.session_twice.Given as goal
 
 abbrev pub invariant-loop-session : goal.invariant-loop-session

@@ -1,10 +1,4 @@
-use Rattle.std.proofs.Common.{◌∙◌, ap, sym, map, arith, nat_cmp}
-use Rattle.std.specs.List.{list_any}
-use Rattle.std.specs.BTreeMap.{is_at}
-use Rattle.std.proofs.lemmas.List.{length-map, get_or-map}
-use Rattle.session_log.specs.Text.{view}
-use Rattle.session_history.specs.Worklist.{with_reads, committed_in_all}
-use Rattle.session_history.specs.Tracked.{order_of, found_in}
+use Rattle.session_history.proofs.Prelude.{◌∙◌, ap, sym, map, arith, nat_cmp, list_any, is_at, length-map, get_or-map, view, with_reads, committed_in_all, order_of, found_in}
 use Rattle.session_history.proofs.Worked.{worked_none, worked_more, worked_few}
 use Rattle.session_history.proofs.AllTaken.{worked_all, none_taken}
 use Rattle.session_history.proofs.taken.taken_among.Goals as goal

@@ -1,6 +1,4 @@
-use Rattle.std.proofs.Common.{◌-◌, map, length}
-use Rattle.session_log.specs.Text.{view}
-use Rattle.session_history.specs.Tracked.{IsTaking, order_of, found_in}
+use Rattle.session_history.proofs.Prelude.{◌-◌, map, length, view, IsTaking, order_of, found_in}
 use Rattle.session_history.proofs.Worked.{Worked}
 use Rattle.session_history.proofs.taken.taken_among.Given as goal
 

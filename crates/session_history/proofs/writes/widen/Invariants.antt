@@ -1,4 +1,4 @@
-use Rattle.std.proofs.Common.{◌≡◌, ℕ, ◌-◌, ◌+◌, slice_index, vec_len}
+use Rattle.session_history.proofs.Prelude.{◌≡◌, ℕ, ◌-◌, ◌+◌, slice_index, vec_len}
 use Rattle.session_history.proofs.writes.widen.Given as goal
 
 abbrev pub invariant-loop-lasts : goal.invariant-loop-lasts

@@ -1,10 +1,4 @@
-use Rattle.std.proofs.Common.{ℕ, List, Bool, ◌≡◌, ◌+◌, ◌-◌, ◌++◌, length, sym, refl, ap, ◌∙◌, arith, length-append}
-use Rattle.std.proofs.lemmas.Bool.{eqb-true}
-use Rattle.std.specs.Prelude.{count_by}
-use Rattle.session_log.specs.Lines.{lines, bytes_of}
-use Rattle.session_log.specs.Faults.{is_session_line}
-use Rattle.session_log.specs.Blocks.{blocks_of}
-use Rattle.session_log.specs.Version.{header_text, first_line, version_of, body_of}
+use Rattle.session_log.proofs.Prelude.{ℕ, List, Bool, ◌≡◌, ◌+◌, ◌-◌, ◌++◌, length, sym, refl, ap, ◌∙◌, arith, length-append, eqb-true, count_by, lines, bytes_of, is_session_line, blocks_of, header_text, first_line, version_of, body_of}
 use Rattle.session_log.proofs.Versions.{header_and_body, header_room}
 use Rattle.session_log.proofs.Cutting.{blocks_from, start_blocks, block_ends, block_goes_on, blocks_end, len_split, first_counted, first_within, next_within, session_counted, other_counted, too_many, few_enough, counted_behind}
 use Rattle.session_log.proofs.block.cut_lines.Goals as goal

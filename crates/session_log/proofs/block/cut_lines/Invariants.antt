@@ -1,8 +1,4 @@
-use Rattle.std.proofs.Common.{◌≡◌, ◌+◌, ◌≤◌, ◌++◌, length}
-use Rattle.std.specs.Prelude.{count_by}
-use Rattle.session_log.specs.Lines.{lines}
-use Rattle.session_log.specs.Faults.{is_session_line}
-use Rattle.session_log.specs.Blocks.{blocks_of}
+use Rattle.session_log.proofs.Prelude.{◌≡◌, ◌+◌, ◌≤◌, ◌++◌, length, count_by, lines, is_session_line, blocks_of}
 use Rattle.session_log.proofs.Cutting.{blocks_from, AreWithin}
 use Rattle.session_log.proofs.block.cut_lines.Given as goal
 

@@ -1,5 +1,4 @@
-use Rattle.std.proofs.Common.{length, sym, ◌∙◌}
-use Rattle.std.proofs.lemmas.Bool.{eqb-true}
+use Rattle.session_log.proofs.Prelude.{length, sym, ◌∙◌, eqb-true}
 use Rattle.session_log.proofs.Versions.{header_fits, body_behind}
 use Rattle.session_log.proofs.Cutting.{no_blocks, empty_fits}
 use Rattle.session_log.proofs.block.cut_within.Goals as goal

@@ -1,5 +1,4 @@
-use Rattle.std.proofs.Common.{arith, ◌-◌, drop}
-use Rattle.std.proofs.lemmas.List.{length-take}
+use Rattle.session_log.proofs.Prelude.{arith, ◌-◌, drop, length-take}
 use Rattle.session_log.proofs.Lying.{lies}
 use Rattle.session_log.proofs.block.parse_block.Goals as goal
 

@@ -1,7 +1,4 @@
-use Rattle.std.proofs.Common.{◌+◌, arith, sym, refl, length, ◌∙◌}
-use Rattle.std.proofs.lemmas.Bool.{eqb-true}
-use Rattle.session_log.specs.Lines.{lines}
-use Rattle.session_log.specs.Faults.{Start, Between}
+use Rattle.session_log.proofs.Prelude.{◌+◌, arith, sym, refl, length, ◌∙◌, eqb-true, lines, Start, Between}
 use Rattle.session_log.proofs.Steps.{block_some, block_others, fault_on, step_header, legal_header}
 use Rattle.session_log.proofs.Blocks.{start_text, start_legal, end_fault, end_accepted, end_known, end_held, end_text, closed_where}
 use Rattle.session_log.specs.declared.parse.LineState.TheVariants as progress

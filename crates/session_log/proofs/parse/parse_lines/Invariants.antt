@@ -1,8 +1,4 @@
-use Rattle.std.proofs.Common.{◌≡◌, ◌+◌, ◌≤◌, ◌∷◌, ◌++◌, length}
-use Rattle.session_log.specs.Lines.{lines}
-use Rattle.session_log.specs.Faults.{first_fault, Start, NoSessionLine}
-use Rattle.session_log.specs.Text.{text_of_lines}
-use Rattle.session_log.specs.Reading.{place_of, lines_of, IsLegalReading}
+use Rattle.session_log.proofs.Prelude.{◌≡◌, ◌+◌, ◌≤◌, ◌∷◌, ◌++◌, length, lines, first_fault, Start, NoSessionLine, text_of_lines, place_of, lines_of, IsLegalReading}
 use Rattle.session_log.specs.declared.line.Line.TheVariants as line
 use Rattle.session_log.proofs.parse.parse_lines.Given as goal
 

@@ -1,5 +1,4 @@
-use Rattle.std.proofs.Common.{None, refl, sym, ◌∙◌, arith}
-use Rattle.session_log.specs.declared.session.Outcome.TheVariants.{Commit, Abort, Unknown}
+use Rattle.session_log.proofs.Prelude.{None, refl, sym, ◌∙◌, arith, Commit, Abort, Unknown}
 use Rattle.session_log.proofs.Adding.{begun, read_more, write_more, ended}
 use Rattle.session_log.proofs.parse.with_line.Goals as goal
 use Rattle.session_log.proofs.parse.with_line.Goals.{in-Between+in-Begin, in-Inside+in-Write+in_ok-add-in-Write, in-Inside+in-Read+in_ok-add-in-Read, in-Inside+in-Commit+else-is_earlier+in_ok-push-in-Commit, in-Inside+in-Abort+in_ok-push-in-Abort, in-Inside+in-Unknown+in_ok-push-in-Unknown}

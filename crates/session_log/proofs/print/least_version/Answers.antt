@@ -1,5 +1,4 @@
-use Rattle.std.proofs.Common.{map, sym, ◌∙◌}
-use Rattle.session_log.specs.Text.{view}
+use Rattle.session_log.proofs.Prelude.{map, sym, ◌∙◌, view}
 use Rattle.session_log.proofs.Least.{least_is_one, least_is_two, least_is_three, any_viewed, stated_viewed}
 use Rattle.session_log.proofs.print.least_version.Goals as goal
 

@@ -1,7 +1,4 @@
-use Rattle.std.proofs.Common.{◌≡◌, ◌++◌, map, take}
-use Rattle.std.specs.List.{flat_map}
-use Rattle.session_log.specs.Text.{view, session_text, least_version}
-use Rattle.session_log.specs.Version.{header_text}
+use Rattle.session_log.proofs.Prelude.{◌≡◌, ◌++◌, map, take, flat_map, view, session_text, least_version, header_text}
 use Rattle.session_log.proofs.print.print_log.Given as goal
 
 abbrev pub invariant-loop-session : goal.invariant-loop-session

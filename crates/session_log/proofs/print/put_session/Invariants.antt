@@ -1,6 +1,4 @@
-use Rattle.std.proofs.Common.{◌≡◌, ◌++◌, ◌∷◌, map, take}
-use Rattle.std.specs.List.{flat_map}
-use Rattle.session_log.specs.Text.{view_txn, text_of_lines, txn_lines}
+use Rattle.session_log.proofs.Prelude.{◌≡◌, ◌++◌, ◌∷◌, map, take, flat_map, view_txn, text_of_lines, txn_lines}
 use Rattle.session_log.specs.declared.line.Line.TheVariants as line
 use Rattle.session_log.proofs.print.put_session.Given as goal
 

@@ -1,5 +1,4 @@
-use Rattle.std.proofs.Common.{◌≡◌, ◌++◌, ◌∷◌, map, take}
-use Rattle.session_log.specs.Text.{op_line, text_of_lines}
+use Rattle.session_log.proofs.Prelude.{◌≡◌, ◌++◌, ◌∷◌, map, take, op_line, text_of_lines}
 use Rattle.session_log.specs.declared.line.Line.TheVariants as line
 use Rattle.session_log.proofs.print.put_txn.Given as goal
 

@@ -1,6 +1,4 @@
-use Rattle.std.proofs.Common.{◌≡◌, ◌+◌, ◌<◌, ◌^◌, map, drop, length}
-use Rattle.std.specs.List.{flat_map}
-use Rattle.session_log.specs.Text.{view, session_lines, capped}
+use Rattle.session_log.proofs.Prelude.{◌≡◌, ◌+◌, ◌<◌, ◌^◌, map, drop, length, flat_map, view, session_lines, capped}
 use Rattle.session_log.proofs.session.line_count.Given as goal
 
 abbrev pub invariant-loop-session : goal.invariant-loop-session

@@ -1,5 +1,4 @@
-use Rattle.std.proofs.Common.{◌∷◌, ◌+◌, take, drop, sym, ◌∙◌, append_assoc, []}
-use Rattle.std.proofs.lemmas.List.{take_rest}
+use Rattle.session_log.proofs.Prelude.{◌∷◌, ◌+◌, take, drop, sym, ◌∙◌, append_assoc, [], take_rest}
 use Rattle.session_log.proofs.Lines.{lines_at, split_at_lf, lines_unended}
 use Rattle.session_log.proofs.words.next_line.Goals as goal
 

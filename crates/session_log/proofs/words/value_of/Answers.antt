@@ -1,4 +1,4 @@
-use Rattle.std.proofs.Common.{◌+◌, ◌*◌, arith, sym, ap, ◌∙◌}
+use Rattle.session_log.proofs.Prelude.{◌+◌, ◌*◌, arith, sym, ap, ◌∙◌}
 use Rattle.session_log.proofs.Digits.{value_more, value_over}
 use Rattle.session_log.proofs.words.value_of.Goals as goal
 

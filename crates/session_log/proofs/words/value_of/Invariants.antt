@@ -1,5 +1,4 @@
-use Rattle.std.proofs.Common.{◌≡◌, take}
-use Rattle.std.specs.Str.Parse.{digits_value}
+use Rattle.session_log.proofs.Prelude.{◌≡◌, take, digits_value}
 use Rattle.session_log.proofs.words.value_of.Given as goal
 
 abbrev pub invariant-loop-d : goal.invariant-loop-d

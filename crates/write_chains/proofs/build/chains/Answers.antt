@@ -1,5 +1,4 @@
-use Rattle.log_definitions.specs.Numbers.{log_of}
-use Rattle.chain_laws.proofs.Closed.{closed_is_cycle}
+use Rattle.write_chains.proofs.Prelude.{log_of, closed_is_cycle}
 use Rattle.write_chains.proofs.build.chains.Goals as goal
 
 pub returns-in-Some-clause-cycle : goal.returns-in-Some-clause-cycle

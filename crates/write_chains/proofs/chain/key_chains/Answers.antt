@@ -1,12 +1,5 @@
-use Rattle.std.proofs.Common.{◌≡◌, ℕ, List, ◌+◌, ◌++◌, ◌∷◌, [], true, false, not, take, sym, ap, ◌∙◌, subst, arith}
-use Rattle.std.specs.Prelude.{map, is_some}
-use Rattle.std.specs.List.{filter}
-use Rattle.std.proofs.lemmas.List.{take_more, take_all, map-append}
-use Rattle.log_definitions.specs.Numbers.{log_of}
-use Rattle.chain_laws.specs.Chains.{next, readers}
-use Rattle.write_chains.specs.Views.{ChainView, chain_view, chain_from, chains_in, group_view}
-use Rattle.write_chains.specs.Held.{KeyView}
-use Rattle.write_chains.specs.Lists.{AreLists}
+use Rattle.write_chains.proofs.Prelude.{◌≡◌, ℕ, List, ◌+◌, ◌++◌, ◌∷◌, [], true, false, not, take, sym, ap, ◌∙◌, subst, arith, map, is_some, filter, take_more, take_all, map-append, log_of, next, readers, ChainView, chain_view, chain_from}
+use Rattle.write_chains.proofs.Prelude.{chains_in, group_view, KeyView, AreLists}
 use Rattle.write_chains.proofs.Nexts.{writer_at, fit}
 use Rattle.write_chains.proofs.Heads.{reads_nothing, heads_among, chain_is, head_more, head_passed}
 use Rattle.write_chains.proofs.chain.key_chains.Goals as goal

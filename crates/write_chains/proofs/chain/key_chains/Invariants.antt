@@ -1,8 +1,4 @@
-use Rattle.std.proofs.Common.{◌≡◌, take}
-use Rattle.std.specs.Prelude.{map}
-use Rattle.std.specs.List.{filter}
-use Rattle.log_definitions.specs.Numbers.{log_of}
-use Rattle.write_chains.specs.Views.{chain_view, chain_from}
+use Rattle.write_chains.proofs.Prelude.{◌≡◌, take, map, filter, log_of, chain_view, chain_from}
 use Rattle.write_chains.proofs.Heads.{reads_nothing}
 use Rattle.write_chains.proofs.chain.key_chains.Given as goal
 

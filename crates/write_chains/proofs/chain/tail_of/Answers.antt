@@ -1,6 +1,4 @@
-use Rattle.std.proofs.Common.{◌≡◌, ◌+◌, ◌-◌, ◌<◌, suc, None, Some, get_or, length, sym, ap, ◌∙◌, arith}
-use Rattle.std.proofs.lemmas.List.{get_or_default}
-use Rattle.write_chains.specs.Walks.{end_by}
+use Rattle.write_chains.proofs.Prelude.{◌≡◌, ◌+◌, ◌-◌, ◌<◌, suc, None, Some, get_or, length, sym, ap, ◌∙◌, arith, get_or_default, end_by}
 use Rattle.write_chains.proofs.Heads.{end_some, end_none}
 use Rattle.write_chains.proofs.chain.tail_of.Goals as goal
 

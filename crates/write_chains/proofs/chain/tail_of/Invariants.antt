@@ -1,6 +1,4 @@
-use Rattle.std.proofs.Common.{◌≡◌, ℕ, ◌+◌, ◌-◌, ◌<◌, Option, length}
-use Rattle.write_chains.specs.Lists.{IsTable}
-use Rattle.write_chains.specs.Walks.{end_by}
+use Rattle.write_chains.proofs.Prelude.{◌≡◌, ℕ, ◌+◌, ◌-◌, ◌<◌, Option, length, IsTable, end_by}
 use Rattle.write_chains.proofs.chain.tail_of.Given as goal
 
 abbrev pub invariant-loop-step : goal.invariant-loop-step

@@ -1,8 +1,4 @@
-use Rattle.std.proofs.Common.{sym, subst, inl, inr, arith}
-use Rattle.std.proofs.lemmas.Bool.{cases_eq, cases_lt}
-use Rattle.log_definitions.specs.Numbers.{log_of}
-use Rattle.chain_laws.specs.Chains.{NoneCloses}
-use Rattle.chain_laws.proofs.Closed.{closed_key}
+use Rattle.write_chains.proofs.Prelude.{sym, subst, inl, inr, arith, cases_eq, cases_lt, log_of, NoneCloses, closed_key}
 use Rattle.write_chains.proofs.closed.closed_chain.Goals as goal
 
 pub loop-key-preserved : goal.loop-key-preserved

@@ -1,6 +1,4 @@
-use Rattle.std.proofs.Common.{ℕ, ◌<◌}
-use Rattle.log_definitions.specs.Numbers.{log_of}
-use Rattle.chain_laws.specs.Chains.{NoneCloses}
+use Rattle.write_chains.proofs.Prelude.{ℕ, ◌<◌, log_of, NoneCloses}
 use Rattle.write_chains.proofs.closed.closed_chain.Given as goal
 
 abbrev pub invariant-loop-key : goal.invariant-loop-key

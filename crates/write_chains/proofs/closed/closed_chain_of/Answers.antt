@@ -1,8 +1,4 @@
-use Rattle.std.proofs.Common.{subst}
-use Rattle.std.specs.List.{AllByRecursion}
-use Rattle.std.proofs.lemmas.List.{take_all}
-use Rattle.log_definitions.specs.Numbers.{log_of}
-use Rattle.write_chains.specs.Walks.{IsOpen}
+use Rattle.write_chains.proofs.Prelude.{subst, AllByRecursion, take_all, log_of, IsOpen}
 use Rattle.write_chains.proofs.Nexts.{writer_at}
 use Rattle.write_chains.proofs.Backwards.{none_closes}
 use Rattle.write_chains.proofs.closed.closed_chain_of.Goals as goal

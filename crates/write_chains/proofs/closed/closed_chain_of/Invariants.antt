@@ -1,7 +1,4 @@
-use Rattle.std.proofs.Common.{take}
-use Rattle.std.specs.List.{AllByRecursion}
-use Rattle.log_definitions.specs.Numbers.{log_of}
-use Rattle.write_chains.specs.Walks.{IsOpen, AreOpen}
+use Rattle.write_chains.proofs.Prelude.{take, AllByRecursion, log_of, IsOpen, AreOpen}
 use Rattle.write_chains.proofs.closed.closed_chain_of.Given as goal
 
 abbrev pub invariant-loop-writer : goal.invariant-loop-writer

@@ -1,6 +1,4 @@
-use Rattle.std.proofs.Common.{ℕ, All}
-use Rattle.serializability.specs.Log.{Log}
-use Rattle.write_chains.specs.Walks.{IsOpen, AreOpen}
+use Rattle.write_chains.proofs.Prelude.{ℕ, All, Log, IsOpen, AreOpen}
 use Rattle.write_chains.proofs.closed.mark.Given as goal
 
 abbrev pub invariant-loop-node : goal.invariant-loop-node

@@ -1,10 +1,5 @@
-use Rattle.std.proofs.Common.{ℕ, length, length-append, sym, ap, ◌∙◌, subst, arith, eqb-true}
-use Rattle.std.specs.List.{AllByRecursion}
-use Rattle.std.proofs.lemmas.Bool.{eqb-false}
-use Rattle.std.proofs.lemmas.List.Elements.{All-from_recursion}
-use Rattle.log_definitions.specs.Numbers.{log_of}
+use Rattle.write_chains.proofs.Prelude.{ℕ, length, length-append, sym, ap, ◌∙◌, subst, arith, eqb-true, AllByRecursion, eqb-false, All-from_recursion, log_of, IsOpen}
 use Rattle.session_history.proofs.Kept.{no_ops_at_zero}
-use Rattle.write_chains.specs.Walks.{IsOpen}
 use Rattle.write_chains.proofs.Backwards.{alone, none_at_zero, stepped, came_back, line_short, all_open, writer_open}
 use Rattle.write_chains.proofs.closed.walk_back.Goals as goal
 

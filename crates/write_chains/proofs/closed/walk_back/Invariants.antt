@@ -1,5 +1,4 @@
-use Rattle.std.proofs.Common.{◌+◌, ◌-◌, length}
-use Rattle.log_definitions.specs.Numbers.{log_of}
+use Rattle.write_chains.proofs.Prelude.{◌+◌, ◌-◌, length, log_of}
 use Rattle.write_chains.proofs.Backwards.{WalkedBack}
 use Rattle.write_chains.proofs.closed.walk_back.Given as goal
 

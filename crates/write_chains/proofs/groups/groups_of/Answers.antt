@@ -1,9 +1,4 @@
-use Rattle.std.proofs.Common.{◌≡◌, ◌<◌, ◌++◌, ◌∷◌, [], ℕ, List, length, refl, sym, ap, ◌∙◌, arith}
-use Rattle.std.specs.Prelude.{map}
-use Rattle.std.proofs.lemmas.Bool.{eqb-true, eqb-false}
-use Rattle.std.proofs.lemmas.List.{map-append}
-use Rattle.std.proofs.lemmas.Option.{slice_get_read}
-use Rattle.write_chains.specs.Views.{group_view}
+use Rattle.write_chains.proofs.Prelude.{◌≡◌, ◌<◌, ◌++◌, ◌∷◌, [], ℕ, List, length, refl, sym, ap, ◌∙◌, arith, map, eqb-true, eqb-false, map-append, slice_get_read, group_view}
 use Rattle.write_chains.proofs.Pushes.{list_at}
 use Rattle.write_chains.proofs.Holding.{group_added, group_passed}
 use Rattle.write_chains.proofs.groups.groups_of.Goals as goal

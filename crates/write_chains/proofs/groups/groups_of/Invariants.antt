@@ -1,8 +1,4 @@
-use Rattle.std.proofs.Common.{◌≡◌, ℕ, List}
-use Rattle.std.specs.Prelude.{map}
-use Rattle.session_history.specs.Tables.{pairs}
-use Rattle.write_chains.specs.Lists.{AreLists, unless_empty}
-use Rattle.write_chains.specs.Views.{group_view}
+use Rattle.write_chains.proofs.Prelude.{◌≡◌, ℕ, List, map, pairs, AreLists, unless_empty, group_view}
 use Rattle.write_chains.proofs.groups.groups_of.Given as goal
 
 abbrev pub invariant-loop-number : goal.invariant-loop-number

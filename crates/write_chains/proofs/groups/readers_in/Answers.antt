@@ -1,7 +1,5 @@
-use Rattle.std.proofs.Common.{◌<◌, ◌∙◌, ap, arith, rules}
+use Rattle.write_chains.proofs.Prelude.{◌<◌, ◌∙◌, ap, arith, rules, unless_empty, group_view}
 use Rattle.std.proofs.lemmas.List.Sorted.{answers_always}
-use Rattle.write_chains.specs.Lists.{unless_empty}
-use Rattle.write_chains.specs.Views.{group_view}
 use Rattle.session_history.proofs.Searched.{item_found, item_absent}
 use Rattle.write_chains.proofs.Holding.{list_found, list_absent}
 use Rattle.write_chains.proofs.groups.readers_in.Goals as goal

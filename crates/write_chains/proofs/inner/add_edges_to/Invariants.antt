@@ -1,5 +1,4 @@
-use Rattle.std.proofs.Common.{◌≡◌, ◌++◌, Some, take}
-use Rattle.write_chains.specs.Views.{edges_before}
+use Rattle.write_chains.proofs.Prelude.{◌≡◌, ◌++◌, Some, take, edges_before}
 use Rattle.write_chains.proofs.inner.add_edges_to.Given as goal
 
 abbrev pub invariant-loop-reader : goal.invariant-loop-reader

@@ -1,8 +1,4 @@
-use Rattle.std.proofs.Common.{◌≡◌, ◌+◌, ◌<◌, ◌++◌, None, Some, length, refl, sym, ap, ◌∙◌, arith}
-use Rattle.std.specs.List.{flat_map, range_with_len}
-use Rattle.std.proofs.lemmas.List.{append-nil, get_or_read}
-use Rattle.std.proofs.lemmas.Option.{slice_get_read}
-use Rattle.write_chains.specs.Views.{edges_before}
+use Rattle.write_chains.proofs.Prelude.{◌≡◌, ◌+◌, ◌<◌, ◌++◌, None, Some, length, refl, sym, ap, ◌∙◌, arith, flat_map, range_with_len, append-nil, get_or_read, slice_get_read, edges_before}
 use Rattle.write_chains.proofs.Inside.{edges_further}
 use Rattle.write_chains.proofs.Pushes.{list_at}
 use Rattle.write_chains.proofs.inner.add_inner_edges.Goals as goal

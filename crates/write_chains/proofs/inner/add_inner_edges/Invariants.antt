@@ -1,7 +1,4 @@
-use Rattle.std.proofs.Common.{◌≡◌, ℕ, ◌+◌, ◌++◌, List, Option}
-use Rattle.std.specs.List.{flat_map, range_with_len}
-use Rattle.write_chains.specs.Lists.{AreLists, IsTable}
-use Rattle.write_chains.specs.Views.{edges_before}
+use Rattle.write_chains.proofs.Prelude.{◌≡◌, ℕ, ◌+◌, ◌++◌, List, Option, flat_map, range_with_len, AreLists, IsTable, edges_before}
 use Rattle.write_chains.proofs.inner.add_inner_edges.Given as goal
 
 abbrev pub invariant-loop-node : goal.invariant-loop-node

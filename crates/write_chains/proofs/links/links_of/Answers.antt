@@ -1,11 +1,4 @@
-use Rattle.std.proofs.Common.{◌≡◌, ◌+◌, ◌<◌, sym, ap, ◌∙◌, subst, arith}
-use Rattle.std.specs.List.{AllByRecursion}
-use Rattle.std.proofs.lemmas.List.Elements.{All-from_recursion}
-use Rattle.serializability.specs.Polygraph.{committed}
-use Rattle.log_definitions.specs.Numbers.{log_of}
-use Rattle.write_chains.specs.declared.readings.Reading.{Reading}
-use Rattle.write_chains.specs.Lists.{AreLists}
-use Rattle.write_chains.specs.Readings.{readers_among}
+use Rattle.write_chains.proofs.Prelude.{◌≡◌, ◌+◌, ◌<◌, sym, ap, ◌∙◌, subst, arith, AllByRecursion, All-from_recursion, committed, log_of, Reading, AreLists, readers_among}
 use Rattle.write_chains.proofs.Pushes.{lists_same}
 use Rattle.write_chains.proofs.Gathered.{sources_below, readers_all}
 use Rattle.write_chains.proofs.links.links_of.Goals as goal

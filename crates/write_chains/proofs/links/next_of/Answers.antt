@@ -1,7 +1,4 @@
-use Rattle.std.proofs.Common.{◌≡◌, ◌+◌, ◌++◌, ◌∷◌, [], ◌<◌, List, ℕ, Option, Some, take, set, length, sym, ap, ◌∙◌, subst, arith}
-use Rattle.std.proofs.lemmas.List.{take_more, take_all}
-use Rattle.log_definitions.specs.Numbers.{log_of}
-use Rattle.serializability.proofs.Sources.{source_within}
+use Rattle.write_chains.proofs.Prelude.{◌≡◌, ◌+◌, ◌++◌, ◌∷◌, [], ◌<◌, List, ℕ, Option, Some, take, set, length, sym, ap, ◌∙◌, subst, arith, take_more, take_all, log_of, source_within}
 use Rattle.write_chains.proofs.Nexts.{NextAmong, writer_at, next_added, next_passed, next_all}
 use Rattle.write_chains.proofs.links.next_of.Goals as goal
 use Rattle.write_chains.proofs.links.next_of.Goals.{in-Some, in_default}

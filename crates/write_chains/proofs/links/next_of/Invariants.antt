@@ -1,5 +1,4 @@
-use Rattle.std.proofs.Common.{take}
-use Rattle.log_definitions.specs.Numbers.{log_of}
+use Rattle.write_chains.proofs.Prelude.{take, log_of}
 use Rattle.write_chains.proofs.Nexts.{NextAmong}
 use Rattle.write_chains.proofs.links.next_of.Given as goal
 

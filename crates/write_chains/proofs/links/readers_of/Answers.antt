@@ -1,6 +1,4 @@
-use Rattle.std.proofs.Common.{◌≡◌, ◌+◌, ◌++◌, ◌∷◌, [], take, cond, eqb, sym, ap, ◌∙◌}
-use Rattle.std.proofs.lemmas.List.{take_more}
-use Rattle.write_chains.specs.Readings.{readers_among}
+use Rattle.write_chains.proofs.Prelude.{◌≡◌, ◌+◌, ◌++◌, ◌∷◌, [], take, cond, eqb, sym, ap, ◌∙◌, take_more, readers_among}
 use Rattle.write_chains.proofs.Pushes.{lists_same}
 use Rattle.write_chains.proofs.Gathered.{readers_push}
 use Rattle.write_chains.proofs.links.readers_of.Goals as goal

@@ -1,6 +1,4 @@
-use Rattle.std.proofs.Common.{take}
-use Rattle.write_chains.specs.Lists.{AreLists}
-use Rattle.write_chains.specs.Readings.{readers_among}
+use Rattle.write_chains.proofs.Prelude.{take, AreLists, readers_among}
 use Rattle.write_chains.proofs.links.readers_of.Given as goal
 
 abbrev pub invariant-loop-reading : goal.invariant-loop-reading

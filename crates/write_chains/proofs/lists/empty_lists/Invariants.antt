@@ -1,5 +1,4 @@
-use Rattle.std.proofs.Common.{[]}
-use Rattle.write_chains.specs.Lists.{AreLists}
+use Rattle.write_chains.proofs.Prelude.{[], AreLists}
 use Rattle.write_chains.proofs.lists.empty_lists.Given as goal
 
 abbrev pub invariant-loop-i : goal.invariant-loop-i

@@ -1,4 +1,4 @@
-use Rattle.std.proofs.lemmas.Option.{slice_get-get_or}
+use Rattle.write_chains.proofs.Prelude.{slice_get-get_or}
 use Rattle.write_chains.proofs.Pushes.{lists_pushed}
 use Rattle.write_chains.proofs.lists.push_at.Goals as goal
 

@@ -1,6 +1,4 @@
-use Rattle.std.proofs.Common.{◌≡◌, ◌+◌, ◌++◌, ◌∷◌, [], take, sym, ap, ◌∙◌, append_assoc}
-use Rattle.std.proofs.lemmas.List.{take_more, take_all}
-use Rattle.write_chains.specs.Readings.{readings_by}
+use Rattle.write_chains.proofs.Prelude.{◌≡◌, ◌+◌, ◌++◌, ◌∷◌, [], take, sym, ap, ◌∙◌, append_assoc, take_more, take_all, readings_by}
 use Rattle.write_chains.proofs.Pushes.{lists_same}
 use Rattle.write_chains.proofs.Gathered.{readings_push}
 use Rattle.write_chains.proofs.readings.add_reads.Goals as goal

@@ -1,7 +1,4 @@
-use Rattle.std.proofs.Common.{◌≡◌, ℕ, List, ◌++◌, length, take}
-use Rattle.write_chains.specs.Lists.{AreLists}
-use Rattle.write_chains.specs.Readings.{readings_by}
-use Rattle.write_chains.specs.declared.readings.Reading.{Reading}
+use Rattle.write_chains.proofs.Prelude.{◌≡◌, ℕ, List, ◌++◌, length, take, AreLists, readings_by, Reading}
 use Rattle.write_chains.proofs.readings.add_reads.Given as goal
 
 abbrev pub invariant-loop-read : goal.invariant-loop-read

@@ -1,10 +1,4 @@
-use Rattle.std.proofs.Common.{ℕ, ◌-◌, ◌<◌, ◌++◌, ◌∷◌, [], sym, ap, ◌∙◌, subst, arith}
-use Rattle.std.specs.List.{AllByRecursion, range_with_len}
-use Rattle.std.proofs.lemmas.List.Elements.{All-from_recursion}
-use Rattle.serializability.proofs.Places.{each_of_map}
-use Rattle.log_definitions.specs.Numbers.{log_of}
-use Rattle.session_history.specs.declared.reads.ReadFrom.{ReadFrom}
-use Rattle.write_chains.specs.Readings.{readings_among}
+use Rattle.write_chains.proofs.Prelude.{ℕ, ◌-◌, ◌<◌, ◌++◌, ◌∷◌, [], sym, ap, ◌∙◌, subst, arith, AllByRecursion, range_with_len, All-from_recursion, each_of_map, log_of, ReadFrom, readings_among}
 use Rattle.write_chains.proofs.Pushes.{lists_same}
 use Rattle.write_chains.proofs.Gathered.{all_keys_below, readings_one, readings_further}
 use Rattle.write_chains.proofs.readings.readings_of.Goals as goal

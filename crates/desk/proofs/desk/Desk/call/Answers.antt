@@ -1,6 +1,5 @@
-use Rattle.std.proofs.Common.{◌≡◌, ap, subst, false, ◌∙◌}
+use Rattle.desk.proofs.Prelude.{◌≡◌, ap, subst, false, ◌∙◌, IsEntered}
 use Rattle.std.proofs.lemmas.Result.{IfOk-weaker}
-use Rattle.desk.specs.History.{IsEntered}
 use Rattle.desk.proofs.Legal.{entered-weaker}
 use Rattle.desk.proofs.desk.Desk.call.Goals as goal
 

@@ -1,6 +1,4 @@
-use Rattle.std.proofs.Common.{All, sym, ap, subst, ◌≡◌, ◌∙◌}
-use Rattle.desk.specs.History.{part_of}
-use Rattle.desk.specs.Seats.{HasSeatsTo, IsLeastMissing}
+use Rattle.desk.proofs.Prelude.{All, sym, ap, subst, ◌≡◌, ◌∙◌, part_of, HasSeatsTo, IsLeastMissing}
 use Rattle.desk.proofs.desk.Desk.close.Goals as goal
 
 pub returns-in-Some-clause-least : goal.returns-in-Some-clause-least

@@ -1,6 +1,4 @@
-use Rattle.std.proofs.Common.{◌≡◌, ap, subst}
-use Rattle.std.specs.Bool.{⊤}
-use Rattle.desk.specs.History.{IsEntered}
+use Rattle.desk.proofs.Prelude.{◌≡◌, ap, subst, ⊤, IsEntered}
 use Rattle.desk.proofs.Legal.{entered-weaker}
 use Rattle.desk.proofs.desk.Desk.leave.Goals as goal
 

@@ -1,5 +1,4 @@
-use Rattle.std.proofs.Common.{length, sym, ap, ◌∙◌, subst}
-use Rattle.desk.specs.Rows.{AreNamed}
+use Rattle.desk.proofs.Prelude.{length, sym, ap, ◌∙◌, subst, AreNamed}
 use Rattle.desk.proofs.Seating.{length-names_of}
 use Rattle.desk.proofs.desk.Desk.open.Goals as goal
 

@@ -1,6 +1,4 @@
-use Rattle.std.proofs.Common.{◌≡◌, [], ◌∷◌, ◌++◌, false, sym, ap, ◌∙◌, subst, arith}
-use Rattle.std.specs.Prelude.{Result, Ok, Err, OnOk, is_err}
-use Rattle.desk.specs.History.{entry, opening_of}
+use Rattle.desk.proofs.Prelude.{◌≡◌, [], ◌∷◌, ◌++◌, false, sym, ap, ◌∙◌, subst, arith, Result, Ok, Err, OnOk, is_err, entry, opening_of}
 use Rattle.desk.proofs.Legal.{entered-push, reached-push}
 use Rattle.desk.proofs.Tied.{staying_le}
 use Rattle.desk.proofs.guarded.Guarded.call.Goals as goal

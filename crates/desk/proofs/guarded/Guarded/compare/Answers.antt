@@ -1,7 +1,4 @@
-use Rattle.std.proofs.Common.{◌≡◌, ◌+◌, ◌-◌, ◌≤◌, Some, sym, ap, ◌∙◌, subst, arith}
-use Rattle.std.specs.Prelude.{slice_get, vec_len, vec_capacity}
-use Rattle.desk.specs.History.{part_of}
-use Rattle.desk.specs.Rows.{AreTied, staying}
+use Rattle.desk.proofs.Prelude.{◌≡◌, ◌+◌, ◌-◌, ◌≤◌, Some, sym, ap, ◌∙◌, subst, arith, slice_get, vec_len, vec_capacity, part_of, AreTied, staying}
 use Rattle.desk.proofs.Tied.{row_at, same_again}
 use Rattle.desk.proofs.guarded.Guarded.compare.Goals as goal
 

@@ -1,5 +1,4 @@
-use Rattle.std.proofs.Common.{◌≡◌, sym, ap, subst}
-use Rattle.desk.specs.History.{opening_of}
+use Rattle.desk.proofs.Prelude.{◌≡◌, sym, ap, subst, opening_of}
 use Rattle.desk.proofs.Legal.{entered-push, reached-push}
 use Rattle.desk.proofs.guarded.Guarded.leave.Goals as goal
 

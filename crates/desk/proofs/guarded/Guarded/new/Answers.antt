@@ -1,9 +1,4 @@
-use Rattle.std.proofs.Common.{◌≡◌, ℕ, ◌+◌, List, [], length, Some, refl, sym, ap, ◌∙◌, subst, arith}
-use Rattle.std.specs.Prelude.{slice_get}
-use Rattle.desk.specs.declared.history.Entry.{Entry}
-use Rattle.desk.specs.declared.row.SeatRow.{SeatRow}
-use Rattle.desk.specs.History.{part_of, IsReached, opening_of}
-use Rattle.desk.specs.Rows.{AreTied, names_of}
+use Rattle.desk.proofs.Prelude.{◌≡◌, ℕ, ◌+◌, List, [], length, Some, refl, sym, ap, ◌∙◌, subst, arith, slice_get, Entry, SeatRow, part_of, IsReached, opening_of, AreTied, names_of}
 use Rattle.desk.proofs.Tied.{staying_le}
 use Rattle.desk.proofs.Seating.{length-names_of, name_at}
 use Rattle.desk.proofs.guarded.Guarded.new.Goals as goal

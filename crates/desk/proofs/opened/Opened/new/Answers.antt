@@ -1,4 +1,4 @@
-use Rattle.std.proofs.Common.{sym, ◌∙◌}
+use Rattle.desk.proofs.Prelude.{sym, ◌∙◌}
 use Rattle.desk.proofs.Seating.{length-names_of}
 use Rattle.desk.proofs.opened.Opened.new.Goals as goal
 

@@ -1,7 +1,4 @@
-use Rattle.std.proofs.Common.{◌≡◌, ℕ, ◌+◌, ◌*◌, List, length, drop, sym, ap, ◌∙◌, subst}
-use Rattle.std.proofs.lemmas.List.{take_at}
-use Rattle.known_graph.specs.Bits.{row_len}
-use Rattle.known_graph.specs.Held.{marked_graph, IsMarked}
+use Rattle.known_graph.proofs.Prelude.{◌≡◌, ℕ, ◌+◌, ◌*◌, List, length, drop, sym, ap, ◌∙◌, subst, take_at, row_len, marked_graph, IsMarked}
 use Rattle.known_graph.proofs.Edges.{marked_nodes}
 use Rattle.known_graph.proofs.bit_table.BitTable.copy_from.Goals as goal
 

@@ -1,5 +1,4 @@
-use Rattle.std.proofs.Common.{◌<◌, sym, ap, subst, arith, rules, tests}
-use Rattle.std.specs.List.{Contains}
+use Rattle.known_graph.proofs.Prelude.{◌<◌, sym, ap, subst, arith, rules, tests, Contains}
 use Rattle.known_graph.proofs.Edges.{marked_nodes, edge_of_Contains}
 use Rattle.known_graph.proofs.bit_table.BitTable.has.Goals as goal
 

@@ -1,7 +1,4 @@
-use Rattle.std.proofs.Common.{◌≡◌, ◌↔◌, ◌⊎◌, ℕ, ◌++◌, length, take, drop, sym, ap, ◌∙◌, subst}
-use Rattle.std.specs.List.{Contains}
-use Rattle.std.proofs.lemmas.List.{take_at}
-use Rattle.known_graph.specs.Held.{marked_graph, IsMarked}
+use Rattle.known_graph.proofs.Prelude.{◌≡◌, ◌↔◌, ◌⊎◌, ℕ, ◌++◌, length, take, drop, sym, ap, ◌∙◌, subst, Contains, take_at, marked_graph, IsMarked}
 use Rattle.known_graph.proofs.Edges.{JoinsRow, marked_nodes, node_in, row_within, joins_row, join_keeps, join_edges}
 use Rattle.known_graph.proofs.bit_table.BitTable.join_row.Goals as goal
 

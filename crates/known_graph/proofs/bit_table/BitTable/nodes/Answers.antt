@@ -1,5 +1,4 @@
-use Rattle.std.proofs.Common.{sym, ap, ◌∙◌, subst}
-use Rattle.known_graph.specs.Graphs.{IsBitGraph}
+use Rattle.known_graph.proofs.Prelude.{sym, ap, ◌∙◌, subst, IsBitGraph}
 use Rattle.known_graph.proofs.Edges.{marked_nodes, bit_graph}
 use Rattle.known_graph.proofs.bit_table.BitTable.nodes.Goals as goal
 

@@ -1,6 +1,4 @@
-use Rattle.std.proofs.Common.{◌≡◌, ◌↔◌, ℕ, true, ◌≤◌, ◌+◌, ◌*◌, length, sym, ap, ◌∙◌, subst, arith, rules}
-use Rattle.std.specs.List.{Contains}
-use Rattle.known_graph.specs.Bits.{bit_of, row_len}
+use Rattle.known_graph.proofs.Prelude.{◌≡◌, ◌↔◌, ℕ, true, ◌≤◌, ◌+◌, ◌*◌, length, sym, ap, ◌∙◌, subst, arith, rules, Contains, bit_of, row_len}
 use Rattle.known_graph.proofs.Edges.{marked_nodes, node_in, row_of, row_edges, row_shown, row_small, row_within, length-row_of}
 use Rattle.known_graph.proofs.bit_table.BitTable.row.Goals as goal
 

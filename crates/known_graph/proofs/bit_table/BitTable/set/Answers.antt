@@ -1,8 +1,4 @@
-use Rattle.std.proofs.Common.{◌≡◌, ◌↔◌, ◌⊎◌, ◌++◌, length, take, drop, sym, ap, ◌∙◌, subst, arith}
-use Rattle.std.specs.List.{Contains}
-use Rattle.std.proofs.lemmas.List.{take_at}
-use Rattle.serializability.specs.Polygraph.{Edge}
-use Rattle.known_graph.specs.Held.{marked_graph, IsMarked}
+use Rattle.known_graph.proofs.Prelude.{◌≡◌, ◌↔◌, ◌⊎◌, ◌++◌, length, take, drop, sym, ap, ◌∙◌, subst, arith, Contains, take_at, Edge, marked_graph, IsMarked}
 use Rattle.known_graph.proofs.Edges.{marked_nodes, bit_graph, sets_place, set_keeps, set_edges}
 use Rattle.known_graph.proofs.bit_table.BitTable.set.Goals as goal
 

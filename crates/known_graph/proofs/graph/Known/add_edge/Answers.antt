@@ -1,4 +1,4 @@
-use Rattle.std.proofs.Common.{inl, arith}
+use Rattle.known_graph.proofs.Prelude.{inl, arith}
 use Rattle.known_graph.proofs.Edges.{known_graph}
 use Rattle.known_graph.proofs.graph.Known.add_edge.Goals as goal
 

@@ -1,5 +1,4 @@
-use Rattle.std.proofs.Common.{◌≤◌, length, sym, ◌∙◌, arith}
-use Rattle.std.proofs.lemmas.Bool.{false≢true, le-leb, leb-true}
+use Rattle.known_graph.proofs.Prelude.{◌≤◌, length, sym, ◌∙◌, arith, false≢true, le-leb, leb-true}
 use Rattle.known_graph.proofs.Lines.{walk_from_steps, steps_from_walk, steps_more, step_read}
 use Rattle.known_graph.proofs.graph.Known.check_walk.Goals as goal
 

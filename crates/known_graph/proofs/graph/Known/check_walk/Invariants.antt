@@ -1,5 +1,4 @@
-use Rattle.std.proofs.Common.{ℕ, suc, ◌<◌, get_or}
-use Rattle.std.specs.List.{Contains}
+use Rattle.known_graph.proofs.Prelude.{ℕ, suc, ◌<◌, get_or, Contains}
 use Rattle.known_graph.proofs.graph.Known.check_walk.Given as goal
 
 abbrev pub invariant-loop-i : goal.invariant-loop-i

@@ -1,4 +1,4 @@
-use Rattle.std.proofs.Common.{◌+◌, ap, arith}
+use Rattle.known_graph.proofs.Prelude.{◌+◌, ap, arith}
 use Rattle.known_graph.proofs.Rests.{piece_begun, piece_more, before}
 use Rattle.known_graph.proofs.Rows.{all_edges, row_ended, rows_ended, row_first, edge_first, pair_added}
 use Rattle.known_graph.proofs.graph.Known.edges.Goals as goal

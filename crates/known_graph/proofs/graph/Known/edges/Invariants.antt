@@ -1,5 +1,4 @@
-use Rattle.std.proofs.Common.{◌≡◌, ◌+◌, ◌++◌}
-use Rattle.known_graph.specs.Graphs.{IsKnownGraph}
+use Rattle.known_graph.proofs.Prelude.{◌≡◌, ◌+◌, ◌++◌, IsKnownGraph}
 use Rattle.known_graph.proofs.Rests.{up_to}
 use Rattle.known_graph.proofs.Rows.{edges_from, edges_to}
 use Rattle.known_graph.proofs.graph.Known.edges.Given as goal

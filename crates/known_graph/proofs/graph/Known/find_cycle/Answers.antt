@@ -1,5 +1,4 @@
-use Rattle.std.proofs.Common.{sym, ◌∙◌, arith}
-use Rattle.reach_laws.specs.Reach.{Reaches, IsWalk}
+use Rattle.known_graph.proofs.Prelude.{sym, ◌∙◌, arith, Reaches, IsWalk}
 use Rattle.known_graph.proofs.Walked.{cycle_within, where_none, no_cycle_more}
 use Rattle.known_graph.proofs.graph.Known.find_cycle.Goals as goal
 

@@ -1,5 +1,4 @@
-use Rattle.std.proofs.Common.{ℕ, ◌<◌}
-use Rattle.reach_laws.specs.Reach.{Reaches}
+use Rattle.known_graph.proofs.Prelude.{ℕ, ◌<◌, Reaches}
 use Rattle.known_graph.proofs.graph.Known.find_cycle.Given as goal
 
 abbrev pub invariant-loop-number : goal.invariant-loop-number

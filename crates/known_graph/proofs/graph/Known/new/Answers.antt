@@ -1,4 +1,4 @@
-use Rattle.std.proofs.Common.{arith}
+use Rattle.known_graph.proofs.Prelude.{arith}
 use Rattle.known_graph.proofs.Edges.{begun_none, begun_more, begun_known, begun_edges}
 use Rattle.known_graph.proofs.graph.Known.new.Goals as goal
 

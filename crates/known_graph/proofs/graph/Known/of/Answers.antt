@@ -1,7 +1,4 @@
-use Rattle.std.proofs.Common.{◌≡◌, ◌↔◌, ◌<◌, ◌≤◌, ◌∙◌, subst, arith}
-use Rattle.std.specs.List.{Contains}
-use Rattle.log_definitions.specs.Numbers.{log_of}
-use Rattle.serializability.specs.Polygraph.{Edge}
+use Rattle.known_graph.proofs.Prelude.{◌≡◌, ◌↔◌, ◌<◌, ◌≤◌, ◌∙◌, subst, arith, Contains, log_of, Edge}
 use Rattle.known_graph.proofs.ArcSets.{arcs_none, arcs_more, arcs_all}
 use Rattle.known_graph.proofs.graph.Known.of.Goals as goal
 

@@ -1,4 +1,4 @@
-use Rattle.log_definitions.specs.Numbers.{log_of}
+use Rattle.known_graph.proofs.Prelude.{log_of}
 use Rattle.known_graph.proofs.ArcSets.{HasArcsBelow}
 use Rattle.known_graph.proofs.graph.Known.of.Given as goal
 

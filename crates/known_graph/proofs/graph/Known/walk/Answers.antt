@@ -1,9 +1,4 @@
-use Rattle.std.proofs.Common.{◌≡◌, ◌/◌, ◌<◌, ◌++◌, length, [], ◌∷◌, sym, ap, ◌∙◌, subst, arith}
-use Rattle.std.specs.List.{Contains}
-use Rattle.known_graph.specs.Bits.{row_len}
-use Rattle.reach_laws.specs.Reach.{IsWalk}
-use Rattle.std.proofs.lemmas.Bool.{false≢true}
-use Rattle.known_graph.specs.Tree.{node_at, IsTree}
+use Rattle.known_graph.proofs.Prelude.{◌≡◌, ◌/◌, ◌<◌, ◌++◌, length, [], ◌∷◌, sym, ap, ◌∙◌, subst, arith, Contains, row_len, IsWalk, false≢true, node_at, IsTree}
 use Rattle.known_graph.proofs.Words.{only_bit}
 use Rattle.known_graph.proofs.Edges.{node_word}
 use Rattle.known_graph.proofs.Trees.{node_read}

@@ -1,5 +1,4 @@
-use Rattle.std.proofs.Common.{◌≡◌, length}
-use Rattle.known_graph.specs.Bits.{row_len}
+use Rattle.known_graph.proofs.Prelude.{◌≡◌, length, row_len}
 use Rattle.known_graph.proofs.Searched.{IsSearched}
 use Rattle.known_graph.proofs.graph.Known.walk.Given as goal
 

@@ -1,5 +1,4 @@
-use Rattle.std.proofs.Common.{◌||◌, replicate, refl, ap, ◌∙◌, arith}
-use Rattle.known_graph.specs.Bits.{bit_of}
+use Rattle.known_graph.proofs.Prelude.{◌||◌, replicate, refl, ap, ◌∙◌, arith, bit_of}
 use Rattle.known_graph.proofs.Words.{only_bit, bit_of-zeros}
 use Rattle.known_graph.proofs.Grouped.{group_alone, row_len_small}
 use Rattle.known_graph.proofs.groups.Group.of.Goals as goal

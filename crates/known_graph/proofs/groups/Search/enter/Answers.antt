@@ -1,6 +1,4 @@
-use Rattle.std.proofs.Common.{◌||◌, eqb, length, ap, ◌∙◌, arith}
-use Rattle.std.proofs.lemmas.List.{length_push}
-use Rattle.known_graph.specs.Bits.{bit_of}
+use Rattle.known_graph.proofs.Prelude.{◌||◌, eqb, length, ap, ◌∙◌, arith, length_push, bit_of}
 use Rattle.known_graph.proofs.Grouped.{left_after}
 use Rattle.known_graph.proofs.groups.Search.enter.Goals as goal
 

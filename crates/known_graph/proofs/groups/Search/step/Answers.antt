@@ -1,4 +1,4 @@
-use Rattle.std.proofs.Common.{arith}
+use Rattle.known_graph.proofs.Prelude.{arith}
 use Rattle.known_graph.proofs.Grouped.{search_closed}
 use Rattle.known_graph.proofs.groups.Search.step.Goals as goal
 

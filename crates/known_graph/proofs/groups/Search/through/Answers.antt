@@ -1,7 +1,4 @@
-use Rattle.std.proofs.Common.{[], sym, ◌∙◌}
-use Rattle.std.proofs.lemmas.Bool.{false≢true}
-use Rattle.std.proofs.lemmas.List.Elements.{All-nil, All-same}
-use Rattle.known_graph.specs.Groups.{IsGroup}
+use Rattle.known_graph.proofs.Prelude.{[], sym, ◌∙◌, false≢true, All-nil, All-same, IsGroup}
 use Rattle.known_graph.proofs.Words.{bit_of-zeros}
 use Rattle.known_graph.proofs.groups.Search.through.Goals as goal
 

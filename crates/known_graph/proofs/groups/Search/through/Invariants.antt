@@ -1,4 +1,4 @@
-use Rattle.known_graph.specs.Groups.{IsSearch, work_left}
+use Rattle.known_graph.proofs.Prelude.{IsSearch, work_left}
 use Rattle.known_graph.proofs.groups.Search.through.Given as goal
 
 abbrev pub invariant-loop-group : goal.invariant-loop-group

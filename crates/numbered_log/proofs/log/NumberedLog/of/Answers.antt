@@ -1,11 +1,6 @@
-use Rattle.std.proofs.Common.{List, map, subst, nat_cmp}
-use Rattle.std.specs.BTreeSet.{contains}
+use Rattle.numbered_log.proofs.Prelude.{List, map, subst, nat_cmp, contains, view, Committed, IsLearnt, IsNumbering}
 use Rattle.std.proofs.lemmas.Result.{IfOk-weaker}
-use Rattle.session_log.specs.Text.{view}
-use Rattle.log_definitions.specs.Serial.{Committed}
-use Rattle.log_definitions.proofs.Settled.{IsLearnt}
 use Rattle.log_laws.proofs.Txns.{split}
-use Rattle.numbered_log.specs.Numbering.{IsNumbering}
 use Rattle.numbered_log.proofs.Passing.{nodes_learnt}
 use Rattle.numbered_log.proofs.log.NumberedLog.of.Goals as goal
 

@@ -1,14 +1,5 @@
-use Rattle.std.proofs.Common.{◌≡◌, ◌++◌, List, length, take, map, Some, sym, ap, ◌∙◌, subst, arith}
-use Rattle.std.specs.Prelude.{slice_get}
-use Rattle.std.specs.List.{flat_map}
-use Rattle.std.proofs.lemmas.List.{take_all}
-use Rattle.list_lemmas.proofs.Elements.{item, get_map}
-use Rattle.session_log.specs.Text.{Transaction, view_txn}
+use Rattle.numbered_log.proofs.Prelude.{◌≡◌, ◌++◌, List, length, take, map, Some, sym, ap, ◌∙◌, subst, arith, slice_get, flat_map, take_all, item, get_map, Transaction, view_txn, settle, nodes_from, length_mapped, IsMade}
 use Rattle.session_log.specs.declared.session.Txn.{Txn}
-use Rattle.log_definitions.specs.Unknown.{settle}
-use Rattle.log_laws.proofs.Sessions.{nodes_from}
-use Rattle.serializability.proofs.Places.{length_mapped}
-use Rattle.numbered_log.specs.Making.{IsMade}
 use Rattle.numbered_log.proofs.Passing.{txn_more}
 use Rattle.numbered_log.proofs.making.Making.add_session.Goals as goal
 

@@ -1,12 +1,4 @@
-use Rattle.std.proofs.Common.{◌≡◌, ◌++◌, ℕ, List, Some, map, take}
-use Rattle.std.specs.Prelude.{slice_get}
-use Rattle.std.specs.List.{flat_map}
-use Rattle.session_log.specs.Text.{Transaction, view_txn}
-use Rattle.session_log.specs.declared.session.Op.{Op}
-use Rattle.log_definitions.specs.Unknown.{settle}
-use Rattle.log_definitions.specs.Serial.{Committed}
-use Rattle.log_laws.proofs.Sessions.{nodes_from}
-use Rattle.numbered_log.specs.Making.{FindsAll, IsMade}
+use Rattle.numbered_log.proofs.Prelude.{◌≡◌, ◌++◌, ℕ, List, Some, map, take, slice_get, flat_map, Transaction, view_txn, Op, settle, Committed, nodes_from, FindsAll, IsMade}
 use Rattle.numbered_log.proofs.making.Making.add_session.Given as goal
 
 abbrev pub invariant-loop-i : goal.invariant-loop-i

@@ -1,4 +1,4 @@
-use Rattle.std.proofs.Common.{refl}
+use Rattle.reach_rows.proofs.Prelude.{refl}
 use Rattle.reach_rows.proofs.Growing.{rows_grown, rows_kept}
 use Rattle.reach_rows.proofs.bit_rows.Rows.add_edge.Goals as goal
 

@@ -1,5 +1,4 @@
-use Rattle.std.proofs.Common.{sym, subst}
-use Rattle.known_graph.specs.Held.{IsMarked}
+use Rattle.reach_rows.proofs.Prelude.{sym, subst, IsMarked}
 use Rattle.reach_rows.proofs.Behind.{rows_all, rows_marked}
 use Rattle.reach_rows.proofs.bit_rows.Rows.compute.Goals as goal
 

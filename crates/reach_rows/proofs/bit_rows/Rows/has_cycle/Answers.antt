@@ -1,6 +1,4 @@
-use Rattle.std.proofs.Common.{ℕ, sym, ◌∙◌, arith, below_more, refl}
-use Rattle.std.specs.List.{Contains}
-use Rattle.std.proofs.lemmas.Bool.{false≢true}
+use Rattle.reach_rows.proofs.Prelude.{ℕ, sym, ◌∙◌, arith, below_more, refl, Contains, false≢true}
 use Rattle.reach_rows.proofs.bit_rows.Rows.has_cycle.Goals as goal
 
 pub loop-number-init : goal.loop-number-init

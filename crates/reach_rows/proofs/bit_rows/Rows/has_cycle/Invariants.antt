@@ -1,5 +1,4 @@
-use Rattle.std.proofs.Common.{ℕ, ◌<◌}
-use Rattle.std.specs.List.{Contains}
+use Rattle.reach_rows.proofs.Prelude.{ℕ, ◌<◌, Contains}
 use Rattle.reach_rows.proofs.bit_rows.Rows.has_cycle.Given as goal
 
 abbrev pub invariant-loop-number : goal.invariant-loop-number

@@ -1,8 +1,4 @@
-use Rattle.std.proofs.Common.{◌≡◌, refl, ◌∙◌, ◌≤◌, ap, sym, subst, [], Some, length, Contains, arith}
-use Rattle.std.proofs.lemmas.List.{nil_from_length}
-use Rattle.refutation.specs.Follows.{IsRefuted}
-use Rattle.refutation.specs.Numbered.{clause_at}
-use Rattle.refutation.specs.Standing.{Standing}
+use Rattle.refutation.proofs.Prelude.{◌≡◌, refl, ◌∙◌, ◌≤◌, ap, sym, subst, [], Some, length, Contains, arith, nil_from_length, IsRefuted, clause_at, Standing}
 use Rattle.refutation.proofs.Units.{refuted_at, has_empty, has_no_empty}
 use Rattle.refutation.proofs.checker.Checker.is_refuted.Goals as goal
 

@@ -1,5 +1,4 @@
-use Rattle.std.proofs.Common.{◌≡◌, ℕ, ◌<◌, [], Some}
-use Rattle.refutation.specs.Numbered.{clause_at}
+use Rattle.refutation.proofs.Prelude.{◌≡◌, ℕ, ◌<◌, [], Some, clause_at}
 use Rattle.refutation.proofs.checker.Checker.is_refuted.Given as goal
 
 abbrev pub invariant-loop-number : goal.invariant-loop-number

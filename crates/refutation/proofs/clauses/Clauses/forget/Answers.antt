@@ -1,6 +1,4 @@
-use Rattle.std.proofs.Common.{◌∙◌, ap, None, slice_set}
-use Rattle.std.proofs.lemmas.List.{map-set}
-use Rattle.refutation.specs.Stored.{clause_in}
+use Rattle.refutation.proofs.Prelude.{◌∙◌, ap, None, slice_set, map-set, clause_in}
 use Rattle.refutation.proofs.clauses.Clauses.forget.Goals as goal
 
 pub returns-then-number-len : goal.returns-then-number-len

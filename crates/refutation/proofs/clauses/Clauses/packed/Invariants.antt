@@ -1,4 +1,4 @@
-use Rattle.std.proofs.Common.{◌≡◌, take}
+use Rattle.refutation.proofs.Prelude.{◌≡◌, take}
 use Rattle.refutation.proofs.clauses.Clauses.packed.Given as goal
 
 abbrev pub invariant-loop-number : goal.invariant-loop-number

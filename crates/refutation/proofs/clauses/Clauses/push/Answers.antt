@@ -1,6 +1,5 @@
-use Rattle.std.proofs.Common.{rules, ◌≡◌, ◌++◌, length, ◌∙◌, ap}
+use Rattle.refutation.proofs.Prelude.{rules, ◌≡◌, ◌++◌, length, ◌∙◌, ap, clauses_in, AreWithin}
 use Rattle.std.specs.Vec.{vec_len}
-use Rattle.refutation.specs.Stored.{clauses_in, AreWithin}
 use Rattle.refutation.proofs.Stores.{clauses_before, within_pushed, on_err}
 use Rattle.refutation.proofs.clauses.Clauses.push.Goals as goal
 

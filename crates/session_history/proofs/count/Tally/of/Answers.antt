@@ -1,7 +1,4 @@
-use Rattle.std.proofs.Common.{List, map, take, sym, refl, subst}
-use Rattle.session_log.specs.Text.{Transaction, ClientSession, view}
-use Rattle.log_definitions.specs.Unknown.{txns_in}
-use Rattle.session_history.specs.Counted.{IsTally}
+use Rattle.session_history.proofs.Prelude.{List, map, take, sym, refl, subst, Transaction, ClientSession, view, txns_in, IsTally}
 use Rattle.session_history.proofs.Stepping.{step_in}
 use Rattle.session_history.proofs.count.Tally.of.Goals as goal
 

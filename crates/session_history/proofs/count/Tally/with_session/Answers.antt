@@ -1,6 +1,4 @@
-use Rattle.std.proofs.Common.{◌++◌, ◌∷◌, [], List, map, take, ap, sym, subst, ◌∙◌, append_assoc}
-use Rattle.session_log.specs.Text.{Transaction, view_txn}
-use Rattle.session_history.specs.Counted.{IsTally}
+use Rattle.session_history.proofs.Prelude.{◌++◌, ◌∷◌, [], List, map, take, ap, sym, subst, ◌∙◌, append_assoc, Transaction, view_txn, IsTally}
 use Rattle.session_history.proofs.Stepping.{step, stepped}
 use Rattle.session_history.proofs.count.Tally.with_session.Goals as goal
 

@@ -1,6 +1,4 @@
-use Rattle.std.proofs.Common.{◌++◌, List, map, take}
-use Rattle.session_log.specs.Text.{Transaction, view_txn}
-use Rattle.session_history.specs.Counted.{IsTally}
+use Rattle.session_history.proofs.Prelude.{◌++◌, List, map, take, Transaction, view_txn, IsTally}
 use Rattle.session_history.proofs.count.Tally.with_session.Given as goal
 
 abbrev pub invariant-loop-txn : goal.invariant-loop-txn

@@ -1,8 +1,4 @@
-use Rattle.std.proofs.Common.{ap, sym, ◌∙◌, map}
-use Rattle.session_log.specs.Text.{view}
-use Rattle.session_log.specs.Version.{first_line}
-use Rattle.log_definitions.specs.WellFormed.{list_fault}
-use Rattle.log_definitions.proofs.Scanning.{rules_where_no_fault, no_fault_where_rules}
+use Rattle.session_history.proofs.Prelude.{ap, sym, ◌∙◌, map, view, first_line, list_fault, rules_where_no_fault, no_fault_where_rules}
 use Rattle.session_history.proofs.log.History.build.Goals as goal
 
 pub of-requires-clause-sound : goal.of-requires-clause-sound

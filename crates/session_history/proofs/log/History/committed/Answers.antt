@@ -1,5 +1,4 @@
-use Rattle.std.proofs.Common.{◌∙◌, ap, arith}
-use Rattle.log_definitions.specs.Numbers.{log_of}
+use Rattle.session_history.proofs.Prelude.{◌∙◌, ap, arith, log_of}
 use Rattle.session_history.proofs.Kept.{nodes_kept, nodes_few}
 use Rattle.session_history.proofs.log.History.committed.Goals as goal
 

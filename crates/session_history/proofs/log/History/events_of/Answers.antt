@@ -1,5 +1,4 @@
-use Rattle.std.proofs.Common.{◌∙◌, ap, sym, []}
-use Rattle.std.specs.Option.{option_map_or}
+use Rattle.session_history.proofs.Prelude.{◌∙◌, ap, sym, [], option_map_or}
 use Rattle.session_history.proofs.Kept.{ops_kept}
 use Rattle.session_history.proofs.log.History.events_of.Goals as goal
 

@@ -1,6 +1,4 @@
-use Rattle.std.proofs.Common.{◌∙◌, ap, arith, sym, slice_get}
-use Rattle.log_definitions.specs.WellFormed.{keys_in}
-use Rattle.log_definitions.specs.Numbers.{log_of}
+use Rattle.session_history.proofs.Prelude.{◌∙◌, ap, arith, sym, slice_get, keys_in, log_of}
 use Rattle.session_history.proofs.Kept.{keys_kept, key_kept}
 use Rattle.session_history.proofs.log.History.key_text.Goals as goal
 

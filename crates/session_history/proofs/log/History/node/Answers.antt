@@ -1,5 +1,4 @@
-use Rattle.std.proofs.Common.{◌∙◌, ap, arith}
-use Rattle.session_history.specs.Held.{node_kept}
+use Rattle.session_history.proofs.Prelude.{◌∙◌, ap, arith, node_kept}
 use Rattle.session_history.proofs.Kept.{node_got, none_at_zero}
 use Rattle.session_history.proofs.log.History.node.Goals as goal
 

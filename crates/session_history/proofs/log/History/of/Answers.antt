@@ -1,18 +1,6 @@
-use Rattle.std.proofs.Common.{[], refl, ◌<◌, ℕ, List, ap, sym, ◌∙◌, arith, length, map, subst, All}
-use Rattle.session_log.specs.Text.{view}
-use Rattle.serializability.specs.Events.{event_key}
-use Rattle.session_history.specs.Taken.{placed_in}
-use Rattle.log_definitions.specs.Unknown.{ops_in, resolved}
-use Rattle.session_history.specs.declared.nodes.Node.{Node}
-use Rattle.session_history.specs.Counted.{CountsAll}
-use Rattle.session_log.specs.declared.session.Session.{Session}
+use Rattle.session_history.proofs.Prelude.{[], refl, ◌<◌, ℕ, List, ap, sym, ◌∙◌, arith, length, map, subst, All, view, event_key, placed_in, ops_in, resolved, Node, CountsAll, Session, node_among, few_nodes, rules_where_no_fault, log_nodes}
+use Rattle.session_history.proofs.Prelude.{KeepsPlaces, keys_among}
 use Rattle.session_history.proofs.Tabled.{events_within, named_node, keys_held, nodes_held, count_held, writes_held, rows_held, readers_held, reads_held}
-use Rattle.session_history.specs.Naming.{node_among}
-use Rattle.log_definitions.proofs.FewNodes.{few_nodes}
-use Rattle.log_definitions.proofs.Scanning.{rules_where_no_fault}
-use Rattle.log_definitions.proofs.Nodes.{log_nodes}
-use Rattle.session_history.specs.Numbering.{KeepsPlaces}
-use Rattle.session_history.specs.Taken.{keys_among}
 use Rattle.session_history.proofs.Seen.{no_places, places_seen}
 use Rattle.session_history.proofs.log.History.of.Goals as goal
 

@@ -1,7 +1,4 @@
-use Rattle.std.proofs.Common.{◌∙◌, ap, arith, length}
-use Rattle.std.proofs.lemmas.Option.{slice_get_past}
-use Rattle.log_definitions.specs.Numbers.{log_of}
-use Rattle.session_history.specs.Tables.{sources_of}
+use Rattle.session_history.proofs.Prelude.{◌∙◌, ap, arith, length, slice_get_past, log_of, sources_of}
 use Rattle.session_history.proofs.Kept.{sources_past, sources_at_zero}
 use Rattle.session_history.proofs.log.History.reads_of.Goals as goal
 

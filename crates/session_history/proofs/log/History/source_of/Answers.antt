@@ -1,7 +1,4 @@
-use Rattle.std.proofs.Common.{rules}
-use Rattle.std.proofs.lemmas.List.Sorted.{answers_always}
-use Rattle.log_definitions.specs.Numbers.{log_of}
-use Rattle.serializability.specs.Polygraph.{source}
+use Rattle.session_history.proofs.Prelude.{rules, answers_always, log_of, source}
 use Rattle.session_history.proofs.Searched.{item_found, item_absent}
 use Rattle.session_history.proofs.log.History.source_of.Goals as goal
 

@@ -1,10 +1,4 @@
-use Rattle.std.proofs.Common.{List, sym, subst}
-use Rattle.std.specs.Prelude.{MatchOption}
-use Rattle.session_log.specs.Text.{ClientSession}
-use Rattle.log_definitions.specs.Numbers.{log_of}
-use Rattle.session_history.specs.declared.writes.Written.{Written}
-use Rattle.session_history.specs.Writes.{IsUnwritten, IsWrite}
-use Rattle.session_history.specs.Held.{sessions_of}
+use Rattle.session_history.proofs.Prelude.{List, sym, subst, MatchOption, ClientSession, log_of, Written, IsUnwritten, IsWrite, sessions_of}
 use Rattle.session_history.proofs.Identified.{found}
 use Rattle.session_history.proofs.log.History.written.Goals as goal
 

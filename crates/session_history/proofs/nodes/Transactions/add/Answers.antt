@@ -1,6 +1,4 @@
-use Rattle.std.proofs.Common.{[], ap, sym, ◌∙◌, refl, arith, length}
-use Rattle.std.proofs.lemmas.List.{length-map}
-use Rattle.session_log.specs.Text.{view_txn}
+use Rattle.session_history.proofs.Prelude.{[], ap, sym, ◌∙◌, refl, arith, length, length-map, view_txn}
 use Rattle.session_history.proofs.Taking.{takes_committed, takes_aborted, length-txn_lines}
 use Rattle.session_history.proofs.nodes.Transactions.add.Goals as goal
 

@@ -1,11 +1,5 @@
-use Rattle.std.proofs.Common.{◌≡◌, ◌<◌, arith, List, [], ◌∷◌, length, get_or, map, take, subst, refl}
-use Rattle.std.specs.List.{flat_map}
-use Rattle.std.proofs.lemmas.List.{take_all}
+use Rattle.session_history.proofs.Prelude.{◌≡◌, ◌<◌, arith, List, [], ◌∷◌, length, get_or, map, take, subst, refl, flat_map, take_all, settle, Takes, placed_from, Txn, view_txn, txn_lines}
 use Rattle.session_log.specs.declared.line.Line.TheVariants as line
-use Rattle.log_definitions.specs.Unknown.{settle}
-use Rattle.session_history.specs.Taken.{Takes, placed_from}
-use Rattle.session_log.specs.declared.session.Txn.{Txn}
-use Rattle.session_log.specs.Text.{view_txn, txn_lines}
 use Rattle.session_history.proofs.Taking.{txns_more, txns_left, nodes_counted, takes_more, takes_header}
 use Rattle.session_history.proofs.nodes.Transactions.add_session.Goals as goal
 

@@ -1,9 +1,4 @@
-use Rattle.std.proofs.Common.{◌≡◌, ◌+◌, ◌<◌, ◌≤◌, ◌^◌, map, take, drop, length, count_by}
-use Rattle.std.specs.List.{flat_map}
-use Rattle.session_log.specs.Text.{view_txn, txn_lines}
-use Rattle.log_definitions.specs.Unknown.{is_committed, settle}
-use Rattle.session_history.specs.Numbering.{FindsEach}
-use Rattle.session_history.specs.Taken.{Takes, placed_from}
+use Rattle.session_history.proofs.Prelude.{◌≡◌, ◌+◌, ◌<◌, ◌≤◌, ◌^◌, map, take, drop, length, count_by, flat_map, view_txn, txn_lines, is_committed, settle, FindsEach, Takes, placed_from}
 use Rattle.session_history.proofs.nodes.Transactions.add_session.Given as goal
 
 abbrev pub invariant-loop-txn : goal.invariant-loop-txn

@@ -1,12 +1,5 @@
-use Rattle.std.proofs.Common.{◌∙◌, ap, arith, Bool, List, length, map, count_by, nat_cmp, subst}
-use Rattle.std.specs.BTreeSet.{contains}
-use Rattle.std.proofs.lemmas.List.{take_all}
-use Rattle.session_log.specs.Text.{view, session_lines}
-use Rattle.session_log.specs.declared.session.Session.{Session}
-use Rattle.log_definitions.specs.Unknown.{is_committed, settle, settled}
-use Rattle.log_definitions.specs.WellFormed.{log_lines, writes_from}
-use Rattle.session_history.specs.Written.{HasSeen}
-use Rattle.session_history.specs.Taken.{HoldsAll, Takes, placed_in, placed_from}
+use Rattle.session_history.proofs.Prelude.{◌∙◌, ap, arith, Bool, List, length, map, count_by, nat_cmp, subst, contains, take_all, view, session_lines, Session, is_committed, settle, settled, log_lines, writes_from, HasSeen, HoldsAll, Takes}
+use Rattle.session_history.proofs.Prelude.{placed_in, placed_from}
 use Rattle.session_history.proofs.Taking.{sessions_more, sessions_left, sessions_none, nodes_counted, count_placed, all_seen, all_taken}
 use Rattle.session_history.proofs.nodes.Transactions.of.Goals as goal
 

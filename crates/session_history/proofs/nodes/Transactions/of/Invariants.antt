@@ -1,10 +1,4 @@
-use Rattle.std.proofs.Common.{◌+◌, ◌<◌, ◌≤◌, ◌^◌, map, take, drop, length, count_by, nat_cmp}
-use Rattle.session_log.specs.Text.{view}
-use Rattle.std.specs.BTreeSet.{contains}
-use Rattle.log_definitions.specs.Unknown.{is_committed, txns_in, settled}
-use Rattle.log_definitions.specs.WellFormed.{log_lines}
-use Rattle.session_history.specs.Numbering.{FindsEach}
-use Rattle.session_history.specs.Taken.{Takes, placed_in}
+use Rattle.session_history.proofs.Prelude.{◌+◌, ◌<◌, ◌≤◌, ◌^◌, map, take, drop, length, count_by, nat_cmp, view, contains, is_committed, txns_in, settled, log_lines, FindsEach, Takes, placed_in}
 use Rattle.session_history.proofs.nodes.Transactions.of.Given as goal
 
 abbrev pub invariant-loop-session : goal.invariant-loop-session

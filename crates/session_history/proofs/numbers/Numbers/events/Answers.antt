@@ -1,7 +1,4 @@
-use Rattle.std.proofs.Common.{ap, ◌∙◌}
-use Rattle.std.proofs.lemmas.List.{take_all}
-use Rattle.log_definitions.specs.WellFormed.{first_seen}
-use Rattle.log_definitions.specs.Numbers.{events_of}
+use Rattle.session_history.proofs.Prelude.{ap, ◌∙◌, take_all, first_seen, events_of}
 use Rattle.session_history.proofs.Seen.{keys_more, events_more}
 use Rattle.session_history.proofs.numbers.Numbers.events.Goals as goal
 

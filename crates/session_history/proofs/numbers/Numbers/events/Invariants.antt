@@ -1,8 +1,4 @@
-use Rattle.std.proofs.Common.{◌≡◌, ℕ, List, map, take}
-use Rattle.log_definitions.specs.WellFormed.{first_seen}
-use Rattle.session_log.specs.Text.{key_of}
-use Rattle.log_definitions.specs.Numbers.{events_of}
-use Rattle.session_history.specs.Numbering.{FindsEach}
+use Rattle.session_history.proofs.Prelude.{◌≡◌, ℕ, List, map, take, first_seen, key_of, events_of, FindsEach}
 use Rattle.session_history.proofs.numbers.Numbers.events.Given as goal
 
 abbrev pub invariant-loop-op : goal.invariant-loop-op

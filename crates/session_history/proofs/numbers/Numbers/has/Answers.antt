@@ -1,7 +1,4 @@
-use Rattle.std.proofs.Common.{ap, ◌∙◌, sym, refl, Some, length, slice_get}
-use Rattle.std.proofs.lemmas.Bool.{ltb-true}
-use Rattle.std.proofs.lemmas.Option.{slice_get_read}
-use Rattle.std.proofs.lemmas.Slice.Eq.{bytes_eq-Decides}
+use Rattle.session_history.proofs.Prelude.{ap, ◌∙◌, sym, refl, Some, length, slice_get, ltb-true, slice_get_read, bytes_eq-Decides}
 use Rattle.session_history.proofs.numbers.Numbers.has.Goals as goal
 
 pub returns-in-Some : goal.returns-in-Some

@@ -1,4 +1,4 @@
-use Rattle.std.proofs.Common.{arith}
+use Rattle.session_history.proofs.Prelude.{arith}
 use Rattle.session_history.proofs.Seen.{no_places, none_found}
 use Rattle.session_history.proofs.numbers.Numbers.new.Goals as goal
 

@@ -1,4 +1,4 @@
-use Rattle.std.proofs.Common.{sym, ◌∙◌}
+use Rattle.session_history.proofs.Prelude.{sym, ◌∙◌}
 use Rattle.session_history.proofs.Seen.{listed_at, first_seen_known, number_stays}
 use Rattle.session_history.proofs.numbers.Numbers.number.Goals as goal
 

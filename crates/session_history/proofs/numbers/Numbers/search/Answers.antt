@@ -1,6 +1,4 @@
-use Rattle.std.proofs.Common.{sym, ◌∙◌, nat_cmp}
-use Rattle.std.specs.BTreeMap.{get}
-use Rattle.std.specs.Cmp.Lexicographic.{slice_cmp}
+use Rattle.session_history.proofs.Prelude.{sym, ◌∙◌, nat_cmp, get, slice_cmp}
 use Rattle.session_history.proofs.Seen.{number_stays, listed, not_listed, found_more, first_seen_known, first_seen_new, number_of_pushed, places_pushed}
 use Rattle.session_history.proofs.numbers.Numbers.search.Goals as goal
 

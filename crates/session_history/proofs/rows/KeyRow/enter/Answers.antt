@@ -1,4 +1,4 @@
-use Rattle.std.proofs.Common.{sym, ◌∙◌, refl}
+use Rattle.session_history.proofs.Prelude.{sym, ◌∙◌, refl}
 use Rattle.session_history.proofs.KeyRows.{is_writer, is_reader, write_first, write_again, read_first, read_written, read_again}
 use Rattle.session_history.proofs.rows.KeyRow.enter.Goals as goal
 use Rattle.session_history.proofs.rows.KeyRow.enter.Goals.{else-not-is_last_writer-2-via-then-not-is_last_writer-2+else-not-is_last_reader, else-not-is_last_writer-2-via-else-not-is_last_writer-2}

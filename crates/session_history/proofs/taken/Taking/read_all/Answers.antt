@@ -1,6 +1,4 @@
-use Rattle.std.proofs.Common.{◌+◌, take, ◌∷◌, []}
-use Rattle.list_lemmas.proofs.Lists.{front_more}
-use Rattle.session_history.specs.Tracked.{order_of, found_in}
+use Rattle.session_history.proofs.Prelude.{◌+◌, take, ◌∷◌, [], front_more, order_of, found_in}
 use Rattle.session_history.proofs.Found.{reads_more}
 use Rattle.session_history.proofs.taken.Taking.read_all.Goals as goal
 

@@ -1,6 +1,4 @@
-use Rattle.std.proofs.Common.{◌≡◌, take}
-use Rattle.session_history.specs.Worklist.{with_reads}
-use Rattle.session_history.specs.Tracked.{IsTaking, order_of, found_in}
+use Rattle.session_history.proofs.Prelude.{◌≡◌, take, with_reads, IsTaking, order_of, found_in}
 use Rattle.session_history.proofs.taken.Taking.read_all.Given as goal
 
 abbrev pub invariant-loop-op : goal.invariant-loop-op

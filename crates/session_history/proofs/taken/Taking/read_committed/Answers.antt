@@ -1,9 +1,4 @@
-use Rattle.std.proofs.Common.{◌+◌, List, map, take, refl}
-use Rattle.session_log.specs.Text.{ClientSession, view}
-use Rattle.session_log.specs.declared.session.Op.{Op}
-use Rattle.session_log.specs.declared.session.Outcome.TheVariants.{Commit}
-use Rattle.session_history.specs.Worklist.{ops_ended, committed_in_all}
-use Rattle.session_history.specs.Tracked.{order_of, found_in}
+use Rattle.session_history.proofs.Prelude.{◌+◌, List, map, take, refl, ClientSession, view, Op, Commit, ops_ended, committed_in_all, order_of, found_in}
 use Rattle.session_history.proofs.Stepping.{step_in}
 use Rattle.session_history.proofs.Found.{reads_more}
 use Rattle.session_history.proofs.taken.Taking.read_committed.Goals as goal

@@ -1,7 +1,4 @@
-use Rattle.std.proofs.Common.{◌≡◌, map, take}
-use Rattle.session_log.specs.Text.{view}
-use Rattle.session_history.specs.Worklist.{with_reads, committed_in_all}
-use Rattle.session_history.specs.Tracked.{IsTaking, order_of, found_in}
+use Rattle.session_history.proofs.Prelude.{◌≡◌, map, take, view, with_reads, committed_in_all, IsTaking, order_of, found_in}
 use Rattle.session_history.proofs.taken.Taking.read_committed.Given as goal
 
 abbrev pub invariant-loop-session : goal.invariant-loop-session

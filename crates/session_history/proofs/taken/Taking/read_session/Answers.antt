@@ -1,8 +1,4 @@
-use Rattle.std.proofs.Common.{◌+◌, ◌∷◌, [], cond, map, take, ◌∙◌, ap}
-use Rattle.std.proofs.lemmas.Grind.{flat_map-append}
-use Rattle.session_log.specs.Text.{Transaction, view_txn}
-use Rattle.session_history.specs.Worklist.{has_ended, ops_ended, with_reads}
-use Rattle.session_history.specs.Tracked.{order_of, found_in}
+use Rattle.session_history.proofs.Prelude.{◌+◌, ◌∷◌, [], cond, map, take, ◌∙◌, ap, flat_map-append, Transaction, view_txn, has_ended, ops_ended, with_reads, order_of, found_in}
 use Rattle.session_history.proofs.Stepping.{step, stepped}
 use Rattle.session_history.proofs.Found.{reads_more}
 use Rattle.session_history.proofs.taken.Taking.read_session.Goals as goal

@@ -1,7 +1,4 @@
-use Rattle.std.proofs.Common.{◌≡◌, map, take}
-use Rattle.session_log.specs.Text.{view_txn}
-use Rattle.session_history.specs.Worklist.{with_reads, ops_ended}
-use Rattle.session_history.specs.Tracked.{IsTaking, order_of, found_in}
+use Rattle.session_history.proofs.Prelude.{◌≡◌, map, take, view_txn, with_reads, ops_ended, IsTaking, order_of, found_in}
 use Rattle.session_history.proofs.taken.Taking.read_session.Given as goal
 
 abbrev pub invariant-loop-txn : goal.invariant-loop-txn

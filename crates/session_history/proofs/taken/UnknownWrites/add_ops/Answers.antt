@@ -1,7 +1,4 @@
-use Rattle.std.proofs.Common.{◌++◌, List, take, subst}
-use Rattle.session_log.specs.Text.{view}
-use Rattle.session_history.specs.Worklist.{WriteAt, writes_of}
-use Rattle.session_history.specs.Tracked.{FindsLast}
+use Rattle.session_history.proofs.Prelude.{◌++◌, List, take, subst, view, WriteAt, writes_of, FindsLast}
 use Rattle.session_history.proofs.Found.{ops_more}
 use Rattle.session_history.proofs.taken.UnknownWrites.add_ops.Goals as goal
 

@@ -1,7 +1,4 @@
-use Rattle.std.proofs.Common.{◌++◌, List, map, take}
-use Rattle.session_log.specs.Text.{view, view_txn}
-use Rattle.session_history.specs.Worklist.{WriteAt, unknown_writes_of}
-use Rattle.session_history.specs.Tracked.{FindsLast}
+use Rattle.session_history.proofs.Prelude.{◌++◌, List, map, take, view, view_txn, WriteAt, unknown_writes_of, FindsLast}
 use Rattle.session_history.proofs.taken.UnknownWrites.add_session.Given as goal
 
 abbrev pub invariant-loop-txn : goal.invariant-loop-txn

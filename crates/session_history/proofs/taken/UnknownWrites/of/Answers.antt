@@ -1,7 +1,4 @@
-use Rattle.std.proofs.Common.{List, map, take, sym, refl, subst}
-use Rattle.session_log.specs.Text.{ClientSession, view}
-use Rattle.session_history.specs.Worklist.{WriteAt, unknown_writes_of, unknown_writes}
-use Rattle.session_history.specs.Tracked.{FindsLast}
+use Rattle.session_history.proofs.Prelude.{List, map, take, sym, refl, subst, ClientSession, view, WriteAt, unknown_writes_of, unknown_writes, FindsLast}
 use Rattle.session_history.proofs.Stepping.{step_in}
 use Rattle.session_history.proofs.taken.UnknownWrites.of.Goals as goal
 

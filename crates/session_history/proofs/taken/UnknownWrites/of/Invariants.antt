@@ -1,7 +1,4 @@
-use Rattle.std.proofs.Common.{map, take}
-use Rattle.session_log.specs.Text.{view}
-use Rattle.session_history.specs.Worklist.{unknown_writes}
-use Rattle.session_history.specs.Tracked.{FindsLast}
+use Rattle.session_history.proofs.Prelude.{map, take, view, unknown_writes, FindsLast}
 use Rattle.session_history.proofs.taken.UnknownWrites.of.Given as goal
 
 abbrev pub invariant-loop-session : goal.invariant-loop-session

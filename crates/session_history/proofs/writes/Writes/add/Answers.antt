@@ -1,8 +1,6 @@
-use Rattle.std.proofs.Common.{◌+◌, ◌++◌, List, ℕ, ap, sym, subst, take, drop, refl, arith}
-use Rattle.std.proofs.lemmas.List.{take_all, take_more}
-use Rattle.serializability.specs.declared.event.Event.{Event}
+use Rattle.session_history.proofs.Prelude.{◌+◌, ◌++◌, List, ℕ, ap, sym, subst, take, drop, refl, arith, take_all, take_more, Event, HasSeen, writes_at, entry_of}
 use Rattle.serializability.specs.declared.event.Event.TheVariants.{Read}
-use Rattle.session_history.specs.Written.{HasSeen, IsTaking, writes_at, entry_of}
+use Rattle.session_history.specs.Written.{IsTaking}
 use Rattle.session_history.proofs.Writing.{lines_more, split_at_item, taking_none, taken_all, seen_same, taking_same}
 use Rattle.session_history.proofs.writes.Writes.add.Goals as goal
 

@@ -1,6 +1,5 @@
-use Rattle.std.proofs.Common.{◌≡◌, ℕ, ◌+◌, ◌++◌, List, [], take}
-use Rattle.serializability.specs.declared.event.Event.{Event}
-use Rattle.session_history.specs.Written.{HasSeen, IsTaking, writes_at}
+use Rattle.session_history.proofs.Prelude.{◌≡◌, ℕ, ◌+◌, ◌++◌, List, [], take, Event, HasSeen, writes_at}
+use Rattle.session_history.specs.Written.{IsTaking}
 use Rattle.session_history.proofs.writes.Writes.add.Given as goal
 
 abbrev pub invariant-loop-event : goal.invariant-loop-event

@@ -1,4 +1,4 @@
-use Rattle.std.proofs.Common.{sym, ap, ◌∙◌, refl, is_some, nat_eq, ◌++◌, ◌∷◌}
+use Rattle.session_history.proofs.Prelude.{sym, ap, ◌∙◌, refl, is_some, nat_eq, ◌++◌, ◌∷◌}
 use Rattle.session_history.proofs.Writing.{seen_twice, seen_again, seen_new, taking_new, none_from}
 use Rattle.session_history.proofs.writes.Writes.enter.Goals as goal
 

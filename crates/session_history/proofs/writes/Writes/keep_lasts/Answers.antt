@@ -1,4 +1,4 @@
-use Rattle.std.proofs.Common.{slice_index}
+use Rattle.session_history.proofs.Prelude.{slice_index}
 use Rattle.session_history.proofs.Writing.{lasts_more}
 use Rattle.session_history.proofs.writes.Writes.keep_lasts.Goals as goal
 

@@ -1,5 +1,4 @@
-use Rattle.std.proofs.Common.{◌≡◌, ℕ, slice_index, take, unwrap_or}
-use Rattle.serializability.specs.Reads.{last_write}
+use Rattle.session_history.proofs.Prelude.{◌≡◌, ℕ, slice_index, take, unwrap_or, last_write}
 use Rattle.session_history.proofs.writes.Writes.keep_lasts.Given as goal
 
 abbrev pub invariant-loop-event : goal.invariant-loop-event

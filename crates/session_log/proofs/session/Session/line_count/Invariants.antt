@@ -1,6 +1,4 @@
-use Rattle.std.proofs.Common.{◌≡◌, ◌+◌, ◌<◌, ◌^◌, map, drop, length}
-use Rattle.std.specs.List.{flat_map}
-use Rattle.session_log.specs.Text.{view, view_txn, txn_lines, session_lines, capped}
+use Rattle.session_log.proofs.Prelude.{◌≡◌, ◌+◌, ◌<◌, ◌^◌, map, drop, length, flat_map, view, view_txn, txn_lines, session_lines, capped}
 use Rattle.session_log.proofs.session.Session.line_count.Given as goal
 
 abbrev pub invariant-loop-txn : goal.invariant-loop-txn

@@ -1,8 +1,4 @@
-use Rattle.std.proofs.Common.{◌<◌, ◌∙◌, ap, arith}
-use Rattle.std.specs.Prelude.{map}
-use Rattle.log_definitions.specs.Numbers.{log_of}
-use Rattle.write_chains.specs.Views.{chain_view, chains_in}
-use Rattle.write_chains.specs.Held.{sessions_of}
+use Rattle.write_chains.proofs.Prelude.{◌<◌, ◌∙◌, ap, arith, map, log_of, chain_view, chains_in, sessions_of}
 use Rattle.write_chains.proofs.Holding.{keys_held, key_held}
 use Rattle.write_chains.proofs.all.Chains.chains_of.Goals as goal
 

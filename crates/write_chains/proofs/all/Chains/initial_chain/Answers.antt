@@ -1,7 +1,4 @@
-use Rattle.std.proofs.Common.{◌<◌, ◌∙◌, ap, arith}
-use Rattle.log_definitions.specs.Numbers.{log_of}
-use Rattle.write_chains.specs.Views.{chain_from}
-use Rattle.write_chains.specs.Held.{sessions_of}
+use Rattle.write_chains.proofs.Prelude.{◌<◌, ◌∙◌, ap, arith, log_of, chain_from, sessions_of}
 use Rattle.write_chains.proofs.Holding.{keys_held, key_held}
 use Rattle.write_chains.proofs.all.Chains.initial_chain.Goals as goal
 

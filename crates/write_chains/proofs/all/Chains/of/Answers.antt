@@ -1,6 +1,4 @@
-use Rattle.log_definitions.specs.Numbers.{log_of}
-use Rattle.chain_laws.specs.Chains.{next, readers}
-use Rattle.write_chains.specs.Held.{key_view, key_in}
+use Rattle.write_chains.proofs.Prelude.{log_of, next, readers, key_view, key_in}
 use Rattle.write_chains.proofs.Nexts.{fit}
 use Rattle.write_chains.proofs.Inside.{inner_further, mapped_further}
 use Rattle.write_chains.proofs.all.Chains.of.Goals as goal

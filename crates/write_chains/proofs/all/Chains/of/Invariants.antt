@@ -1,8 +1,4 @@
-use Rattle.std.proofs.Common.{◌≡◌}
-use Rattle.std.specs.Prelude.{map}
-use Rattle.std.specs.List.{flat_map, range_with_len}
-use Rattle.log_definitions.specs.Numbers.{log_of}
-use Rattle.write_chains.specs.Held.{key_view, key_in}
+use Rattle.write_chains.proofs.Prelude.{◌≡◌, map, flat_map, range_with_len, log_of, key_view, key_in}
 use Rattle.write_chains.proofs.Inside.{inner_of}
 use Rattle.write_chains.proofs.all.Chains.of.Given as goal
 

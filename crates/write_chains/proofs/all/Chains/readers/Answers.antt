@@ -1,9 +1,5 @@
-use Rattle.std.proofs.Common.{◌<◌, ◌+◌, ◌∙◌, ap, arith}
-use Rattle.std.specs.Prelude.{map}
-use Rattle.log_definitions.specs.Numbers.{log_of}
+use Rattle.write_chains.proofs.Prelude.{◌<◌, ◌+◌, ◌∙◌, ap, arith, map, log_of, group_view, sessions_of}
 use Rattle.chain_laws.specs.Chains as spec
-use Rattle.write_chains.specs.Views.{group_view}
-use Rattle.write_chains.specs.Held.{sessions_of}
 use Rattle.write_chains.proofs.Holding.{keys_held, key_held}
 use Rattle.write_chains.proofs.all.Chains.readers.Goals as goal
 
