@@ -1,6 +1,5 @@
 -- What a transaction did to a key, by its operations so far.
-use Rattle.std.specs.Prelude.{◌≡◌, ℕ, ◌+◌, ◌<◌, ◌≤◌, ◌==◌, not, Bool, false, if◌then◌else◌, List}
-use Rattle.std.specs.Prelude.{◌∷◌, ◌++◌, length, slice_index_or, Option, None, Some, IfSome}
+use Rattle.std.specs.Prelude.{◌≡◌, ℕ, ◌+◌, ◌<◌, ◌≤◌, ◌==◌, not, Bool, false, if◌then◌else◌, List, ◌∷◌, ◌++◌, length, slice_index_or, Option, None, Some, IfSome}
 use Rattle.std.specs.List.{list_any}
 use Rattle.serializability.specs.declared.event.Event.{Event}
 use Rattle.serializability.specs.declared.event.Event.TheVariants.{Read, Write}

@@ -1,6 +1,5 @@
 -- Parts of which none holds another one, the least first.
-use Rattle.std.specs.Prelude.{◌≡◌, ◌&&◌, Bool, true, false, nat_eq, ℕ, ◌≤◌, List, [], ◌∷◌, length}
-use Rattle.std.specs.Prelude.{AllPairs, Option, Some, None, String, string_bytes}
+use Rattle.std.specs.Prelude.{◌≡◌, ◌&&◌, Bool, true, false, nat_eq, ℕ, ◌≤◌, List, [], ◌∷◌, length, AllPairs, Option, Some, None, String, string_bytes}
 use Rattle.std.specs.List.{AllByRecursion, list_all, list_any}
 use Rattle.std.specs.Cmp.Lexicographic.{pointwise}
 use Rattle.std.specs.Str.{bytes_eq}

@@ -1,21 +1,14 @@
 -- The report as text.
-use Rattle.std.specs.Prelude.{ℕ, ◌==◌, nat_lt, Bool, true, false, ◌&&◌, if◌then◌else◌}
-use Rattle.std.specs.Prelude.{List, [], ◌∷◌, ◌++◌}
-use Rattle.std.specs.Prelude.{length, codes, decimal, count_by, Option, Some, None, is_some}
+use Rattle.std.specs.Prelude.{ℕ, ◌==◌, nat_lt, Bool, true, false, ◌&&◌, if◌then◌else◌, List, [], ◌∷◌, ◌++◌, length, codes, decimal, count_by, Option, Some, None, is_some, String}
 use Rattle.std.specs.List.{flat_map, list_any}
 use Rattle.std.specs.String.{string_bytes}
-use Rattle.std.specs.Prelude.{String}
 use Rattle.std.specs.declared.alloc.Global.{Global}
 use Rattle.isolation.specs.Levels.{level_title}
-use Rattle.audit_report.specs.Words.{code_number, finding_title, hint_text, word_text, word_of}
-use Rattle.audit_report.specs.Words.{verdict_text, kept_text, is_kept}
+use Rattle.audit_report.specs.Words.{code_number, finding_title, hint_text, word_text, word_of, verdict_text, kept_text, is_kept}
 use Rattle.judging.specs.declared.judged.Finding.{Finding}
 use Rattle.judging.specs.declared.judged.Finding.TheVariants as finding
 use Rattle.isolation.specs.declared.level.Isolation.{Isolation}
-use Rattle.isolation.specs.declared.level.Isolation.TheVariants.{StrictSnapshot, Snapshot, Prefix}
-use Rattle.isolation.specs.declared.level.Isolation.TheVariants.{StrictSerializable, Serializable}
-use Rattle.isolation.specs.declared.level.Isolation.TheVariants.{Causal, ReadAtomic}
-use Rattle.isolation.specs.declared.level.Isolation.TheVariants.{MonotonicAtomicView, ReadCommitted}
+use Rattle.isolation.specs.declared.level.Isolation.TheVariants.{StrictSnapshot, Snapshot, Prefix, StrictSerializable, Serializable, Causal, ReadAtomic, MonotonicAtomicView, ReadCommitted}
 use Rattle.audit_report.specs.Lower.{weakest_of}
 use Rattle.audit_report.specs.declared.told.Lower.{Lower}
 use Rattle.audit_report.specs.declared.told.ToldTxn.{ToldTxn}

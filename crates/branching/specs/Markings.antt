@@ -1,6 +1,5 @@
 -- Marks that a view keeps, or does not.
-use Rattle.std.specs.Prelude.{◌≡◌, ◌↔◌, ◌⊎◌, ℕ, ◌<◌, ◌≤◌, nat_lt, false, List, Option, Some, None}
-use Rattle.std.specs.Prelude.{length, slice_set, Vec}
+use Rattle.std.specs.Prelude.{◌≡◌, ◌↔◌, ◌⊎◌, ℕ, ◌<◌, ◌≤◌, nat_lt, false, List, Option, Some, None, length, slice_set, Vec}
 use Rattle.std.specs.List.{Contains}
 use Rattle.std.specs.declared.alloc.Global.{Global}
 use Rattle.serializability.specs.Polygraph.{Edge, Choice}

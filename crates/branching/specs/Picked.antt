@@ -1,7 +1,5 @@
 -- What the strategies pick is open, and they pick where some choice is open.
-use Rattle.std.proofs.Common.{◌≡◌, ◌⊎◌, ℕ, zero, suc, ◌+◌, ◌<◌, ◌%◌, Bool, true, false, cond}
-use Rattle.std.proofs.Common.{List, [], ◌∷◌, length, get_or, Option, Some, None, refl, sym, ap, ◌∙◌}
-use Rattle.std.proofs.Common.{inl, inr, arith}
+use Rattle.std.proofs.Common.{◌≡◌, ◌⊎◌, ℕ, zero, suc, ◌+◌, ◌<◌, ◌%◌, Bool, true, false, cond, List, [], ◌∷◌, length, get_or, Option, Some, None, refl, sym, ap, ◌∙◌, inl, inr, arith}
 use Rattle.std.specs.Prelude.{slice_get, if◌then◌else◌}
 use Rattle.std.specs.Option.{option_or}
 use Rattle.std.specs.List.{filter}
@@ -9,9 +7,7 @@ use Rattle.std.proofs.lemmas.Nat.{mod_below}
 use Rattle.std.proofs.lemmas.Option.{slice_get-get_or, same_Some}
 use Rattle.pruning_laws.specs.declared.side.Side.{Side}
 use Rattle.branching.specs.View.{View, is_open_in}
-use Rattle.branching.specs.Picks.{open_from, open_choices, first_open, has_more, has_fewer}
-use Rattle.branching.specs.Picks.{or_better, first_best, most_edges, least_edges}
-use Rattle.branching.specs.Picks.{word_at, by_words, is_even_depth}
+use Rattle.branching.specs.Picks.{open_from, open_choices, first_open, has_more, has_fewer, or_better, first_best, most_edges, least_edges, word_at, by_words, is_even_depth}
 use Rattle.branching.specs.Opens.{is_open_at}
 use Rattle.branching.specs.Refuted.{is_forced_in, first_forced, forced_or_most}
 

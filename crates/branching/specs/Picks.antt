@@ -1,6 +1,5 @@
 -- What the strategies pick.
-use Rattle.std.specs.Prelude.{ℕ, ◌+◌, ◌%◌, ◌==◌, nat_lt, List, [], ◌∷◌, Bool, Option, None, Some}
-use Rattle.std.specs.Prelude.{if◌then◌else◌, length, slice_get, slice_index}
+use Rattle.std.specs.Prelude.{ℕ, ◌+◌, ◌%◌, ◌==◌, nat_lt, List, [], ◌∷◌, Bool, Option, None, Some, if◌then◌else◌, length, slice_get, slice_index}
 use Rattle.std.specs.Option.{option_map_or}
 use Rattle.serializability.specs.Polygraph.{Choice}
 use Rattle.pruning_laws.specs.declared.side.Side.{Side}

@@ -1,6 +1,5 @@
 -- Sides that the edges of a cube refute, and the pick of a choice that has one.
-use Rattle.std.specs.Prelude.{◌≡◌, ◌<◌, ◌≤◌, true, false, ℕ, zero, suc, ◌+◌, ◌&&◌, ◌||◌, List, Bool}
-use Rattle.std.specs.Prelude.{Option, slice_get, if◌then◌else◌}
+use Rattle.std.specs.Prelude.{◌≡◌, ◌<◌, ◌≤◌, true, false, ℕ, zero, suc, ◌+◌, ◌&&◌, ◌||◌, List, Bool, Option, slice_get, if◌then◌else◌}
 use Rattle.std.specs.Option.{option_or}
 use Rattle.std.specs.List.{filter, list_any}
 use Rattle.serializability.specs.Polygraph.{Edge}

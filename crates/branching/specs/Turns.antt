@@ -7,8 +7,7 @@ use Rattle.cube_laws.specs.State.{State}
 use Rattle.cube_laws.specs.Steps.{is_finished, node_held, cube_at, reply_of}
 use Rattle.cube_laws.specs.Runs.{TakesOn}
 use Rattle.cube_laws.specs.declared.messages.CubeEvent.{CubeEvent}
-use Rattle.cube_laws.specs.declared.messages.CubeEvent.TheVariants.{Split, Refute}
-use Rattle.cube_laws.specs.declared.messages.CubeEvent.TheVariants.{Solve}
+use Rattle.cube_laws.specs.declared.messages.CubeEvent.TheVariants.{Split, Refute, Solve}
 use Rattle.branching.specs.View.{View, is_open_in, chosen, edges_in}
 
 -- the search goes on over this polygraph, and the seat holds a node whose cube decides what the

@@ -1,6 +1,5 @@
 -- What a strategy sees of a cube.
-use Rattle.std.specs.Prelude.{ℕ, List, Bool, false, Option, Some, None, is_some, is_none, length}
-use Rattle.std.specs.Prelude.{replicate, slice_get, slice_set}
+use Rattle.std.specs.Prelude.{ℕ, List, Bool, false, Option, Some, None, is_some, is_none, length, replicate, slice_get, slice_set}
 use Rattle.std.specs.Option.{option_map_or}
 use Rattle.std.specs.List.{filter}
 use Rattle.serializability.specs.Polygraph.{Edge, Polygraph}

@@ -1,6 +1,5 @@
 -- How many faults each key has, by a table.
-use Rattle.std.specs.Prelude.{ℕ, ◌&&◌, nat_lt, Bool, false, List, length, take, position, insert}
-use Rattle.std.specs.Prelude.{Option, Some, None, is_some, unwrap_or}
+use Rattle.std.specs.Prelude.{ℕ, ◌&&◌, nat_lt, Bool, false, List, length, take, position, insert, Option, Some, None, is_some, unwrap_or}
 use Rattle.std.specs.BTreeMap.{BTreeMap, get_by}
 use Rattle.census.specs.Versions.{has_version}
 use Rattle.census.specs.States.{entry_cmp}

@@ -1,13 +1,11 @@
 -- The chains of a key, and the polygraph of a history's chains.
-use Rattle.std.specs.Prelude.{◌≡◌, ◌⊎◌, ◌<◌, ◌≤◌, ℕ, zero, suc, ◌==◌, ◌&&◌, not, List, [], ◌∷◌}
-use Rattle.std.specs.Prelude.{◌++◌, length, Option, None, Some, Bool, true, false, is_some, map}
+use Rattle.std.specs.Prelude.{◌≡◌, ◌⊎◌, ◌<◌, ◌≤◌, ℕ, zero, suc, ◌==◌, ◌&&◌, not, List, [], ◌∷◌, ◌++◌, length, Option, None, Some, Bool, true, false, is_some, map}
 use Rattle.std.specs.List.{find, filter, flat_map}
 use Rattle.std.specs.Option.{option_map_or}
 use Rattle.serializability.specs.Log.{Log}
 use Rattle.serializability.specs.Reads.{last_write}
 use Rattle.serializability.specs.Pairs.{pairs_of}
-use Rattle.serializability.specs.Polygraph.{Edge, Choice, Polygraph, all_nodes, committed, all_keys}
-use Rattle.serializability.specs.Polygraph.{source, arcs}
+use Rattle.serializability.specs.Polygraph.{Edge, Choice, Polygraph, all_nodes, committed, all_keys, source, arcs}
 
 -- whether node v writes the key
 abbrev pub writes : Log → ℕ → ℕ → Bool

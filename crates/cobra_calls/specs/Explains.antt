@@ -1,7 +1,6 @@
 -- Why a call of `explain` ends without an answer. In the form of text, why a log is refused is said
 -- in words on the output, before the line on standard error.
-use Rattle.std.specs.Prelude.{◌≡◌, ◌⊎◌, ℕ, List, [], ◌∷◌, ◌++◌, string_bytes}
-use Rattle.std.specs.Prelude.{Option, None, Some, String, if◌then◌else◌}
+use Rattle.std.specs.Prelude.{◌≡◌, ◌⊎◌, ℕ, List, [], ◌∷◌, ◌++◌, string_bytes, Option, None, Some, String, if◌then◌else◌}
 use Rattle.std.specs.declared.alloc.Global.{Global}
 use Rattle.std.specs.Io.KnownBytes.{Keeps}
 use Rattle.session_log.specs.Version.{version_of}

@@ -1,7 +1,5 @@
 -- What a call reads of the world, and what it leaves there.
-use Rattle.std.specs.Prelude.{◌≡◌, ◌⊎◌, ℕ, ◌+◌, List, [], ◌∷◌, ◌++◌, take, ⊤}
-use Rattle.std.specs.Prelude.{Option, Some, None, Bool, true, false, if◌then◌else◌}
-use Rattle.std.specs.Prelude.{Result, Ok, Err}
+use Rattle.std.specs.Prelude.{◌≡◌, ◌⊎◌, ℕ, ◌+◌, List, [], ◌∷◌, ◌++◌, take, ⊤, Option, Some, None, Bool, true, false, if◌then◌else◌, Result, Ok, Err}
 use Rattle.std.specs.Borrow.{Bor}
 use Rattle.std.specs.Io.KnownBytes.{Keeps, Appends}
 use Rattle.output.specs.Sinks.{one_more}
@@ -22,8 +20,7 @@ pub use Rattle.cobra_calls.specs.Handed.{TellsFront}
 use Rattle.cobra_calls.specs.Calls.{Reads, log_name, IsDone, IsEnded}
 use Rattle.cobra_calls.specs.declared.world.Unread.{Unread}
 use Rattle.cobra_calls.specs.declared.world.Unread.TheVariants as unread
-use Rattle.cobra_calls.specs.Endings.{line_of, status_of, failures_by}
-use Rattle.cobra_calls.specs.Endings.{IsUnusable, IsUnread, IsReadFailure}
+use Rattle.cobra_calls.specs.Endings.{line_of, status_of, failures_by, IsUnusable, IsUnread, IsReadFailure}
 
 -- the bytes of files by their names, where they are known
 abbrev pub Held : Type 0

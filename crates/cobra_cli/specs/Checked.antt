@@ -7,10 +7,8 @@ use Rattle.polygraph.specs.declared.fault.PolyFault.TheVariants as poly
 use Rattle.reduction.specs.Outcome.{IsReduceFault}
 use Rattle.deciding.specs.Decides.{Decides}
 use Rattle.deciding.specs.declared.decision.Decision.{Decision}
-use Rattle.deciding.specs.declared.decision.Decision.TheVariants.{Serial, Anomalous, Cyclic, Dead}
-use Rattle.deciding.specs.declared.decision.Decision.TheVariants.{Refuted, Spent}
-use Rattle.cobra_answers.specs.Verdicts.{anomaly_text, cycle_text, dead_text, serial_text}
-use Rattle.cobra_answers.specs.Verdicts.{refuted_text, spent_text}
+use Rattle.deciding.specs.declared.decision.Decision.TheVariants.{Serial, Anomalous, Cyclic, Dead, Refuted, Spent}
+use Rattle.cobra_answers.specs.Verdicts.{anomaly_text, cycle_text, dead_text, serial_text, refuted_text, spent_text}
 use Rattle.cobra_answers.specs.declared.status.Status.{Status}
 use Rattle.cobra_answers.specs.declared.status.Status.TheVariants.{Done, NotSerializable, Unknown}
 use Rattle.cobra_answers.specs.declared.fault.Fault.{Fault}

@@ -17,8 +17,7 @@ use Rattle.dimacs.specs.Answer as answer
 use Rattle.order_text.specs.Text.{order_text, AreNodes}
 use Rattle.order_text.specs.Faults as listing
 use Rattle.order_text.specs.declared.fault.OrderFault.TheVariants as listing_fault
-use Rattle.decode_order.specs.declared.fault.ReplayFault.TheVariants.{NotAPermutation, SessionOrder}
-use Rattle.decode_order.specs.declared.fault.ReplayFault.TheVariants.{MomentOrder, ReadMismatch}
+use Rattle.decode_order.specs.declared.fault.ReplayFault.TheVariants.{NotAPermutation, SessionOrder, MomentOrder, ReadMismatch}
 use Rattle.decode_order.specs.Replaying.{replay_fault}
 use Rattle.cobra_formulas.specs.declared.basis.Basis.{Basis}
 use Rattle.cobra_formulas.specs.Formulas.{IsFormulaFrom, IsFormulaOf, IsFormulaFault, IsHeadline}

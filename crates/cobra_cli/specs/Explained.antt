@@ -6,8 +6,7 @@ use Rattle.session_log.specs.declared.version.Version.{Version}
 use Rattle.log_lines.specs.Rows.{own_places}
 use Rattle.deciding.specs.Decides.{Decides}
 use Rattle.deciding.specs.declared.decision.Decision.{Decision}
-use Rattle.deciding.specs.declared.decision.Decision.TheVariants.{Serial, Anomalous, Cyclic, Dead}
-use Rattle.deciding.specs.declared.decision.Decision.TheVariants.{Refuted, Spent}
+use Rattle.deciding.specs.declared.decision.Decision.TheVariants.{Serial, Anomalous, Cyclic, Dead, Refuted, Spent}
 use Rattle.tell_decision.specs.Explained.{IsExplained}
 use Rattle.call_options.specs.declared.format.Format.{Format}
 use Rattle.call_options.specs.declared.format.Format.TheVariants.{Text, Dot}

@@ -1,6 +1,5 @@
 -- The text of a log's counts, and of those of its formula.
-use Rattle.std.specs.Prelude.{ℕ, ◌-◌, ◌≤◌, if◌then◌else◌, List, [], ◌∷◌, ◌++◌, length, count_by}
-use Rattle.std.specs.Prelude.{codes, decimal}
+use Rattle.std.specs.Prelude.{ℕ, ◌-◌, ◌≤◌, if◌then◌else◌, List, [], ◌∷◌, ◌++◌, length, count_by, codes, decimal}
 use Rattle.session_log.specs.Text.{ClientSession}
 use Rattle.session_log.specs.Version.{has_unknown_line}
 use Rattle.session_log.specs.declared.version.Version.{Version}

@@ -3,8 +3,7 @@ use Rattle.cobra_formulas.proofs.Prelude.{◌≡◌, ℕ, List, Option, Some, No
 use Rattle.std.specs.Option.{option_or}
 use Rattle.session_log.specs.declared.version.Version.{Version}
 use Rattle.session_log.specs.Blocks.{size_fault}
-use Rattle.session_log.specs.Faults.{grammar_fault}
-use Rattle.session_log.specs.Faults.{IsFault}
+use Rattle.session_log.specs.Faults.{grammar_fault, IsFault}
 use Rattle.session_log.specs.declared.fault.LogFault.{LogFault}
 use Rattle.session_log.specs.declared.fault.LogFault.TheVariants as faults
 use Rattle.gather.specs.Pieces.{reading_fault}

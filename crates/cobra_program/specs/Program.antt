@@ -1,6 +1,5 @@
 -- What a call of the program leaves in the world, and its exit status, by its words.
-use Rattle.std.specs.Prelude.{◌≡◌, ℕ, List, map, string_bytes, Option, None, Some, Result, Ok, Err}
-use Rattle.std.specs.Prelude.{Vec, String}
+use Rattle.std.specs.Prelude.{◌≡◌, ℕ, List, map, string_bytes, Option, None, Some, Result, Ok, Err, Vec, String}
 use Rattle.std.specs.IoError.{error_kind}
 use Rattle.std.specs.declared.alloc.Global.{Global}
 use Rattle.std.specs.declared.io.Error.{Error}

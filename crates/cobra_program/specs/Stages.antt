@@ -1,6 +1,5 @@
 -- How far an audit is, in a line.
-use Rattle.std.specs.Prelude.{ℕ, zero, suc, ◌-◌, ◌*◌, ◌/◌, ◌^◌, nat_lt, Bool, true, min}
-use Rattle.std.specs.Prelude.{List, ◌++◌, codes, decimal, Option, None, Some}
+use Rattle.std.specs.Prelude.{ℕ, zero, suc, ◌-◌, ◌*◌, ◌/◌, ◌^◌, nat_lt, Bool, true, min, List, ◌++◌, codes, decimal, Option, None, Some}
 use Rattle.std.specs.Time.{instant_nanos}
 use Rattle.std.specs.declared.time.Instant.{Instant}
 use Rattle.progress.specs.declared.stages.Stage.{Stage}

@@ -1,20 +1,14 @@
 -- What holds of every list of steps of the machine.
-use Rattle.std.specs.Prelude.{◌≡◌, ℕ, List, [], ◌∷◌, ◌++◌, Option, None, Some, Bool, true, false}
-use Rattle.std.specs.Prelude.{if◌then◌else◌}
+use Rattle.std.specs.Prelude.{◌≡◌, ℕ, List, [], ◌∷◌, ◌++◌, Option, None, Some, Bool, true, false, if◌then◌else◌}
 use Rattle.std.specs.List.{AllByRecursion}
 use Rattle.serializability.specs.Polygraph.{Polygraph, Fits}
 use Rattle.desk.specs.declared.history.Entry.{Entry}
 use Rattle.cube_laws.specs.State.{State}
 use Rattle.cube_laws.specs.Steps.{next_of, node_held}
 use Rattle.cube_laws.specs.declared.messages.CubeEvent.{CubeEvent}
-use Rattle.cube_laws.specs.declared.messages.CubeEvent.TheVariants.{Claim, TakeAny, Split, Refute}
-use Rattle.cube_laws.specs.declared.messages.CubeEvent.TheVariants.{Solve, Release}
+use Rattle.cube_laws.specs.declared.messages.CubeEvent.TheVariants.{Claim, TakeAny, Split, Refute, Solve, Release}
 use Rattle.cube_laws.specs.declared.messages.CubeReply.{CubeReply}
-use Rattle.cube_laws.specs.declared.messages.CubeReply.TheVariants.{Finished, HasCube, NotOpen}
-use Rattle.cube_laws.specs.declared.messages.CubeReply.TheVariants.{NoneNow, Cube as Given, NoCube}
-use Rattle.cube_laws.specs.declared.messages.CubeReply.TheVariants.{BadChoice, Children, BadCycle}
-use Rattle.cube_laws.specs.declared.messages.CubeReply.TheVariants.{Closed, BadOrder, Solved}
-use Rattle.cube_laws.specs.declared.messages.CubeReply.TheVariants.{Released}
+use Rattle.cube_laws.specs.declared.messages.CubeReply.TheVariants.{Finished, HasCube, NotOpen, NoneNow, Cube as Given, NoCube, BadChoice, Children, BadCycle, Closed, BadOrder, Solved, Released}
 
 -- an order that solved a node fits the polygraph
 abbrev pub SolvesRightly : Polygraph → CubeEvent → CubeReply → Type 0

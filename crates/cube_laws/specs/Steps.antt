@@ -1,7 +1,5 @@
 -- The written step.
-use Rattle.std.specs.Prelude.{ℕ, ◌+◌, ◌==◌, ◌&&◌, ◌||◌, not, nat_lt, List, [], ◌∷◌, ◌++◌, Bool}
-use Rattle.std.specs.Prelude.{true, false, Option, Some, None, is_none, if◌then◌else◌, length}
-use Rattle.std.specs.Prelude.{slice_get, slice_set, slice_index}
+use Rattle.std.specs.Prelude.{ℕ, ◌+◌, ◌==◌, ◌&&◌, ◌||◌, not, nat_lt, List, [], ◌∷◌, ◌++◌, Bool, true, false, Option, Some, None, is_none, if◌then◌else◌, length, slice_get, slice_set, slice_index}
 use Rattle.std.specs.Option.{option_map_or}
 use Rattle.std.specs.List.{list_any, list_all, range_with_len}
 use Rattle.serializability.specs.Replay.{place_of}
@@ -12,17 +10,11 @@ use Rattle.known_graph.specs.Tests.{is_line}
 use Rattle.cube_laws.specs.Cubes.{Cube, is_decided, edges_under}
 use Rattle.cube_laws.specs.State.{Node, State}
 use Rattle.cube_laws.specs.declared.messages.CubeState.{CubeState}
-use Rattle.cube_laws.specs.declared.messages.CubeState.TheVariants.{Open, Held, Split as Divided}
-use Rattle.cube_laws.specs.declared.messages.CubeState.TheVariants.{Refuted, Solved as Ended}
+use Rattle.cube_laws.specs.declared.messages.CubeState.TheVariants.{Open, Held, Split as Divided, Refuted, Solved as Ended}
 use Rattle.cube_laws.specs.declared.messages.CubeEvent.{CubeEvent}
-use Rattle.cube_laws.specs.declared.messages.CubeEvent.TheVariants.{Claim, TakeAny, Split, Refute}
-use Rattle.cube_laws.specs.declared.messages.CubeEvent.TheVariants.{Solve, Release}
+use Rattle.cube_laws.specs.declared.messages.CubeEvent.TheVariants.{Claim, TakeAny, Split, Refute, Solve, Release}
 use Rattle.cube_laws.specs.declared.messages.CubeReply.{CubeReply}
-use Rattle.cube_laws.specs.declared.messages.CubeReply.TheVariants.{Finished, HasCube, NotOpen}
-use Rattle.cube_laws.specs.declared.messages.CubeReply.TheVariants.{NoneNow, Cube as Given, NoCube}
-use Rattle.cube_laws.specs.declared.messages.CubeReply.TheVariants.{BadChoice, Children, BadCycle}
-use Rattle.cube_laws.specs.declared.messages.CubeReply.TheVariants.{Closed, BadOrder, Solved}
-use Rattle.cube_laws.specs.declared.messages.CubeReply.TheVariants.{Released}
+use Rattle.cube_laws.specs.declared.messages.CubeReply.TheVariants.{Finished, HasCube, NotOpen, NoneNow, Cube as Given, NoCube, BadChoice, Children, BadCycle, Closed, BadOrder, Solved, Released}
 
 -- ---- marks
 abbrev pub is_open : CubeState → Bool

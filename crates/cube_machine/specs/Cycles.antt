@@ -1,6 +1,5 @@
 -- Tests of edges and of cycles, by what is listed and flagged.
-use Rattle.std.specs.Prelude.{ℕ, ◌==◌, ◌&&◌, ◌||◌, nat_lt, Bool, List, [], ◌∷◌, length, drop}
-use Rattle.std.specs.Prelude.{slice_index, Vec}
+use Rattle.std.specs.Prelude.{ℕ, ◌==◌, ◌&&◌, ◌||◌, nat_lt, Bool, List, [], ◌∷◌, length, drop, slice_index, Vec}
 use Rattle.std.specs.declared.alloc.Global.{Global}
 use Rattle.serializability.specs.Polygraph.{Edge}
 use Rattle.known_graph.specs.Tests.{has_edge}

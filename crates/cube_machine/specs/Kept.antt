@@ -1,6 +1,5 @@
 -- What the type of the tree keeps.
-use Rattle.std.specs.Prelude.{◌≡◌, ℕ, ◌+◌, ◌<◌, ◌||◌, not, Bool, if◌then◌else◌, List, [], ◌∷◌}
-use Rattle.std.specs.Prelude.{Option, Some, length, slice_get, slice_index}
+use Rattle.std.specs.Prelude.{◌≡◌, ℕ, ◌+◌, ◌<◌, ◌||◌, not, Bool, if◌then◌else◌, List, [], ◌∷◌, Option, Some, length, slice_get, slice_index}
 use Rattle.std.specs.List.{list_any}
 use Rattle.cube_laws.specs.Steps.{is_open, is_held, is_solved}
 use Rattle.cube_laws.specs.declared.messages.CubeState.{CubeState}

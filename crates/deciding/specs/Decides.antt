@@ -12,8 +12,7 @@ use Rattle.branch_search.specs.declared.answer.Answer.{Answer}
 use Rattle.branch_search.specs.declared.answer.Answer.TheVariants.{Yes, No, Unknown}
 use Rattle.cube_laws.specs.declared.tree.TreeNode.{TreeNode}
 use Rattle.deciding.specs.declared.decision.Decision.{Decision}
-use Rattle.deciding.specs.declared.decision.Decision.TheVariants.{Serial, Anomalous, Cyclic, Dead}
-use Rattle.deciding.specs.declared.decision.Decision.TheVariants.{Refuted, Spent}
+use Rattle.deciding.specs.declared.decision.Decision.TheVariants.{Serial, Anomalous, Cyclic, Dead, Refuted, Spent}
 
 -- no list of the committed transactions and of some of the unknown ones is an order that explains
 -- the sessions

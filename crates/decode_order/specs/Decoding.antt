@@ -3,8 +3,7 @@ use Rattle.std.specs.Prelude.{◌≡◌, ◌≢◌, Bool, List, length}
 use Rattle.serializability.specs.Formula.{Satisfies}
 use Rattle.order_cnf.specs.Data.{FormulaData, cnf_of, IsFirstFalse}
 use Rattle.decode_order.specs.declared.fault.DecodeFault.{DecodeFault}
-use Rattle.decode_order.specs.declared.fault.DecodeFault.TheVariants.{NotAModel, WrongLength}
-use Rattle.decode_order.specs.declared.fault.DecodeFault.TheVariants.{Memory}
+use Rattle.decode_order.specs.declared.fault.DecodeFault.TheVariants.{NotAModel, WrongLength, Memory}
 
 -- A wrong length comes before a false clause, of which the first is named, and memory is refused to
 -- nothing but a satisfying assignment.

@@ -1,6 +1,5 @@
 -- What is wrong with an order of a log's nodes.
-use Rattle.std.specs.Prelude.{◌≡◌, ℕ, ◌==◌, ◌&&◌, nat_eq, nat_lt, nat_le, if◌then◌else◌, Bool, true}
-use Rattle.std.specs.Prelude.{List, [], ◌∷◌, map, slice_index, Option, None, Some}
+use Rattle.std.specs.Prelude.{◌≡◌, ℕ, ◌==◌, ◌&&◌, nat_eq, nat_lt, nat_le, if◌then◌else◌, Bool, true, List, [], ◌∷◌, map, slice_index, Option, None, Some}
 use Rattle.std.specs.List.{flat_map, list_any, list_all, count_by, enumerate_from, range_with_len}
 use Rattle.std.specs.Option.{option_map, option_or}
 use Rattle.serializability.specs.declared.event.Event.{Event}
@@ -8,9 +7,7 @@ use Rattle.serializability.specs.declared.event.Event.TheVariants.{Read, Write}
 use Rattle.serializability.specs.Log.{Log}
 use Rattle.serializability.specs.Replay.{Store, empty, after}
 use Rattle.decode_order.specs.declared.fault.ReplayFault.{ReplayFault}
-use Rattle.decode_order.specs.declared.fault.ReplayFault.TheVariants.{NotAPermutation, SessionOrder}
-use Rattle.decode_order.specs.declared.fault.ReplayFault.TheVariants.{MomentOrder, ReadMismatch}
-use Rattle.decode_order.specs.declared.fault.ReplayFault.TheVariants.{Memory}
+use Rattle.decode_order.specs.declared.fault.ReplayFault.TheVariants.{NotAPermutation, SessionOrder, MomentOrder, ReadMismatch, Memory}
 
 -- each of nodes 1 to n is listed once, and nothing else is
 abbrev pub lists_once : ℕ → List ℕ → Bool

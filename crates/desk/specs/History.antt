@@ -1,6 +1,5 @@
 -- Legal histories of a machine.
-use Rattle.std.specs.Prelude.{◌≡◌, ℕ, ◌==◌, List, [], ◌∷◌, ◌++◌, ⊤, Option, Some, None}
-use Rattle.std.specs.Prelude.{if◌then◌else◌}
+use Rattle.std.specs.Prelude.{◌≡◌, ℕ, ◌==◌, List, [], ◌∷◌, ◌++◌, ⊤, Option, Some, None, if◌then◌else◌}
 use Rattle.desk.specs.declared.history.Entry.{Entry}
 
 -- a step by its parts

@@ -1,6 +1,5 @@
 -- How the halves of the seats' lists stand to each other and to the history.
-use Rattle.std.specs.Prelude.{◌≡◌, ℕ, ◌+◌, All, List, [], ◌∷◌, Bool, true, false, Some, length}
-use Rattle.std.specs.Prelude.{slice_get}
+use Rattle.std.specs.Prelude.{◌≡◌, ℕ, ◌+◌, All, List, [], ◌∷◌, Bool, true, false, Some, length, slice_get}
 use Rattle.desk.specs.declared.history.Entry.{Entry}
 use Rattle.desk.specs.declared.row.SeatRow.{SeatRow}
 use Rattle.desk.specs.declared.row.UnnamedSeat.{UnnamedSeat}

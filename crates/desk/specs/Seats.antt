@@ -1,7 +1,6 @@
 -- Seats by their numbers.
 use Rattle.std.specs.List.{list_any}
-use Rattle.std.specs.Prelude.{◌≡◌, ℕ, ◌+◌, ◌<◌, ◌≤◌, List, [], Bool, false, true, ◌==◌, Some}
-use Rattle.std.specs.Prelude.{length, slice_get}
+use Rattle.std.specs.Prelude.{◌≡◌, ℕ, ◌+◌, ◌<◌, ◌≤◌, List, [], Bool, false, true, ◌==◌, Some, length, slice_get}
 use Rattle.desk.specs.Views.{SeatView}
 
 -- the number of one of these seats, which are numbered from 1 on

@@ -1,7 +1,5 @@
 -- A solver's answer: its faults, its status and the assignment that it names.
-use Rattle.std.specs.Prelude.{◌≡◌, ℕ, ◌+◌, ◌-◌, ◌^◌, Bool, true, false, not, ◌&&◌, if◌then◌else◌}
-use Rattle.std.specs.Prelude.{◌==◌, nat_lt, List, [], ◌∷◌, ◌++◌, length, map, filter_map}
-use Rattle.std.specs.Prelude.{slice_index_or, slice_get, Option, Some, None, is_some}
+use Rattle.std.specs.Prelude.{◌≡◌, ℕ, ◌+◌, ◌-◌, ◌^◌, Bool, true, false, not, ◌&&◌, if◌then◌else◌, ◌==◌, nat_lt, List, [], ◌∷◌, ◌++◌, length, map, filter_map, slice_index_or, slice_get, Option, Some, None, is_some}
 use Rattle.std.specs.Bool.{beq}
 use Rattle.std.specs.List.{list_any, flat_map, range_with_len}
 use Rattle.std.specs.Option.{option_or}
@@ -11,9 +9,7 @@ use Rattle.dimacs.specs.declared.status.Status.TheVariants.{Satisfiable, Unsatis
 use Rattle.dimacs.specs.declared.answer.SolverAnswer.{SolverAnswer}
 use Rattle.dimacs.specs.declared.answer.SolverAnswer.TheVariants as answer
 use Rattle.dimacs.specs.declared.answer.AnswerFault.{AnswerFault}
-use Rattle.dimacs.specs.declared.answer.AnswerFault.TheVariants.{BadLine, TwoStatus, NoStatus}
-use Rattle.dimacs.specs.declared.answer.AnswerFault.TheVariants.{OutOfRange, BothSigns, Unclosed}
-use Rattle.dimacs.specs.declared.answer.AnswerFault.TheVariants.{Memory, TooLong}
+use Rattle.dimacs.specs.declared.answer.AnswerFault.TheVariants.{BadLine, TwoStatus, NoStatus, OutOfRange, BothSigns, Unclosed, Memory, TooLong}
 use Rattle.dimacs.specs.Words.{Item, Claim, Given, Zero, Broken, lines_of, line_items}
 
 -- all that a text says, in order

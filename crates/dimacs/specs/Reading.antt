@@ -1,6 +1,5 @@
 -- An answer that is being read.
-use Rattle.std.specs.Prelude.{◌≡◌, ℕ, Bool, if◌then◌else◌, List, ◌++◌, map, Option, Some, None}
-use Rattle.std.specs.Prelude.{Result, Ok, Err, OnOk}
+use Rattle.std.specs.Prelude.{◌≡◌, ℕ, Bool, if◌then◌else◌, List, ◌++◌, map, Option, Some, None, Result, Ok, Err, OnOk}
 use Rattle.std.specs.List.{range_with_len}
 use Rattle.dimacs.specs.declared.answer.AnswerFault.{AnswerFault}
 use Rattle.dimacs.specs.declared.reading.Reading.{Reading}

@@ -6,8 +6,7 @@ use Rattle.session_log.specs.declared.fault.Limit.{Limit}
 use Rattle.session_log.specs.declared.fault.Limit.TheVariants as limit
 use Rattle.session_log.specs.declared.fault.LogFault.{LogFault}
 use Rattle.session_log.specs.declared.fault.LogFault.TheVariants as fault
-use Rattle.session_log.specs.declared.limits.TheConstants.{MAX_SESSIONS}
-use Rattle.session_log.specs.declared.limits.TheConstants.{MAX_OPERATIONS, MAX_KEYS}
+use Rattle.session_log.specs.declared.limits.TheConstants.{MAX_SESSIONS, MAX_OPERATIONS, MAX_KEYS}
 use Rattle.serializability.specs.declared.node.TheConstants.{MAX_NODES}
 
 -- something, these words of it, and perhaps more

@@ -1,6 +1,5 @@
 -- The steps of the machine that hands out the blocks of a log.
-use Rattle.std.specs.Prelude.{ℕ, Bool, true, false, ◌&&◌, ◌==◌, if◌then◌else◌, List, map, position}
-use Rattle.std.specs.Prelude.{slice_get, slice_set, Option, Some, None}
+use Rattle.std.specs.Prelude.{ℕ, Bool, true, false, ◌&&◌, ◌==◌, if◌then◌else◌, List, map, position, slice_get, slice_set, Option, Some, None}
 use Rattle.std.specs.Option.{option_or}
 use Rattle.session_log.specs.Blocks.{blocks_of}
 use Rattle.gather.specs.Pieces.{is_piece}
@@ -9,8 +8,7 @@ use Rattle.gather.specs.declared.messages.BlockState.TheVariants as mark
 use Rattle.gather.specs.declared.messages.GatherEvent.{GatherEvent}
 use Rattle.gather.specs.declared.messages.GatherEvent.TheVariants.{Take, Put, Release}
 use Rattle.gather.specs.declared.messages.GatherReply.{GatherReply}
-use Rattle.gather.specs.declared.messages.GatherReply.TheVariants.{Block, NoneLeft, Double, Kept}
-use Rattle.gather.specs.declared.messages.GatherReply.TheVariants.{Stranger, Released}
+use Rattle.gather.specs.declared.messages.GatherReply.TheVariants.{Block, NoneLeft, Double, Kept, Stranger, Released}
 
 -- a log, and a mark for each of its blocks
 pub record State : Type 0 where

@@ -1,10 +1,7 @@
 -- What the names of levels mean.
 use Rattle.std.specs.Prelude.{ℕ, Bool, true, false, List, codes}
 use Rattle.isolation.specs.declared.level.Isolation.{Isolation}
-use Rattle.isolation.specs.declared.level.Isolation.TheVariants.{StrictSerializable, Serializable}
-use Rattle.isolation.specs.declared.level.Isolation.TheVariants.{StrictSnapshot, Snapshot, Prefix}
-use Rattle.isolation.specs.declared.level.Isolation.TheVariants.{Causal, ReadAtomic}
-use Rattle.isolation.specs.declared.level.Isolation.TheVariants.{MonotonicAtomicView, ReadCommitted}
+use Rattle.isolation.specs.declared.level.Isolation.TheVariants.{StrictSerializable, Serializable, StrictSnapshot, Snapshot, Prefix, Causal, ReadAtomic, MonotonicAtomicView, ReadCommitted}
 
 -- a level that keeps the order of stated moments
 abbrev pub is_strict : Isolation → Bool

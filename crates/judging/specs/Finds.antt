@@ -15,8 +15,7 @@ use Rattle.judging.specs.declared.judged.Verdict.{Verdict}
 use Rattle.judging.specs.declared.judged.Verdict.TheVariants as verdict
 use Rattle.judging.specs.declared.level.Level.TheVariants.{Serializable}
 use Rattle.judging.specs.declared.judged.Tried.{Tried}
-use Rattle.judging.specs.declared.judged.Tried.TheVariants.{Nothing, NotSerial}
-use Rattle.judging.specs.declared.judged.Tried.TheVariants.{PartSerial, PartOpen}
+use Rattle.judging.specs.declared.judged.Tried.TheVariants.{Nothing, NotSerial, PartSerial, PartOpen}
 use Rattle.judging.specs.declared.trial.Attempt.{Attempt}
 use Rattle.judging.specs.declared.trial.Attempt.TheVariants as attempt
 use Rattle.judging.specs.declared.means.JudgeMeans.{JudgeMeans}

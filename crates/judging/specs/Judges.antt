@@ -23,15 +23,12 @@ use Rattle.judging.specs.Levels.{judged_at, HasOrderAt, HasNoOrderAt, HasRoomAt,
 use Rattle.judging.specs.declared.level.Level.{Level}
 use Rattle.judging.specs.declared.level.Level.TheVariants.{Serializable, Snapshot, Prefix, Below}
 use Rattle.judging.specs.declared.judged.Finding.{Finding}
-use Rattle.judging.specs.declared.judged.Finding.TheVariants.{Anomaly, Cycle, Dead, Refuted}
-use Rattle.judging.specs.declared.judged.Finding.TheVariants.{Formula, Overlooked}
+use Rattle.judging.specs.declared.judged.Finding.TheVariants.{Anomaly, Cycle, Dead, Refuted, Formula, Overlooked}
 use Rattle.judging.specs.declared.judged.Why.{Why}
-use Rattle.judging.specs.declared.judged.Why.TheVariants.{Spent, TooLarge, TooManyChoices}
-use Rattle.judging.specs.declared.judged.Why.TheVariants.{NoRoom, NotBegun, NotShown}
+use Rattle.judging.specs.declared.judged.Why.TheVariants.{Spent, TooLarge, TooManyChoices, NoRoom, NotBegun, NotShown}
 use Rattle.judging.specs.declared.means.JudgeMeans.{JudgeMeans}
 use Rattle.judging.specs.declared.judged.Tried.{Tried}
-use Rattle.judging.specs.declared.judged.Tried.TheVariants.{Nothing, NotSerial}
-use Rattle.judging.specs.declared.judged.Tried.TheVariants.{PartSerial, PartOpen}
+use Rattle.judging.specs.declared.judged.Tried.TheVariants.{Nothing, NotSerial, PartSerial, PartOpen}
 use Rattle.judging.specs.declared.judged.Verdict.{Verdict}
 use Rattle.judging.specs.declared.judged.Verdict.TheVariants as verdict
 

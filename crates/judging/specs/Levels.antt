@@ -7,8 +7,7 @@ use Rattle.log_definitions.specs.Serial.{committed_in, IsSerialOrder}
 use Rattle.log_laws.specs.Logs.{HasOrder, IsLearntLog}
 use Rattle.numbered_log.specs.Numbering.{IsNumbering}
 use Rattle.numbered_log.specs.declared.log.NumberedLog.{NumberedLog}
-use Rattle.level_laws.specs.Snapshot.{HasSnapshotOrder, HasSomeSnapshotOrder}
-use Rattle.level_laws.specs.Snapshot.{HasPrefixOrder, HasSomePrefixOrder}
+use Rattle.level_laws.specs.Snapshot.{HasSnapshotOrder, HasSomeSnapshotOrder, HasPrefixOrder, HasSomePrefixOrder}
 use Rattle.level_laws.specs.Split.{split_writers}
 use Rattle.level_laws.specs.Prefix.{no_locks}
 use Rattle.seen_laws.specs.Seen.{IsLevelOrder, HasLevelOrder, HasSomeLevelOrder}

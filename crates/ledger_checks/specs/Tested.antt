@@ -1,7 +1,6 @@
 -- Tests of a ledger, which copy no graph: an edge is held where it is known, or of a side that an
 -- entry keeps.
-use Rattle.std.specs.Prelude.{ℕ, ◌==◌, ◌&&◌, ◌||◌, nat_lt, List, [], ◌∷◌, ◌++◌, Bool, true, length}
-use Rattle.std.specs.Prelude.{drop, slice_index}
+use Rattle.std.specs.Prelude.{ℕ, ◌==◌, ◌&&◌, ◌||◌, nat_lt, List, [], ◌∷◌, ◌++◌, Bool, true, length, drop, slice_index}
 use Rattle.std.specs.List.{list_any}
 use Rattle.serializability.specs.Polygraph.{Edge, Polygraph}
 use Rattle.pruning_laws.specs.Forced.{other}

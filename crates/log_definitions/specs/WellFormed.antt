@@ -1,12 +1,10 @@
 -- What makes the text of legal sessions a well-formed log, and which fault is meant where several
 -- stand.
-use Rattle.std.specs.Prelude.{◌≡◌, ℕ, ◌+◌, ◌≤◌, Bool, ◌&&◌, not, if◌then◌else◌, nat_lt, nat_eq}
-use Rattle.std.specs.Prelude.{List, [], ◌∷◌, ◌++◌, length, map, count_by, Option, Some, None}
+use Rattle.std.specs.Prelude.{◌≡◌, ℕ, ◌+◌, ◌≤◌, Bool, ◌&&◌, not, if◌then◌else◌, nat_lt, nat_eq, List, [], ◌∷◌, ◌++◌, length, map, count_by, Option, Some, None}
 use Rattle.std.specs.List.{flat_map, list_any, AllByRecursion, IsDistinct}
 use Rattle.std.specs.Option.{option_or}
 use Rattle.std.specs.Str.{bytes_eq}
-use Rattle.session_log.specs.Text.{ClientSession, Transaction, IsLegal, IsHeldBy, session_lines}
-use Rattle.session_log.specs.Text.{log_text, key_of}
+use Rattle.session_log.specs.Text.{ClientSession, Transaction, IsLegal, IsHeldBy, session_lines, log_text, key_of}
 use Rattle.session_log.specs.Version.{first_line, version_of}
 use Rattle.session_log.specs.Blocks.{size_fault}
 use Rattle.session_log.specs.Faults.{grammar_fault}
@@ -16,8 +14,7 @@ use Rattle.session_log.specs.declared.line.Line.{Line}
 use Rattle.session_log.specs.declared.line.Line.TheVariants as line
 use Rattle.session_log.specs.declared.fault.Limit.TheVariants as limit
 use Rattle.session_log.specs.declared.fault.LogFault.{LogFault}
-use Rattle.session_log.specs.declared.fault.LogFault.TheVariants.{SessionTwice, WriteTwice}
-use Rattle.session_log.specs.declared.fault.LogFault.TheVariants.{OverLimit, Memory}
+use Rattle.session_log.specs.declared.fault.LogFault.TheVariants.{SessionTwice, WriteTwice, OverLimit, Memory}
 use Rattle.serializability.specs.declared.node.TheConstants.{MAX_NODES}
 use Rattle.session_log.specs.declared.limits.TheConstants.{MAX_KEYS, MAX_OPERATIONS}
 use Rattle.log_definitions.specs.Unknown.{txns_in, ops_in, is_committed, is_unknown}

@@ -7,7 +7,6 @@ use Rattle.log_laws.proofs.Identities.{IsOrdered}
 use Rattle.session_log.specs.declared.session.Outcome.{Outcome}
 use Rattle.session_log.specs.declared.session.Outcome.TheVariants.{Commit, Abort, Unknown}
 use Rattle.session_log.proofs.Blocks.{all_before}
-use Rattle.log_definitions.proofs.Taken.{resolved_is}
 
 -- ---- a log with its unknown outcomes resolved
 pub sound_resolved : (ss : List ClientSession) → IsSoundLog ss → IsSoundLog (resolved ss)

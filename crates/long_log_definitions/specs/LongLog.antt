@@ -6,8 +6,7 @@ use Rattle.session_log.specs.Text.{ClientSession}
 use Rattle.session_log.specs.Blocks.{fault_of_size}
 use Rattle.session_log.specs.declared.fault.LogFault.{LogFault}
 use Rattle.log_definitions.specs.Unknown.{ops_in}
-use Rattle.log_definitions.specs.WellFormed.{log_lines, session_twice, write_twice, session_fault}
-use Rattle.log_definitions.specs.WellFormed.{write_fault, written, IsLogWithin, IsFaultWithin}
+use Rattle.log_definitions.specs.WellFormed.{log_lines, session_twice, write_twice, session_fault, write_fault, written, IsLogWithin, IsFaultWithin}
 pub use Rattle.log_definitions.specs.WellFormed.{memory, size, grammar, list}
 use Rattle.long_log_definitions.specs.declared.limits.TheConstants.{MAX_LONG_LOG_BYTES}
 

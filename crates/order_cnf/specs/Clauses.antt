@@ -2,8 +2,7 @@
 use Rattle.std.specs.Prelude.{ℕ, ◌<◌, ◌≤◌, List, [], ◌∷◌}
 use Rattle.serializability.specs.declared.literal.Literal.{Literal}
 use Rattle.order_cnf.specs.declared.clause.Clause.{Clause}
-use Rattle.order_cnf.specs.declared.clause.Clause.TheVariants.{Unit as One, Pair as Two}
-use Rattle.order_cnf.specs.declared.clause.Clause.TheVariants.{Triple as Three}
+use Rattle.order_cnf.specs.declared.clause.Clause.TheVariants.{Unit as One, Pair as Two, Triple as Three}
 
 abbrev pub literals : Clause → List Literal
 literals (One a) = a ∷ []

@@ -1,6 +1,5 @@
 -- Formulas as data: the pairs of which it is known which comes first are a list.
-use Rattle.std.specs.Prelude.{◌≡◌, ℕ, ◌-◌, ◌<◌, ◌≤◌, ◌==◌, ◌&&◌, Bool, true, false, List, []}
-use Rattle.std.specs.Prelude.{length, take, slice_index_or}
+use Rattle.std.specs.Prelude.{◌≡◌, ℕ, ◌-◌, ◌<◌, ◌≤◌, ◌==◌, ◌&&◌, Bool, true, false, List, [], length, take, slice_index_or}
 use Rattle.std.specs.List.{list_any, AllByRecursion}
 use Rattle.serializability.specs.declared.literal.Literal.{Literal}
 use Rattle.serializability.specs.Pairs.{Known}

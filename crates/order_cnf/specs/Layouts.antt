@@ -4,8 +4,7 @@ use Rattle.std.specs.List.{AllByRecursion}
 use Rattle.serializability.specs.declared.literal.Literal.{Literal}
 use Rattle.serializability.specs.Polygraph.{Edge, Choice}
 use Rattle.order_cnf.specs.Tables.{Relation}
-use Rattle.order_cnf.specs.Streams.{of_three, up_to, units_of, bipaths_of, sides_after}
-use Rattle.order_cnf.specs.Streams.{last_variable, IsFreeBipath, IsUnturned}
+use Rattle.order_cnf.specs.Streams.{of_three, up_to, units_of, bipaths_of, sides_after, last_variable, IsFreeBipath, IsUnturned}
 
 -- units, then bipaths, then the triples of nodes from `start` on, then the choices whose sides have
 -- these edges, so many each

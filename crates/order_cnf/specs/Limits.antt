@@ -8,8 +8,7 @@ use Rattle.serializability.specs.Plain.{plain}
 use Rattle.polygraph.specs.declared.fault.PolyFault.{PolyFault}
 use Rattle.polygraph.specs.declared.fault.PolyFault.TheVariants as poly
 use Rattle.order_cnf.specs.declared.fault.CnfFault.{CnfFault}
-use Rattle.order_cnf.specs.declared.fault.CnfFault.TheVariants.{TooManyForPlain, TooManyChoices}
-use Rattle.order_cnf.specs.declared.fault.CnfFault.TheVariants.{FormulaTooLarge, Memory}
+use Rattle.order_cnf.specs.declared.fault.CnfFault.TheVariants.{TooManyForPlain, TooManyChoices, FormulaTooLarge, Memory}
 use Rattle.order_cnf.specs.declared.plain.TheConstants.{MAX_PLAIN_NODES}
 use Rattle.polygraph.specs.declared.index.TheConstants.{MAX_CHOICES}
 use Rattle.serializability.specs.declared.literal.TheConstants.{MAX_CLAUSES}

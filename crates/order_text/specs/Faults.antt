@@ -1,14 +1,11 @@
 -- Which text is the text of an order, and where another one fails first.
-use Rattle.std.specs.Prelude.{◌≡◌, ℕ, ◌+◌, ◌^◌, ◌==◌, Bool, false, ◌&&◌, nat_lt, if◌then◌else◌}
-use Rattle.std.specs.Prelude.{List, [], ◌∷◌, length, take, drop, position, Option, Some, None}
-use Rattle.std.specs.Prelude.{is_some, option_and_then}
+use Rattle.std.specs.Prelude.{◌≡◌, ℕ, ◌+◌, ◌^◌, ◌==◌, Bool, false, ◌&&◌, nat_lt, if◌then◌else◌, List, [], ◌∷◌, length, take, drop, position, Option, Some, None, is_some, option_and_then}
 use Rattle.std.specs.Option.{option_map, option_map_or, option_or}
 use Rattle.session_log.specs.Text.{ClientSession}
 use Rattle.session_log.specs.Lines.{lines, is_numeral, number_of}
 use Rattle.session_history.specs.Tables.{node_named}
 use Rattle.order_text.specs.declared.fault.OrderFault.{OrderFault}
-use Rattle.order_text.specs.declared.fault.OrderFault.TheVariants.{BadLine, NoSuchTransaction}
-use Rattle.order_text.specs.declared.fault.OrderFault.TheVariants.{TooLong, Memory}
+use Rattle.order_text.specs.declared.fault.OrderFault.TheVariants.{BadLine, NoSuchTransaction, TooLong, Memory}
 
 -- what stands before and behind the first space
 unfoldable pub words_of : List ℕ → Option (List ℕ × List ℕ)

@@ -1,7 +1,5 @@
 -- What a sink does with a piece, and what a call that writes a piece of a text does.
-use Rattle.std.specs.Prelude.{◌≡◌, ℕ, zero, suc, ◌+◌, ◌-◌, ◌^◌, ◌<◌, ◌≤◌, nat_lt, if◌then◌else◌}
-use Rattle.std.specs.Prelude.{List, [], ◌∷◌, length, take, Option, Result, Ok, Err, IfOk, IfErr}
-use Rattle.std.specs.Prelude.{Bool, true, false}
+use Rattle.std.specs.Prelude.{◌≡◌, ℕ, zero, suc, ◌+◌, ◌-◌, ◌^◌, ◌<◌, ◌≤◌, nat_lt, if◌then◌else◌, List, [], ◌∷◌, length, take, Option, Result, Ok, Err, IfOk, IfErr, Bool, true, false}
 use Rattle.std.specs.Io.KnownBytes.{Appends}
 use Rattle.output.specs.declared.fault.SinkFailed.{SinkFailed}
 use Rattle.output.specs.declared.fault.WriteFault.{WriteFault}

@@ -7,8 +7,7 @@ use Rattle.log_lines.specs.Rows.{Table}
 use Rattle.level_refutations.specs.declared.evidence.Step.TheVariants as step
 use Rattle.level_refutations.specs.declared.evidence.Edge.TheVariants as edge
 use Rattle.level_refutations.specs.declared.evidence.{OpAt.OpAt, Hop.Hop, Step.Step, Overlooked.Overlooked, Edge.Edge}
-use Rattle.part_graphs.specs.Arrows.{session_look, read_look, anti_dependency_look}
-use Rattle.part_graphs.specs.Arrows.{version_order_look, arrow}
+use Rattle.part_graphs.specs.Arrows.{session_look, read_look, anti_dependency_look, version_order_look, arrow}
 
 abbrev pub step_look : Step → List ℕ
 step_look step.Session = session_look

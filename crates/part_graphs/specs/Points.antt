@@ -9,13 +9,10 @@ use Rattle.point_refutations.specs.declared.refutation.Since.TheVariants as sinc
 use Rattle.point_refutations.specs.declared.refutation.Why.TheVariants as why
 use Rattle.point_refutations.specs.declared.refutation.Step.TheVariants.{Shown, Forced, Later}
 use Rattle.point_refutations.specs.declared.refutation.Ending.TheVariants.{Circle, Neither}
-use Rattle.point_refutations.specs.declared.refutation.{PointAt.PointAt, Since.Since, Why.Why, Edge.Edge}
-use Rattle.point_refutations.specs.declared.refutation.{Overwritten.Overwritten, Against.Against, Step.Step}
-use Rattle.point_refutations.specs.declared.refutation.{Ending.Ending, Refutation.Refutation}
+use Rattle.point_refutations.specs.declared.refutation.{PointAt.PointAt, Since.Since, Why.Why, Edge.Edge, Overwritten.Overwritten, Against.Against, Step.Step, Ending.Ending, Refutation.Refutation}
 use Rattle.point_refutations.specs.Edges.{edge_from, edge_to}
 use Rattle.tell_evidence.specs.Sentences.{name_text}
-use Rattle.part_graphs.specs.Arrows.{session_look, read_look, anti_dependency_look}
-use Rattle.part_graphs.specs.Arrows.{version_order_look, ends_text}
+use Rattle.part_graphs.specs.Arrows.{session_look, read_look, anti_dependency_look, version_order_look, ends_text}
 
 -- the number under which a step is told
 abbrev pub number_of : ℕ → ℕ

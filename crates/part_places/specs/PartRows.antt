@@ -1,10 +1,8 @@
 -- The rows of a part in the table of the whole log: of the flagged transactions, and of their
 -- operations those that stay.
-use Rattle.std.specs.Prelude.{◌≡◌, ℕ, ◌+◌, ◌==◌, Bool, true, false, if◌then◌else◌, List, [], ◌∷◌}
-use Rattle.std.specs.Prelude.{◌++◌, length, drop, Some, slice_get}
+use Rattle.std.specs.Prelude.{◌≡◌, ℕ, ◌+◌, ◌==◌, Bool, true, false, if◌then◌else◌, List, [], ◌∷◌, ◌++◌, length, drop, Some, slice_get}
 use Rattle.std.specs.List.{AllByRecursion}
-use Rattle.session_log.specs.Text.{ClientSession, Transaction, IsLegal, log_text, op_line}
-use Rattle.session_log.specs.Text.{end_line, txn_lines, session_lines}
+use Rattle.session_log.specs.Text.{ClientSession, Transaction, IsLegal, log_text, op_line, end_line, txn_lines, session_lines}
 use Rattle.session_log.specs.Version.{first_line, version_of}
 use Rattle.session_log.specs.declared.line.Line.TheVariants.{Begin}
 use Rattle.session_log.specs.declared.session.Op.{Op}

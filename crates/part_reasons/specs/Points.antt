@@ -1,6 +1,5 @@
 -- Why a part has no order of its snapshots and commits, and what the field calls it.
-use Rattle.std.specs.Prelude.{◌≡◌, ℕ, ◌==◌, ◌||◌, Bool, true, false, List, [], ◌∷◌, ◌++◌, length, map}
-use Rattle.std.specs.Prelude.{if◌then◌else◌, codes, Option, None, Some, IfSome, String}
+use Rattle.std.specs.Prelude.{◌≡◌, ℕ, ◌==◌, ◌||◌, Bool, true, false, List, [], ◌∷◌, ◌++◌, length, map, if◌then◌else◌, codes, Option, None, Some, IfSome, String}
 use Rattle.std.specs.List.{starts_with}
 use Rattle.std.specs.Bool.{nat_eq}
 use Rattle.std.specs.Option.{option_map}

@@ -1,6 +1,5 @@
 -- Why a part has no serial order, in the names and the lines of the whole log.
-use Rattle.std.specs.Prelude.{◌≡◌, ◌⊎◌, ◌<◌, ◌==◌, ℕ, Bool, true, false, List, [], ◌++◌, length, map}
-use Rattle.std.specs.Prelude.{if◌then◌else◌, codes, Option, None, Some, IfSome, Vec, String}
+use Rattle.std.specs.Prelude.{◌≡◌, ◌⊎◌, ◌<◌, ◌==◌, ℕ, Bool, true, false, List, [], ◌++◌, length, map, if◌then◌else◌, codes, Option, None, Some, IfSome, Vec, String}
 use Rattle.std.specs.List.{Contains}
 use Rattle.std.specs.Option.{option_map}
 use Rattle.std.specs.String.{string_bytes}

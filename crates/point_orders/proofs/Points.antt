@@ -6,14 +6,13 @@ use Rattle.std.specs.Option.{option_map_or}
 use Rattle.std.proofs.lemmas.Bool.{cases_Bool}
 use Rattle.std.proofs.lemmas.List.Concat.{flat_map-append}
 use Rattle.std.proofs.Math.Path.{fun_ext}
-use Rattle.session_log.specs.Text.{ClientSession, Transaction}
+use Rattle.session_log.specs.Text.{ClientSession, Transaction, is_write}
 use Rattle.log_definitions.specs.Unknown.{is_committed}
 use Rattle.log_definitions.specs.Serial.{Committed, committed_of, committed_in, node_in, node_of}
 use Rattle.log_laws.specs.Logs.{IsLearntLog}
 use Rattle.log_laws.proofs.Sessions.{nodes_from, nodes_of}
 use Rattle.session_history.specs.Tables.{name_in}
 use Rattle.level_laws.specs.Snapshot.{Point, snapshot, commit}
-use Rattle.session_log.specs.Text.{is_write}
 use Rattle.level_laws.specs.Points.{points_from, points_at, points_along}
 use Rattle.level_laws.proofs.Nodes.{nodes_are}
 use Rattle.point_orders.specs.Text.{word_line, point_line, points_text}

@@ -1,6 +1,5 @@
 -- The transactions of the log in which writers are split, by those for which they stand.
-use Rattle.std.specs.Prelude.{ℕ, zero, suc, ◌+◌, true, false, if◌then◌else◌, List, [], ◌∷◌, ◌++◌}
-use Rattle.std.specs.Prelude.{codes, unwrap_or, slice_get}
+use Rattle.std.specs.Prelude.{ℕ, zero, suc, ◌+◌, true, false, if◌then◌else◌, List, [], ◌∷◌, ◌++◌, codes, unwrap_or, slice_get}
 use Rattle.std.specs.List.{flat_map}
 use Rattle.session_log.specs.Text.{ClientSession, Transaction}
 use Rattle.log_definitions.specs.Unknown.{is_committed}

@@ -13,8 +13,7 @@ use Rattle.level_laws.proofs.{Arith.same_commit, Arith.commit_snapshot, Interval
 use Rattle.level_laws.proofs.Orders.{before_place, lo_snapshot, lo_commit}
 use Rattle.seen_laws.{specs.Seen.WritesKey, proofs.Snapshots.met}
 use Rattle.level_refutations.specs.declared.evidence.OpAt.{OpAt}
-use Rattle.level_refutations.specs.{Places.txn_at, Places.op_at, Places.is_named, Places.is_external_in}
-use Rattle.level_refutations.specs.{Places.is_external, Places.is_of_key, Laws.Stands}
+use Rattle.level_refutations.specs.{Places.txn_at, Places.op_at, Places.is_named, Places.is_external_in, Places.is_external, Places.is_of_key, Laws.Stands}
 use Rattle.level_refutations.proofs.{Standing.standing, Standing.within, Steps.has_op, Steps.node_of_op, Steps.named}
 use Rattle.level_refutations.proofs.Sights.{External, external_at, of_key, same_read}
 use Rattle.level_refutations.proofs.Forced.{last_written, wrote_once}

@@ -1,20 +1,18 @@
 -- Edges between the points of transactions: the commit of one before the snapshot of another, or, by
 -- a step that says no more, before its commit; or the snapshot of one that misses a write before the
 -- commit of the other.
-use Rattle.std.specs.Prelude.{ℕ, ◌==◌, ◌&&◌, ◌||◌, Bool, true, false, not, is_some, List, [], ◌∷◌}
-use Rattle.std.specs.Prelude.{if◌then◌else◌, slice_get, Option, None, Some}
+use Rattle.std.specs.Prelude.{ℕ, ◌==◌, ◌&&◌, ◌||◌, Bool, true, false, not, is_some, List, [], ◌∷◌, if◌then◌else◌, slice_get, Option, None, Some}
 use Rattle.std.specs.{List.list_any, Option.option_map_or, Str.bytes_eq}
 use Rattle.session_log.specs.{Moments.is_earlier, Text.ClientSession}
 use Rattle.session_log.specs.declared.session.{Op.Op, Op.TheVariants.Read}
 use Rattle.level_refutations.specs.declared.evidence.{TxnAt.TxnAt, OpAt.OpAt}
 use Rattle.level_refutations.specs.Places.{txn_at, op_at, is_same, is_named, is_external, is_of_key}
 use Rattle.level_refutations.specs.{Places.names_initial, Edges.is_session_step, Edges.op_of}
-use Rattle.point_refutations.specs.declared.refutation.{Missed.Missed, Edge.Edge, PointAt.PointAt}
+use Rattle.point_refutations.specs.declared.refutation.{Missed.Missed, Edge.Edge, PointAt.PointAt, Since.Since, Why.Why, Step.Step}
 use Rattle.point_refutations.specs.declared.refutation.PointAt.TheVariants.{Snapshot, Commit}
 use Rattle.point_refutations.specs.declared.refutation.Since.TheVariants as since
 use Rattle.point_refutations.specs.declared.refutation.Why.TheVariants as why
 use Rattle.point_refutations.specs.declared.refutation.Step.TheVariants.{Shown, Forced, Later}
-use Rattle.point_refutations.specs.declared.refutation.{Since.Since, Why.Why, Step.Step}
 
 -- ---- steps
 

@@ -1,19 +1,16 @@
 -- Refutations by points that are right.
-use Rattle.std.specs.Prelude.{ℕ, ◌==◌, ◌&&◌, ◌||◌, Bool, true, false, not, List, [], ◌∷◌, ◌++◌}
-use Rattle.std.specs.Prelude.{length, Option, None, Some}
+use Rattle.std.specs.Prelude.{ℕ, ◌==◌, ◌&&◌, ◌||◌, Bool, true, false, not, List, [], ◌∷◌, ◌++◌, length, Option, None, Some}
 use Rattle.std.specs.{List.list_any, List.list_all, List.range_with_len, Str.bytes_eq}
 use Rattle.session_log.specs.Text.{ClientSession}
 use Rattle.session_log.specs.declared.session.{Op.Op, Op.TheVariants.Write}
 use Rattle.level_refutations.specs.declared.evidence.TxnAt.{TxnAt}
 use Rattle.level_refutations.specs.Places.{txn_at, op_at, is_same, is_named, is_external, is_of_key}
 use Rattle.point_refutations.specs.declared.refutation.PointAt.TheVariants.{Snapshot, Commit}
-use Rattle.point_refutations.specs.declared.refutation.{Both.Both, Overwritten.Overwritten, Against.Against}
-use Rattle.point_refutations.specs.declared.refutation.{PointAt.PointAt, Since.Since, Why.Why, Edge.Edge, Step.Step}
+use Rattle.point_refutations.specs.declared.refutation.{Both.Both, Overwritten.Overwritten, Against.Against, PointAt.PointAt, Since.Since, Why.Why, Edge.Edge, Step.Step, Ending.Ending, Refutation.Refutation}
 use Rattle.point_refutations.specs.declared.refutation.Since.TheVariants as since
 use Rattle.point_refutations.specs.declared.refutation.Why.TheVariants as why
 use Rattle.point_refutations.specs.declared.refutation.Step.TheVariants.{Shown, Forced, Later}
 use Rattle.point_refutations.specs.declared.refutation.Ending.TheVariants.{Circle, Neither}
-use Rattle.point_refutations.specs.declared.refutation.{Ending.Ending, Refutation.Refutation}
 use Rattle.point_refutations.specs.Edges.{both_are, edge_from, is_simple_way}
 
 -- ---- two that write one key

@@ -1,7 +1,6 @@
 -- The first fault of a DRAT proof. A deletion asks for nothing: a clause is to follow from those of
 -- the formula and all that were added before it.
-use Rattle.std.specs.Prelude.{ℕ, Bool, true, false, not, ◌||◌, IsTrue, IsFalse, List, []}
-use Rattle.std.specs.Prelude.{◌∷◌, ◌++◌, Option, None, Some}
+use Rattle.std.specs.Prelude.{ℕ, Bool, true, false, not, ◌||◌, IsTrue, IsFalse, List, [], ◌∷◌, ◌++◌, Option, None, Some}
 use Rattle.serializability.specs.declared.literal.Literal.{Literal}
 use Rattle.proof_text.specs.Steps.{DratStep}
 use Rattle.proof_text.specs.declared.fault.ProofFault.{ProofFault}

@@ -8,8 +8,7 @@ use Rattle.proof_text.specs.declared.lrat.LratAction.{LratAction}
 use Rattle.proof_text.specs.declared.lrat.LratAction.TheVariants.{Add}
 use Rattle.proof_checks.specs.Distinct.{distinct}
 use Rattle.proof_checks.specs.Ends.{is_nil, end_fault}
-use Rattle.proof_checks.specs.Lrat.{Proof, numbers_at, addition_fault, after_action, step_fault}
-use Rattle.proof_checks.specs.Lrat.{after_step, adds_empty, lrat_fault}
+use Rattle.proof_checks.specs.Lrat.{Proof, numbers_at, addition_fault, after_action, step_fault, after_step, adds_empty, lrat_fault}
 use Rattle.proof_checks.specs.Marks.{HasRounds}
 use Rattle.proof_checks.specs.declared.lrat.Lrat.{Lrat}
 

@@ -1,9 +1,5 @@
 -- The first fault of an LRAT proof.
-use Rattle.std.specs.Prelude.{ℕ, ◌+◌, ◌-◌, Bool, true, false, ◌&&◌, if◌then◌else◌, nat_le, nat_lt}
-use Rattle.std.specs.Prelude.{◌==◌, List, [], ◌∷◌}
-use Rattle.std.specs.Prelude.{◌++◌, length, position, Option, None, Some, is_some, unwrap_or}
-use Rattle.std.specs.Prelude.{option_map, option_and_then}
-use Rattle.std.specs.Prelude.{slice_set, slice_index_or}
+use Rattle.std.specs.Prelude.{ℕ, ◌+◌, ◌-◌, Bool, true, false, ◌&&◌, if◌then◌else◌, nat_le, nat_lt, ◌==◌, List, [], ◌∷◌, ◌++◌, length, position, Option, None, Some, is_some, unwrap_or, option_map, option_and_then, slice_set, slice_index_or}
 use Rattle.std.specs.Option.{option_or}
 use Rattle.serializability.specs.declared.literal.Literal.{Literal}
 use Rattle.refutation.specs.Hinted.{hinted}

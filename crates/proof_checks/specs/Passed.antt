@@ -1,6 +1,5 @@
 -- What a step of a DRAT proof did, as the code goes on from step to step.
-use Rattle.std.specs.Prelude.{◌≡◌, ℕ, ◌<◌, Bool, true, false, List, [], ◌∷◌, ◌++◌, length, Option}
-use Rattle.std.specs.Prelude.{Some}
+use Rattle.std.specs.Prelude.{◌≡◌, ℕ, ◌<◌, Bool, true, false, List, [], ◌∷◌, ◌++◌, length, Option, Some}
 use Rattle.serializability.specs.declared.literal.Literal.{Literal}
 use Rattle.proof_text.specs.Steps.{DratStep}
 use Rattle.proof_text.specs.declared.drat.DratAction.TheVariants.{Add}

@@ -1,7 +1,5 @@
 -- How far a propagation is that looks at one clause after the other.
-use Rattle.std.specs.Prelude.{◌≡◌, ℕ, ◌≤◌, Bool, true, false, ◌⊎◌, List, [], ◌∷◌, ◌++◌, Option}
-use Rattle.std.specs.Prelude.{Some, length}
-use Rattle.std.specs.Prelude.{IsTrue, IsFalse}
+use Rattle.std.specs.Prelude.{◌≡◌, ℕ, ◌≤◌, Bool, true, false, ◌⊎◌, List, [], ◌∷◌, ◌++◌, Option, Some, length, IsTrue, IsFalse}
 use Rattle.std.specs.List.{Contains}
 use Rattle.serializability.specs.declared.literal.Literal.{Literal}
 use Rattle.refutation.specs.Numbered.{clause_at}

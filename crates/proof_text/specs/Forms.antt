@@ -1,6 +1,5 @@
 -- Which form a proof has.
-use Rattle.std.specs.Prelude.{ℕ, Bool, true, false, ◌&&◌, ◌||◌, not, if◌then◌else◌, nat_lt, ◌==◌}
-use Rattle.std.specs.Prelude.{List, [], ◌∷◌, drop, Option, Some, None}
+use Rattle.std.specs.Prelude.{ℕ, Bool, true, false, ◌&&◌, ◌||◌, not, if◌then◌else◌, nat_lt, ◌==◌, List, [], ◌∷◌, drop, Option, Some, None}
 use Rattle.proof_text.specs.Words.{words, lines, lines_of, is_delete}
 use Rattle.proof_text.specs.Numbers.{numbers_of, first_number}
 use Rattle.proof_text.specs.declared.number.Number.{Number}

@@ -1,10 +1,8 @@
 -- The steps of proofs in texts.
-use Rattle.std.specs.Prelude.{ℕ, true, false, ◌||◌, if◌then◌else◌, ◌==◌, List, [], map, drop}
-use Rattle.std.specs.Prelude.{Option, Some, None, option_map, option_and_then}
+use Rattle.std.specs.Prelude.{ℕ, true, false, ◌||◌, if◌then◌else◌, ◌==◌, List, [], map, drop, Option, Some, None, option_map, option_and_then}
 use Rattle.serializability.specs.declared.literal.Literal.{Literal}
 use Rattle.proof_text.specs.Words.{is_delete, behind_delete, lines_of}
-use Rattle.proof_text.specs.Numbers.{numbers_of, literal_of, first_number, id_of, before_zero}
-use Rattle.proof_text.specs.Numbers.{whole}
+use Rattle.proof_text.specs.Numbers.{numbers_of, literal_of, first_number, id_of, before_zero, whole}
 use Rattle.proof_text.specs.declared.number.Number.{Number}
 use Rattle.proof_text.specs.declared.lrat.LratAction.{LratAction}
 use Rattle.proof_text.specs.declared.lrat.LratAction.TheVariants as lrat

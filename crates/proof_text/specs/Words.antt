@@ -1,6 +1,5 @@
 -- The words and the lines of a text.
-use Rattle.std.specs.Prelude.{◌≡◌, ℕ, ◌+◌, ◌^◌, ◌≤◌, Bool, true, false, ◌||◌, not, if◌then◌else◌}
-use Rattle.std.specs.Prelude.{◌==◌, List, [], ◌∷◌, length, drop}
+use Rattle.std.specs.Prelude.{◌≡◌, ℕ, ◌+◌, ◌^◌, ◌≤◌, Bool, true, false, ◌||◌, not, if◌then◌else◌, ◌==◌, List, [], ◌∷◌, length, drop}
 use Rattle.std.specs.Str.{bytes_eq}
 
 -- a space, a tab or a carriage return

@@ -2,8 +2,7 @@
 use Rattle.std.specs.Prelude.{◌≡◌, ◌≤◌, length, take}
 use Rattle.serializability.specs.Polygraph.{Polygraph}
 use Rattle.reach_laws.specs.Reach.{IsCyclic}
-use Rattle.prune_ledger.specs.Pruned.{IsRemainder, IsDeadBy, IsProgress, IsGraphOf, AreOpen}
-use Rattle.prune_ledger.specs.Pruned.{kept_by}
+use Rattle.prune_ledger.specs.Pruned.{IsRemainder, IsDeadBy, IsProgress, IsGraphOf, AreOpen, kept_by}
 use Rattle.prune_ledger.specs.declared.remains.Pruned.{Pruned}
 use Rattle.prune_ledger.specs.declared.remains.Pruned.TheVariants.{Dead, Open}
 use Rattle.prune_ledger.specs.declared.rounds.Ended.{Ended}

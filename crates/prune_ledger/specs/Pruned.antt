@@ -1,6 +1,5 @@
 -- What pruning gives.
-use Rattle.std.specs.Prelude.{◌≡◌, ◌↔◌, ◌||◌, ℕ, List, [], ◌∷◌, Bool, true, Some, IfSome, IsSome}
-use Rattle.std.specs.Prelude.{IsNone, if◌then◌else◌, map, length, slice_get}
+use Rattle.std.specs.Prelude.{◌≡◌, ◌↔◌, ◌||◌, ℕ, List, [], ◌∷◌, Bool, true, Some, IfSome, IsSome, IsNone, if◌then◌else◌, map, length, slice_get}
 use Rattle.std.specs.List.{Contains, AllByRecursion}
 use Rattle.serializability.specs.Polygraph.{Edge, Choice, Polygraph, Fits}
 use Rattle.reach_laws.specs.Reach.{Graph, IsCyclic, IsCycle}

@@ -1,6 +1,5 @@
 -- The written step.
-use Rattle.std.specs.Prelude.{ℕ, ◌+◌, ◌&&◌, ◌||◌, not, List, [], ◌∷◌, ◌++◌, Bool, true, false}
-use Rattle.std.specs.Prelude.{Option, Some, None, if◌then◌else◌, slice_get, slice_set}
+use Rattle.std.specs.Prelude.{ℕ, ◌+◌, ◌&&◌, ◌||◌, not, List, [], ◌∷◌, ◌++◌, Bool, true, false, Option, Some, None, if◌then◌else◌, slice_get, slice_set}
 use Rattle.std.specs.Option.{option_map_or}
 use Rattle.std.specs.List.{filter}
 use Rattle.serializability.specs.Polygraph.{Edge}
@@ -16,9 +15,7 @@ use Rattle.prune_ledger.specs.declared.messages.ChoiceState.{ChoiceState}
 use Rattle.prune_ledger.specs.declared.messages.PruneEvent.{PruneEvent}
 use Rattle.prune_ledger.specs.declared.messages.PruneEvent.TheVariants.{Take, Post, Pass, Release}
 use Rattle.prune_ledger.specs.declared.messages.PruneReply.{PruneReply}
-use Rattle.prune_ledger.specs.declared.messages.PruneReply.TheVariants.{Judge, NoneLeft, Entered}
-use Rattle.prune_ledger.specs.declared.messages.PruneReply.TheVariants.{AlreadyIn, BadWalk, Noted}
-use Rattle.prune_ledger.specs.declared.messages.PruneReply.TheVariants.{Released, Dead}
+use Rattle.prune_ledger.specs.declared.messages.PruneReply.TheVariants.{Judge, NoneLeft, Entered, AlreadyIn, BadWalk, Noted, Released, Dead}
 
 -- those of the pairs of nodes 0 to n that are among these edges, by the first node and then the
 -- second

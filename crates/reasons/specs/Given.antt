@@ -4,8 +4,7 @@ use Rattle.session_log.specs.Text.{ClientSession}
 use Rattle.session_log.specs.declared.session.Op.TheVariants.{Write}
 use Rattle.log_definitions.specs.WellFormed.{keys_in}
 use Rattle.log_definitions.specs.Numbers.{number_in}
-use Rattle.reason_laws.specs.Reasons.{AreOfSession, IsReadBy, IsOverwrittenBy, IsOfInitialBefore}
-use Rattle.reason_laws.specs.Reasons.{EndsBefore, IsOpAt}
+use Rattle.reason_laws.specs.Reasons.{AreOfSession, IsReadBy, IsOverwrittenBy, IsOfInitialBefore, EndsBefore, IsOpAt}
 use Rattle.reasons.specs.declared.reason.Reason.{Reason}
 use Rattle.reasons.specs.declared.reason.Reason.TheVariants as reason
 

@@ -8,8 +8,7 @@ use Rattle.log_definitions.specs.Serial.{committed_in}
 use Rattle.log_laws.specs.Logs.{IsSoundLog, IsLearntLog, HasOrder}
 use Rattle.level_laws.specs.Snapshot.{HasSnapshotOrder, HasPrefixOrder}
 use Rattle.level_laws.specs.Without.{without_moments}
-use Rattle.round_laws.specs.Rounds.{Keeper, bare, run_of_two, IsClosed, IsOpened}
-use Rattle.round_laws.specs.Rounds.{IsReadLast, IsLeft, values, IsInTime}
+use Rattle.round_laws.specs.Rounds.{Keeper, bare, run_of_two, IsClosed, IsOpened, IsReadLast, IsLeft, values, IsInTime}
 
 -- a log with an opening and a closing
 pub record IsRound (keeper : Keeper) (ss : List ClientSession) : Type 0 where

@@ -1,13 +1,12 @@
 -- The plain formula of a clean history, and the orders that fit its bipaths.
 use Rattle.serializability.proofs.Prelude.{◌≡◌, ◌≢◌, ℕ, ◌+◌, ◌≤◌, Bool, true, false, ◌||◌, List, [], ◌∷◌, ◌++◌, refl, sym, inl, inr, arith, length-append, not, AllByRecursion, map, false≢true, or_cases, or_left, or_right, Log, Before}
 use Rattle.serializability.proofs.Prelude.{IsSerial, IsClean, Edge, Choice, KeepsOne, Fits, arcs, is_arc, bipaths, bipath_polygraph, Literal, Satisfies, clause_true, value_of, order_clauses, is_before, before, IsOrder, IsDecoded}
-use Rattle.serializability.proofs.Places.{each_of_append, each_from_append, each_of_map, each_from_map}
+use Rattle.serializability.proofs.Places.{each_of_append, each_from_append, each_of_map, each_from_map, length_mapped}
 use Rattle.serializability.proofs.Serial.{each_of_arcs, each_from_arcs, each_of_bipaths, each_from_bipaths, arc_from_zero, arc_apart, rival_is, source_within, serial_fits, fitting_serial}
 use Rattle.serializability.specs.Plain.{nothing_known, plain_nodes, plain_pairs, literals_of, plain, contradiction}
 use Rattle.serializability.proofs.Ranks.{IsRanked, ranked_once, ranked_before}
 use Rattle.serializability.proofs.Tournament.{lit, IsKnown, before_lit, turns_kept, is_order}
 use Rattle.serializability.proofs.Made.{in_order, made, Agrees, lit_made, order_clauses_made}
-use Rattle.serializability.proofs.Places.{length_mapped}
 use Rattle.serializability.proofs.Lines.{decoded}
 
 nothing_is : IsKnown nothing_known

@@ -1,6 +1,5 @@
 -- The order that an assignment stands for.
-use Rattle.std.specs.Prelude.{◌≡◌, ◌≢◌, ◌⊎◌, true, false, ℕ, ◌+◌, ◌<◌, ◌≤◌, ◌==◌, ◌&&◌, ◌||◌, not}
-use Rattle.std.specs.Prelude.{Bool, List, length, slice_index, EachIndex}
+use Rattle.std.specs.Prelude.{◌≡◌, ◌≢◌, ◌⊎◌, true, false, ℕ, ◌+◌, ◌<◌, ◌≤◌, ◌==◌, ◌&&◌, ◌||◌, not, Bool, List, length, slice_index, EachIndex}
 use Rattle.std.specs.List.{count_by, range_with_len, All}
 use Rattle.serializability.specs.Formula.{Cnf, Satisfies, literal_true, IsInRange, HasShortClauses}
 use Rattle.serializability.specs.Pairs.{Known, free_pairs, edge_literal}

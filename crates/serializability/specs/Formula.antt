@@ -1,6 +1,5 @@
 -- Formulas in conjunctive normal form, and the assignments that satisfy them.
-use Rattle.std.specs.Prelude.{◌≡◌, ℕ, ◌-◌, ◌<◌, ◌≤◌, Bool, true, false, not, if◌then◌else◌, List}
-use Rattle.std.specs.Prelude.{length, slice_index_or}
+use Rattle.std.specs.Prelude.{◌≡◌, ℕ, ◌-◌, ◌<◌, ◌≤◌, Bool, true, false, not, if◌then◌else◌, List, length, slice_index_or}
 use Rattle.std.specs.List.{list_any, AllByRecursion}
 use Rattle.serializability.specs.declared.literal.Literal.{Literal}
 

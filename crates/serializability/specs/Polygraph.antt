@@ -1,6 +1,5 @@
 -- Arcs, bipaths and the orders that fit them.
-use Rattle.std.specs.Prelude.{◌⊎◌, ℕ, ◌+◌, ◌==◌, ◌&&◌, ◌||◌, not, List, [], ◌∷◌, Option, None, Some}
-use Rattle.std.specs.Prelude.{Bool, false, unwrap_or, is_some, map}
+use Rattle.std.specs.Prelude.{◌⊎◌, ℕ, ◌+◌, ◌==◌, ◌&&◌, ◌||◌, not, List, [], ◌∷◌, Option, None, Some, Bool, false, unwrap_or, is_some, map}
 use Rattle.std.specs.List.{find, filter, flat_map, list_any, range_with_len, AllByRecursion}
 use Rattle.std.specs.Option.{option_map, option_map_or}
 use Rattle.serializability.specs.Log.{Log, precedes}

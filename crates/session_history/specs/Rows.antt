@@ -1,6 +1,5 @@
 -- Who writes and who reads a key, node by node.
-use Rattle.std.specs.Prelude.{◌≡◌, ℕ, ◌+◌, ◌<◌, List, [], ◌∷◌, ◌++◌, length, map, Option, None}
-use Rattle.std.specs.Prelude.{Some, slice_get, All}
+use Rattle.std.specs.Prelude.{◌≡◌, ℕ, ◌+◌, ◌<◌, List, [], ◌∷◌, ◌++◌, length, map, Option, None, Some, slice_get, All}
 use Rattle.std.specs.Option.{option_map}
 use Rattle.serializability.specs.declared.event.Event.{Event}
 use Rattle.serializability.specs.Reads.{last_write, external_read}

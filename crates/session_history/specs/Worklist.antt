@@ -1,8 +1,6 @@
 -- Which transactions of unknown outcome are taken, found session by session.
-use Rattle.std.specs.Prelude.{◌≡◌, ℕ, ◌==◌, Bool, true, false, if◌then◌else◌, List, [], ◌∷◌, ◌++◌}
-use Rattle.std.specs.Prelude.{map, Option, None, Some}
+use Rattle.std.specs.Prelude.{◌≡◌, ℕ, ◌==◌, Bool, true, false, if◌then◌else◌, List, [], ◌∷◌, ◌++◌, map, Option, None, Some, nat_eq}
 use Rattle.std.specs.List.{flat_map, list_any, IsDistinct}
-use Rattle.std.specs.Prelude.{nat_eq}
 use Rattle.std.specs.Option.{option_or}
 use Rattle.std.specs.Str.{bytes_eq}
 use Rattle.session_log.specs.Text.{ClientSession, Transaction}

@@ -1,7 +1,6 @@
 -- The blocks of a log: each begins at the first line behind the header, or at a line that begins
 -- with the bytes `session`.
-use Rattle.std.specs.Prelude.{ℕ, ◌+◌, Bool, true, if◌then◌else◌, nat_lt, List, [], ◌∷◌, length}
-use Rattle.std.specs.Prelude.{count_by, slice_range, Option, Some, None}
+use Rattle.std.specs.Prelude.{ℕ, ◌+◌, Bool, true, if◌then◌else◌, nat_lt, List, [], ◌∷◌, length, count_by, slice_range, Option, Some, None}
 use Rattle.std.specs.List.{flat_map}
 use Rattle.session_log.specs.Lines.{lines, bytes_of}
 use Rattle.session_log.specs.Version.{header_text, first_line, version_of, body_of}

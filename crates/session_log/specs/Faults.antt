@@ -1,6 +1,5 @@
 -- The first fault of a text, line by line.
-use Rattle.std.specs.Prelude.{◌≡◌, ℕ, zero, suc, ◌+◌, Bool, false, if◌then◌else◌, nat_eq, List, []}
-use Rattle.std.specs.Prelude.{◌∷◌, codes, Option, Some, None, Result, Ok, Err}
+use Rattle.std.specs.Prelude.{◌≡◌, ℕ, zero, suc, ◌+◌, Bool, false, if◌then◌else◌, nat_eq, List, [], ◌∷◌, codes, Option, Some, None, Result, Ok, Err}
 use Rattle.std.specs.List.{starts_with, AllByRecursion}
 use Rattle.session_log.specs.Lines.{form_of, lines}
 use Rattle.session_log.specs.Moments.{is_earlier}
@@ -9,10 +8,7 @@ use Rattle.session_log.specs.declared.line.Line.{Line}
 use Rattle.session_log.specs.declared.line.Line.TheVariants as line
 use Rattle.session_log.specs.declared.fault.LogFault.{LogFault}
 use Rattle.session_log.specs.declared.fault.Limit.TheVariants.{LogBytes, Sessions}
-use Rattle.session_log.specs.declared.fault.LogFault.TheVariants.{BadLine, OutsideTransaction}
-use Rattle.session_log.specs.declared.fault.LogFault.TheVariants.{OpenTransaction, WriteZero}
-use Rattle.session_log.specs.declared.fault.LogFault.TheVariants.{UnknownNotLast, EndsBeforeBegin}
-use Rattle.session_log.specs.declared.fault.LogFault.TheVariants.{OverLimit, Memory}
+use Rattle.session_log.specs.declared.fault.LogFault.TheVariants.{BadLine, OutsideTransaction, OpenTransaction, WriteZero, UnknownNotLast, EndsBeforeBegin, OverLimit, Memory}
 use Rattle.session_log.specs.declared.version.Version.{Version}
 
 -- where reading has come to: no session has begun; a session has, and no transaction is open; the

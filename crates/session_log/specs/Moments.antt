@@ -1,7 +1,6 @@
 -- Moments at which transactions began and ended, as a log states them: numbers of one clock,
 -- whatever its unit.
-use Rattle.std.specs.Prelude.{ℕ, ◌<◌, ◌^◌, Bool, false, nat_lt, List, [], ◌∷◌, decimal, Option}
-use Rattle.std.specs.Prelude.{Some, None}
+use Rattle.std.specs.Prelude.{ℕ, ◌<◌, ◌^◌, Bool, false, nat_lt, List, [], ◌∷◌, decimal, Option, Some, None}
 
 -- both are stated, and the one is less than the other: equal moments say nothing
 abbrev pub is_earlier : Option ℕ → Option ℕ → Bool

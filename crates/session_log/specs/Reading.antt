@@ -1,9 +1,7 @@
 -- A session that is being read.
 use Rattle.std.specs.Prelude.{◌≡◌, ℕ, Bool, true, false, List, [], ◌∷◌, ◌++◌, map, Ok}
 use Rattle.std.specs.List.{flat_map, AllByRecursion}
-use Rattle.session_log.specs.Text.{Transaction, op_line, txn_lines, view_txn, IsLegalLine}
-use Rattle.session_log.specs.Text.{IsLegalMoment, IsLegalOp, IsLegalTxn, HasNoMoments, IsKnown}
-use Rattle.session_log.specs.Text.{IsKnownBeforeLast, text_of_lines}
+use Rattle.session_log.specs.Text.{Transaction, op_line, txn_lines, view_txn, IsLegalLine, IsLegalMoment, IsLegalOp, IsLegalTxn, HasNoMoments, IsKnown, IsKnownBeforeLast, text_of_lines}
 use Rattle.session_log.specs.Lines.{bytes_of}
 use Rattle.session_log.specs.Version.{has_unknown_line, has_moments}
 use Rattle.session_log.specs.Faults.{Place, Between, Inside, Over, after, step}

@@ -1,7 +1,6 @@
 -- The one text of each list of sessions. Its lines are this project's own; that each write has an
 -- identity, which the reads of it name, is after Cobra (Tan et al., OSDI 2020).
-use Rattle.std.specs.Prelude.{◌≡◌, ℕ, ◌<◌, ◌^◌, ◌-◌, min, Bool, true, false, ◌||◌, if◌then◌else◌, List, []}
-use Rattle.std.specs.Prelude.{◌∷◌, ◌++◌, map, codes, decimal, is_some, Option, Some, None}
+use Rattle.std.specs.Prelude.{◌≡◌, ℕ, ◌<◌, ◌^◌, ◌-◌, min, Bool, true, false, ◌||◌, if◌then◌else◌, List, [], ◌∷◌, ◌++◌, map, codes, decimal, is_some, Option, Some, None}
 use Rattle.std.specs.List.{flat_map, list_any, AllByRecursion}
 use Rattle.session_log.specs.Key.{IsKey}
 use Rattle.session_log.specs.Moments.{is_earlier, moment_text, IsMoment}

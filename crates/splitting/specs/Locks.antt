@@ -1,6 +1,5 @@
 -- How the locks of a log are named, and where there is no room for their names.
-use Rattle.std.specs.Prelude.{◌≡◌, ℕ, ◌+◌, ◌^◌, ◌==◌, true, max, if◌then◌else◌, nat_lt, List, [], ◌∷◌}
-use Rattle.std.specs.Prelude.{◌++◌, length, map, replicate, Bool, Option, Some, None, decimal}
+use Rattle.std.specs.Prelude.{◌≡◌, ℕ, ◌+◌, ◌^◌, ◌==◌, true, max, if◌then◌else◌, nat_lt, List, [], ◌∷◌, ◌++◌, length, map, replicate, Bool, Option, Some, None, decimal}
 use Rattle.std.specs.List.{prefix_len}
 use Rattle.serializability.specs.Replay.{place_of}
 use Rattle.session_log.specs.Text.{ClientSession, key_of}

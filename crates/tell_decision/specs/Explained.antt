@@ -1,6 +1,5 @@
 -- Why there is no order, written behind what `check` says.
-use Rattle.std.specs.Prelude.{◌≡◌, ℕ, ◌+◌, ◌==◌, Bool, true, false, if◌then◌else◌, List, [], ◌∷◌}
-use Rattle.std.specs.Prelude.{◌++◌, codes, take, drop, Option, None, Some}
+use Rattle.std.specs.Prelude.{◌≡◌, ℕ, ◌+◌, ◌==◌, Bool, true, false, if◌then◌else◌, List, [], ◌∷◌, ◌++◌, codes, take, drop, Option, None, Some}
 use Rattle.std.specs.List.{flat_map, prefix_len}
 use Rattle.session_log.specs.Text.{ClientSession}
 use Rattle.log_lines.specs.Rows.{Table, rows_of}

@@ -6,8 +6,7 @@ use Rattle.session_log.specs.Text.{ClientSession}
 use Rattle.reasons.specs.declared.reason.Reason.TheVariants as reason
 use Rattle.tell_reasons.specs.Names.{followed, milder, cycle_name}
 use Rattle.tell_reasons.specs.declared.names.Shape.{Shape}
-use Rattle.tell_reasons.specs.declared.names.TheConstants.{NO_EDGES, MISSED, READ, WRITTEN}
-use Rattle.tell_reasons.specs.declared.names.TheConstants.{SESSION, MOMENTS}
+use Rattle.tell_reasons.specs.declared.names.TheConstants.{NO_EDGES, MISSED, READ, WRITTEN, SESSION, MOMENTS}
 use Rattle.tell_reasons.specs.declared.why.Why.{Why}
 use Rattle.tell_reasons.specs.declared.why.Why.TheVariants as why
 use Rattle.tell_steps.specs.declared.item.Item.{Item}

@@ -1,7 +1,6 @@
 -- A cycle in a sentence: what each of its transactions saw of another one, and what not: `in short:
 -- 2.1 saw 1.1's x, but did not see 1.1's y`.
-use Rattle.std.specs.Prelude.{ℕ, ◌-◌, ◌||◌, ◌&&◌, Bool, true, not, nat_lt, if◌then◌else◌, List, [], ◌∷◌}
-use Rattle.std.specs.Prelude.{◌++◌, codes, decimal, length, take, drop, reverse, nat_eq, Option, None, Some}
+use Rattle.std.specs.Prelude.{ℕ, ◌-◌, ◌||◌, ◌&&◌, Bool, true, not, nat_lt, if◌then◌else◌, List, [], ◌∷◌, ◌++◌, codes, decimal, length, take, drop, reverse, nat_eq, Option, None, Some}
 use Rattle.std.specs.List.{prefix_len}
 use Rattle.session_log.specs.Text.{ClientSession}
 use Rattle.reasons.specs.declared.reason.Reason.{Reason}

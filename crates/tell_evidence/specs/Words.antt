@@ -3,11 +3,9 @@ use Rattle.std.specs.Prelude.{ℕ, List, [], ◌∷◌, ◌++◌, decimal}
 use Rattle.session_log.specs.Text.{ClientSession}
 use Rattle.log_lines.specs.Rows.{Table}
 use Rattle.tell_evidence.specs.declared.words.Word.{Word}
-use Rattle.tell_evidence.specs.declared.words.Word.TheVariants.{Text, Name, Key, Wid, Number, AtLine, AtEnd}
-use Rattle.tell_evidence.specs.declared.words.Word.TheVariants.{Version, Does, Wrote, Path}
+use Rattle.tell_evidence.specs.declared.words.Word.TheVariants.{Text, Name, Key, Wid, Number, AtLine, AtEnd, Version, Does, Wrote, Path}
 use Rattle.tell_evidence.specs.Rows.{line_of, end_of, key_at, wid_at}
-use Rattle.tell_evidence.specs.Sentences.{name_text, in_line, version_text, does_text, wrote_text}
-use Rattle.tell_evidence.specs.Sentences.{path_lines}
+use Rattle.tell_evidence.specs.Sentences.{name_text, in_line, version_text, does_text, wrote_text, path_lines}
 
 abbrev pub word_text : Table → List ClientSession → Word → List ℕ
 word_text table ss (Text text) = text.now

@@ -1,8 +1,7 @@
 -- Lines of edges between points, of steps, and of what they lead to. Transactions have their names in
 -- the log, as `2.7`; operations stand with their lines.
 use Rattle.std.specs.Prelude.{ℕ, ◌+◌, ◌-◌, ◌^◌, min, List, [], ◌∷◌, ◌++◌, if◌then◌else◌, codes, decimal}
-use Rattle.std.specs.{Prelude.unwrap_or, Prelude.option_and_then, Prelude.Option, Prelude.None, Prelude.Some}
-use Rattle.std.specs.{List.flat_map, Option.option_map_or}
+use Rattle.std.specs.{Prelude.unwrap_or, Prelude.option_and_then, Prelude.Option, Prelude.None, Prelude.Some, List.flat_map, Option.option_map_or}
 use Rattle.session_log.specs.Text.{ClientSession}
 use Rattle.log_lines.specs.Rows.{Table}
 use Rattle.level_refutations.specs.declared.evidence.{TxnAt.TxnAt, OpAt.OpAt}
@@ -11,8 +10,7 @@ use Rattle.point_refutations.specs.declared.refutation.PointAt.TheVariants.{Snap
 use Rattle.point_refutations.specs.declared.refutation.Since.TheVariants as since
 use Rattle.point_refutations.specs.declared.refutation.Why.TheVariants as why
 use Rattle.point_refutations.specs.declared.refutation.Step.TheVariants.{Shown, Forced, Later}
-use Rattle.point_refutations.specs.declared.refutation.{PointAt.PointAt, Since.Since, Why.Why, Edge.Edge}
-use Rattle.point_refutations.specs.declared.refutation.{Both.Both, Overwritten.Overwritten, Against.Against, Step.Step}
+use Rattle.point_refutations.specs.declared.refutation.{PointAt.PointAt, Since.Since, Why.Why, Edge.Edge, Both.Both, Overwritten.Overwritten, Against.Against, Step.Step}
 use Rattle.point_refutations.specs.Edges.{edge_from, edge_to}
 use Rattle.tell_evidence.specs.Rows.{number_at, begin_of, end_of, line_of, key_at, wid_at}
 use Rattle.tell_evidence.specs.Sentences.{name_text, in_line, does_text, wrote_text}

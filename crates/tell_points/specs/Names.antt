@@ -7,8 +7,7 @@ use Rattle.tell_reasons.specs.declared.names.TheConstants.{READ, WRITTEN, SESSIO
 use Rattle.point_refutations.specs.declared.refutation.Why.TheVariants as why
 use Rattle.point_refutations.specs.declared.refutation.Step.TheVariants.{Shown, Forced, Later}
 use Rattle.point_refutations.specs.declared.refutation.Ending.TheVariants.{Circle, Neither}
-use Rattle.point_refutations.specs.declared.refutation.{Why.Why, Edge.Edge}
-use Rattle.point_refutations.specs.declared.refutation.{Against.Against, Step.Step, Ending.Ending, Refutation.Refutation}
+use Rattle.point_refutations.specs.declared.refutation.{Why.Why, Edge.Edge, Against.Against, Step.Step, Ending.Ending, Refutation.Refutation}
 use Rattle.tell_points.specs.Short.{are_lost}
 
 abbrev pub shape_of : Why → Shape

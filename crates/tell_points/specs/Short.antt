@@ -1,6 +1,5 @@
 -- What closes in a sentence or two: what each transaction saw of another one, and what not.
-use Rattle.std.specs.Prelude.{ℕ, ◌+◌, ◌&&◌, not, nat_lt, Bool, false, List, [], ◌∷◌, ◌++◌, length}
-use Rattle.std.specs.Prelude.{if◌then◌else◌, codes, decimal, slice_get, Option, None, Some}
+use Rattle.std.specs.Prelude.{ℕ, ◌+◌, ◌&&◌, not, nat_lt, Bool, false, List, [], ◌∷◌, ◌++◌, length, if◌then◌else◌, codes, decimal, slice_get, Option, None, Some}
 use Rattle.std.specs.Option.{option_map_or}
 use Rattle.session_log.specs.Text.{ClientSession}
 use Rattle.log_lines.specs.Rows.{Table}
@@ -10,8 +9,7 @@ use Rattle.point_refutations.specs.declared.refutation.Since.TheVariants as sinc
 use Rattle.point_refutations.specs.declared.refutation.Why.TheVariants as why
 use Rattle.point_refutations.specs.declared.refutation.Step.TheVariants.{Forced, Later}
 use Rattle.point_refutations.specs.declared.refutation.Ending.TheVariants.{Circle, Neither}
-use Rattle.point_refutations.specs.declared.refutation.{Since.Since, Why.Why, Edge.Edge, Both.Both}
-use Rattle.point_refutations.specs.declared.refutation.{Overwritten.Overwritten, Against.Against, Step.Step, Ending.Ending}
+use Rattle.point_refutations.specs.declared.refutation.{Since.Since, Why.Why, Edge.Edge, Both.Both, Overwritten.Overwritten, Against.Against, Step.Step, Ending.Ending}
 use Rattle.point_refutations.specs.Edges.{is_missed, both_are, is_same_read}
 use Rattle.tell_evidence.specs.{Rows.key_at, Sentences.name_text}
 use Rattle.tell_points.specs.Lines.{number_of}

@@ -1,7 +1,6 @@
 -- How an anomaly is told: the reads that show it, who wrote what they name, and what their
 -- transactions did with the key besides. Operations count from 0.
-use Rattle.std.specs.Prelude.{ℕ, ◌+◌, ◌-◌, ◌&&◌, ◌==◌, Bool, false, List, [], ◌++◌, drop, position}
-use Rattle.std.specs.Prelude.{codes, decimal, slice_get, Option, None, Some, nat_lt, if◌then◌else◌}
+use Rattle.std.specs.Prelude.{ℕ, ◌+◌, ◌-◌, ◌&&◌, ◌==◌, Bool, false, List, [], ◌++◌, drop, position, codes, decimal, slice_get, Option, None, Some, nat_lt, if◌then◌else◌}
 use Rattle.std.specs.Option.{option_map, option_map_or}
 use Rattle.std.specs.Str.{bytes_eq}
 use Rattle.session_log.specs.Text.{key_of, is_write}
@@ -15,8 +14,7 @@ use Rattle.order_text.specs.Text.{name_text}
 use Rattle.log_lines.specs.Rows.{TxnRow, line_at}
 use Rattle.log_lines.specs.Placed.{table_in, op_line_in}
 use Rattle.log_lines.specs.declared.placed.PlacedHistory.{PlacedHistory}
-use Rattle.tell_reasons.specs.Reasons.{named, in_line, op_at, op_in_line, key_text, op_wid, does_text}
-use Rattle.tell_reasons.specs.Reasons.{key_bytes, key_and_wid}
+use Rattle.tell_reasons.specs.Reasons.{named, in_line, op_at, op_in_line, key_text, op_wid, does_text, key_bytes, key_and_wid}
 use Rattle.tell_reasons.specs.Versions.{left_at, read_at, written_before, other_before}
 use Rattle.tell_reasons.specs.Writes.{OpOf, first_op, is_write_as}
 

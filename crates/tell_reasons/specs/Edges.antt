@@ -7,8 +7,7 @@ use Rattle.log_definitions.specs.Numbers.{log_of}
 use Rattle.log_lines.specs.Placed.{begin_in, end_line_in}
 use Rattle.reasons.specs.declared.reason.Reason.{Reason}
 use Rattle.reasons.specs.declared.reason.Reason.TheVariants as reason
-use Rattle.tell_reasons.specs.Reasons.{named, op_at, op_in_line, op_wid, in_line, key_and_wid}
-use Rattle.tell_reasons.specs.Reasons.{reads_text, wrote_text}
+use Rattle.tell_reasons.specs.Reasons.{named, op_at, op_in_line, op_wid, in_line, key_and_wid, reads_text, wrote_text}
 use Rattle.tell_reasons.specs.Versions.{behind_text, held_text, version_text, whose_text}
 use Rattle.log_lines.specs.declared.placed.PlacedHistory.{PlacedHistory}
 

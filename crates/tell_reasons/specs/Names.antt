@@ -1,7 +1,6 @@
 -- What cycles are called, by what their edges are: in plain words, and behind these in brackets the
 -- name that the literature has (Adya 1999; Elle).
-use Rattle.std.specs.Prelude.{ℕ, ◌+◌, ◌-◌, ◌*◌, ◌^◌, ◌==◌, ◌&&◌, ◌||◌, not, nat_lt, Bool, false, min, max}
-use Rattle.std.specs.Prelude.{List, if◌then◌else◌, codes}
+use Rattle.std.specs.Prelude.{ℕ, ◌+◌, ◌-◌, ◌*◌, ◌^◌, ◌==◌, ◌&&◌, ◌||◌, not, nat_lt, Bool, false, min, max, List, if◌then◌else◌, codes}
 use Rattle.tell_reasons.specs.declared.names.Shape.{Shape}
 
 -- what the edges of a line and of one behind it are

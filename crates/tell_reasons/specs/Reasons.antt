@@ -1,7 +1,6 @@
 -- How it is told why one node stands before another, in the log's own lines. Operations count from
 -- 0.
-use Rattle.std.specs.Prelude.{ℕ, ◌==◌, List, [], ◌∷◌, ◌++◌, if◌then◌else◌, codes, decimal}
-use Rattle.std.specs.Prelude.{slice_get, unwrap_or, Option, None, Some}
+use Rattle.std.specs.Prelude.{ℕ, ◌==◌, List, [], ◌∷◌, ◌++◌, if◌then◌else◌, codes, decimal, slice_get, unwrap_or, Option, None, Some}
 use Rattle.std.specs.Option.{option_map_or}
 use Rattle.session_log.specs.Text.{ClientSession, key_of}
 use Rattle.session_log.specs.declared.session.Op.{Op}

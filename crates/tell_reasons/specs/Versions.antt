@@ -1,7 +1,5 @@
 -- Versions of a key, by their writers.
-use Rattle.std.specs.Prelude.{ℕ, ◌+◌, ◌-◌, ◌==◌, ◌&&◌, not, Bool, false, if◌then◌else◌, List, []}
-use Rattle.std.specs.Prelude.{◌++◌, length, position, reverse, take, codes, decimal, slice_get}
-use Rattle.std.specs.Prelude.{Option, option_and_then}
+use Rattle.std.specs.Prelude.{ℕ, ◌+◌, ◌-◌, ◌==◌, ◌&&◌, not, Bool, false, if◌then◌else◌, List, [], ◌++◌, length, position, reverse, take, codes, decimal, slice_get, Option, option_and_then}
 use Rattle.std.specs.Option.{option_map, option_map_or}
 use Rattle.serializability.specs.Polygraph.{source}
 use Rattle.serializability.specs.Events.{event_key, event_wid}
@@ -9,8 +7,7 @@ use Rattle.serializability.specs.declared.event.Event.{Event}
 use Rattle.serializability.specs.declared.event.Event.TheVariants.{Read, Write}
 use Rattle.session_log.specs.Text.{ClientSession}
 use Rattle.log_definitions.specs.Numbers.{log_of}
-use Rattle.tell_reasons.specs.Reasons.{named, key_bytes, op_at, op_wid, op_in_line}
-use Rattle.tell_reasons.specs.Reasons.{does_text, reads_text, wrote_text, base_text}
+use Rattle.tell_reasons.specs.Reasons.{named, key_bytes, op_at, op_wid, op_in_line, does_text, reads_text, wrote_text, base_text}
 use Rattle.tell_reasons.specs.declared.why.ChainOrder.{ChainOrder}
 use Rattle.log_lines.specs.declared.placed.PlacedHistory.{PlacedHistory}
 

@@ -2,12 +2,9 @@
 use Rattle.std.specs.Prelude.{ℕ, List, [], ◌∷◌, ◌++◌, decimal}
 use Rattle.order_text.specs.Text.{name_text}
 use Rattle.log_lines.specs.declared.placed.PlacedHistory.{PlacedHistory}
-use Rattle.tell_reasons.specs.Reasons.{named, in_line, op_at, op_in_line, op_wid, key_bytes, key_text}
-use Rattle.tell_reasons.specs.Reasons.{key_and_wid, listed_text, base_text, does_text, wrote_text}
+use Rattle.tell_reasons.specs.Reasons.{named, in_line, op_at, op_in_line, op_wid, key_bytes, key_text, key_and_wid, listed_text, base_text, does_text, wrote_text}
 use Rattle.tell_reasons.specs.declared.words.Word.{Word}
-use Rattle.tell_reasons.specs.declared.words.Word.TheVariants.{Text, Number, Base, Line, Name, Node, Key}
-use Rattle.tell_reasons.specs.declared.words.Word.TheVariants.{KeyOf, Operation, Listed, Identity}
-use Rattle.tell_reasons.specs.declared.words.Word.TheVariants.{AtLine, Does, Wrote}
+use Rattle.tell_reasons.specs.declared.words.Word.TheVariants.{Text, Number, Base, Line, Name, Node, Key, KeyOf, Operation, Listed, Identity, AtLine, Does, Wrote}
 
 abbrev pub word_text : PlacedHistory → Word → List ℕ
 word_text log (Text text) = text.now

@@ -1,7 +1,6 @@
 -- How an explanation is written as text, a line for each thing that it says, and up to two for a
 -- step.
-use Rattle.std.specs.Prelude.{ℕ, ◌-◌, ◌*◌, List, [], ◌∷◌, ◌++◌, codes, decimal}
-use Rattle.std.specs.Prelude.{Bool, true, false, replicate, nat_lt, ◌==◌, if◌then◌else◌}
+use Rattle.std.specs.Prelude.{ℕ, ◌-◌, ◌*◌, List, [], ◌∷◌, ◌++◌, codes, decimal, Bool, true, false, replicate, nat_lt, ◌==◌, if◌then◌else◌}
 use Rattle.tell_reasons.specs.Reasons.{named}
 use Rattle.tell_reasons.specs.Edges.{why_text}
 use Rattle.tell_reasons.specs.Versions.{versions_text, since_text}

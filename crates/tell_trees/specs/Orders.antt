@@ -1,6 +1,5 @@
 -- Orders of chains by the numbers of choices, and what a search looks at.
-use Rattle.std.specs.Prelude.{◌≡◌, ℕ, ◌+◌, ◌<◌, ◌==◌, if◌then◌else◌, List, [], ◌∷◌, Bool, false}
-use Rattle.std.specs.Prelude.{length, map, slice_index_or}
+use Rattle.std.specs.Prelude.{◌≡◌, ℕ, ◌+◌, ◌<◌, ◌==◌, if◌then◌else◌, List, [], ◌∷◌, Bool, false, length, map, slice_index_or}
 use Rattle.std.specs.List.{All, list_any}
 use Rattle.serializability.specs.Log.{Log}
 use Rattle.serializability.specs.Polygraph.{Choice}

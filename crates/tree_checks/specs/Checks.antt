@@ -1,6 +1,5 @@
 -- Tests of the nodes of a tree.
-use Rattle.std.specs.Prelude.{ℕ, ◌==◌, ◌&&◌, ◌||◌, not, nat_lt, List, Bool, false, Option, Some}
-use Rattle.std.specs.Prelude.{None, is_none, if◌then◌else◌, length, slice_get}
+use Rattle.std.specs.Prelude.{ℕ, ◌==◌, ◌&&◌, ◌||◌, not, nat_lt, List, Bool, false, Option, Some, None, is_none, if◌then◌else◌, length, slice_get}
 use Rattle.std.specs.Option.{option_map_or}
 use Rattle.serializability.specs.Polygraph.{Edge, Polygraph}
 use Rattle.pruning_laws.specs.declared.side.Side.{Side}

@@ -1,6 +1,5 @@
 -- What the code's chains, links and edges stand for.
-use Rattle.std.specs.Prelude.{◌≡◌, ℕ, ◌+◌, ◌<◌, ◌==◌, not, List, [], length, map, slice_index_or}
-use Rattle.std.specs.Prelude.{Option, None, Some}
+use Rattle.std.specs.Prelude.{◌≡◌, ℕ, ◌+◌, ◌<◌, ◌==◌, not, List, [], length, map, slice_index_or, Option, None, Some}
 use Rattle.std.specs.List.{filter}
 use Rattle.serializability.specs.Log.{Log}
 use Rattle.serializability.specs.Polygraph as graph
