@@ -3,16 +3,13 @@ use Rattle.anomaly_laws.proofs.Prelude.{◌≡◌, ◌≢◌, ◌⊎◌, ℕ, �
 use Rattle.anomaly_laws.proofs.Prelude.{and_from, and_left, or_from, or_left, or_right, or_cases, not-true, not_from_false, eqb-false, list_any-append, Event, Read, Write, Log, later, last_write, IsFinal, WritesAfter, IsNumbered}
 use Rattle.anomaly_laws.proofs.Prelude.{is_write_of, writes_as, is_other_read, last_write-append, some_cases, later_none_parts, is_write, is_write-self}
 use Rattle.anomaly_laws.proofs.Lists.{any_split, any_at}
+use Rattle.serializability.proofs.Replays.{later_none}
 
 -- ---- the later of two
 written_here : (b : Bool) (v w : ℕ) (o : Option ℕ) → later (cond b (Some v) None) o ≡ Some w → (o ≡ Some w) ⊎ ((b ≡ true) × (v ≡ w))
 written_here true v w None e = inr (refl, cc)
 written_here false v w None e = cc
 written_here b v w (Some y) e = inl e
-
-later_none : (a b : Option ℕ) → later a b ≡ None → a ≡ None
-later_none a None e = e
-later_none a (Some w) e = cc
 
 -- ---- a write of x as w
 pub record WriteIn (x w : ℕ) (ops : List Event) : Type 0 where
@@ -53,7 +50,7 @@ some_last_write x w ops h = elim (some_cases (last_write x ops)) [
 -- what stands before an operation on a key that is not written before it has no write of it either
 pub none_earlier : (x : ℕ) (before a b : List Event) → last_write x before ≡ None → before ≡ a ++ b → last_write x a ≡ None
 none_earlier x before a b e s =
-    later_none (last_write x a) (last_write x b) (sym (last_write-append x a b) ∙ sym (ap (last_write x) s) ∙ e)
+    (later_none (last_write x a) (last_write x b) (sym (last_write-append x a b) ∙ sym (ap (last_write x) s) ∙ e)).0
 
 -- a write of x as w beside a read of x is behind it, where none is before it
 pub writes_behind : (x w y : ℕ) (ops before behind : List Event) → ops ≡ before ++ Read x y ∷ behind → last_write x before ≡ None → writes_as x w ops ≡ true → writes_as x w behind ≡ true

@@ -3,6 +3,7 @@ use Rattle.census.proofs.Prelude.{◌≡◌, ℕ, ◌+◌, ◌<◌, Bool, true, 
 use Rattle.census.proofs.Prelude.{front_more, key_of, Op, Read, Write, KeyState, last_write, is_other_read, writes_as, first_read, after, after_read, differs, differs_from, state_behind, state_in, untouched}
 use Rattle.serializability.specs.Reads.{later}
 use Rattle.census.proofs.Truth.{or_none, or_assoc}
+use Rattle.serializability.proofs.Replays.{later_none}
 
 pub pushed : (k : List ℕ) (s : KeyState) (ops : List Op) (op : Op) → state_behind k s (ops ++ op ∷ []) ≡ cond (bytes_eq k (key_of op)) (after (state_behind k s ops) op) (state_behind k s ops)
 pushed k s [] op = refl
@@ -83,13 +84,6 @@ pub read_in : (k : List ℕ) (ops : List Op) → (state_in k ops).read ≡ first
 read_in k ops = read_is k untouched ops
 
 -- ---- no write
-later_none : (a b : Option ℕ) → later a b ≡ None → (a ≡ None) × (b ≡ None)
-later_none a None e = (e, refl)
-later_none a (Some w) e = absurd (some_none e)
-  where
-    some_none : Some w ≡ None → ⊥
-    some_none h = cc
-
 not_written : (b : Bool) (w : ℕ) → cond b (Some w) None ≡ None → b ≡ false
 not_written true w e = cc
 not_written false w e = refl

@@ -1,6 +1,6 @@
 -- In a serial order no read is a fault.
 use Rattle.census_laws.proofs.Prelude.{◌≡◌, ◌⊎◌, ℕ, zero, suc, Bool, true, false, cond, ◌&&◌, ◌||◌, eqb, List, [], ◌∷◌, ◌++◌, append_assoc, Option, None, Some, refl, sym, ap, subst, ◌∙◌, inl, inr, unwrap_or, eq-eqb, not, slice_get}
-use Rattle.census_laws.proofs.Prelude.{flat_map, list_any, option_map_or, bytes_eq, false≢true, and_parts, bytes_eq-Decides, bytes_flip, ClientSession, Transaction, Op, Read, Write, ReadAnomaly, later, Has, Has-append_back}
+use Rattle.census_laws.proofs.Prelude.{flat_map, list_any, option_map_or, bytes_eq, false≢true, and_parts, bytes_eq-Decides, bytes_flip, ClientSession, Transaction, Op, Read, Write, ReadAnomaly, Has, Has-append_back}
 use Rattle.census_laws.proofs.Prelude.{Apart-from_IsDistinct, is_committed, ops_in, resolved, txns_in, written, ops_of, set, IsSerialOrder, Map, Replays, once_resolved, one_writer, WriteOnce, WriteOnce-filter, kept_in, written-append}
 use Rattle.census_laws.proofs.Prelude.{IsSoundLog, faults_behind, faults_of_txns, is_aborted, is_intermediate, is_other_read, is_unknown, last_write, passes_over, read_fault, with_key, writes_as}
 use Rattle.std.proofs.lemmas.List.Folds.{list_any-append}
@@ -8,6 +8,7 @@ use Rattle.serializability.specs.declared.anomaly.ReadAnomaly.TheVariants as ano
 use Rattle.log_definitions.proofs.Settled.{ops_resolved}
 use Rattle.census_laws.proofs.Places.{fails_or, filtered_at, has_in_all, has_written, last_writes, none_found, same_at, txn_ops, Found}
 use Rattle.census_laws.proofs.Finds.{at_cut, cut_at, found, initial_or, last_in, listed, node_at, not_before, ops_at, read_finds, replayed, before_in}
+use Rattle.serializability.proofs.Replays.{later_none}
 
 -- ---- identities of a sound log
 pub zero_unwritten : (ss : List ClientSession) → IsSoundLog ss → Has 0 (written (ops_in (resolved ss))) → ⊥
@@ -145,10 +146,6 @@ not_intermediate ss sound i k w origin = none_found test txns (none origin)
               false≢true (sym (ap not (ap (λ (o : Option ℕ). option_map_or (λ v. eqb v w) o false) last ∙ eq-eqb w w refl)) ∙ both.1)
         ]
 
-none_later : (a b : Option ℕ) → later a b ≡ None → (a ≡ None) × (b ≡ None)
-none_later a None e = (e, refl)
-none_later a (Some w) e = cc
-
 not_written : (b : Bool) (w : ℕ) → cond b (Some w) None ≡ None → b ≡ false
 not_written true w e = cc
 not_written false w e = refl
@@ -162,7 +159,7 @@ not_split m (Read key v ∷ a) rest k w none holds r =
     this true same = ap not (eq-eqb v w (sym r.0 ∙ ap m (sym (same refl)) ∙ holds))
     this false same = refl
 not_split m (Write key v ∷ a) rest k w none holds r =
-    let both = none_later (cond (bytes_eq k key) (Some v) None) (last_write k a) none in
+    let both = later_none (cond (bytes_eq k key) (Some v) None) (last_write k a) none in
     let kept : set m key v k ≡ m k = ap (λ b. cond b v (m k)) (bytes_flip key k ∙ not_written (bytes_eq k key) v both.0) in
     not_split (set m key v) a rest k w both.1 (kept ∙ holds) r
 

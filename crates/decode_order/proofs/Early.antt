@@ -1,40 +1,33 @@
 -- Orders in which no node stands before an earlier one of its session.
-use Rattle.decode_order.proofs.Prelude.{◌≡◌, ℕ, ◌<◌, ◌≤◌, Bool, true, eqb, cond, List, [], ◌∷◌, Some, refl, ap, inl, inr, arith, eqb-true, eq-eqb, nat_lt, ◌&&◌, list_any, cases_Bool, and_from, and_parts, cond-false, ltb-true, lt-ltb, Log}
-use Rattle.decode_order.proofs.Prelude.{Before, Has, any_found, first_early, first_before_ended}
-use Rattle.decode_order.proofs.Timed.{Keeps}
+use Rattle.decode_order.proofs.Prelude.{◌≡◌, ℕ, ◌<◌, Bool, true, cond, List, [], ◌∷◌, Some, refl, ap, inl, inr, list_any, cases_Bool, cond-false}
+use Rattle.decode_order.proofs.Prelude.{Has, any_found, first_early, first_before_ended}
+use Rattle.serializability.proofs.Timed.{InTime, is_early, earlier_parts}
 
-abbrev pub is_earlier : (ℕ → ℕ) → ℕ → ℕ → Bool
-is_earlier session u v = nat_lt u v && eqb (session u) (session v)
-
-pub earlier_both : (session : ℕ → ℕ) (u v : ℕ) → u < v → session u ≡ session v → is_earlier session u v ≡ true
-earlier_both session u v lt e = and_from (nat_lt u v) (eqb (session u) (session v)) (lt-ltb u v lt) (eq-eqb (session u) (session v) e)
-
-earlier_parts : (session : ℕ → ℕ) (u v : ℕ) → is_earlier session u v ≡ true → (u < v) × (session u ≡ session v)
-earlier_parts session u v t =
-    let both = and_parts (nat_lt u v) (eqb (session u) (session v)) t in
-    (ltb-true u v both.0, eqb-true (session u) (session v) both.1)
-
-pub early_is : (session : ℕ → ℕ) (order : List ℕ) → first_early session order ≡ first_before_ended (is_earlier session) order
+pub early_is : (session : ℕ → ℕ) (order : List ℕ) → first_early session order ≡ first_before_ended (is_early session) order
 early_is session [] = refl
-early_is session (v ∷ behind) = ap (λ o. cond (list_any (λ u. is_earlier session u v) behind) (Some v) o) (early_is session behind)
+early_is session (v ∷ behind) = ap (λ o. cond (list_any (λ u. is_early session u v) behind) (Some v) o) (early_is session behind)
 
 -- a node with no earlier one of its session behind it is passed over
 pub early_further : (session : ℕ → ℕ) (v : ℕ) (behind : List ℕ) → ((u : ℕ) → Has u behind → u < v → session u ≡ session v → ⊥) → first_early session (v ∷ behind) ≡ first_early session behind
-early_further session v behind h = elim (cases_Bool (list_any (λ u. is_earlier session u v) behind)) [
+early_further session v behind h = elim (cases_Bool (list_any (λ u. is_early session u v) behind)) [
   | inl t ↦
-      let r = any_found (λ u. is_earlier session u v) behind t in
+      let r = any_found (λ u. is_early session u v) behind t in
       let both = earlier_parts session r.0 v r.1.0 in
       absurd (h r.0 r.1.1 both.0 both.1)
-  | inr f ↦ cond-false (list_any (λ u. is_earlier session u v) behind) (Some v) (first_early session behind) f
+  | inr f ↦ cond-false (list_any (λ u. is_early session u v) behind) (Some v) (first_early session behind) f
 ]
 
--- each session in its order
-abbrev pub KeepsSessions : Log → List ℕ → Type 0
-KeepsSessions log order = (a b : ℕ) → 0 < a → a < b → b ≤ log.nodes → log.session a ≡ log.session b → Before order a b
+-- ---- none stands before an earlier one exactly where none is found
+none_parts : (t : Bool) (v : ℕ) (rest : Option ℕ) → cond t (Some v) rest ≡ None → (t ≡ false) × (rest ≡ None)
+none_parts true v rest e = cc
+none_parts false v rest e = (refl, e)
 
-pub sessions_kept : (log : Log) (order : List ℕ) → Keeps log.nodes (is_earlier log.session) order → KeepsSessions log order
-sessions_kept log order k a b lo lt hi same =
-    k a b lo (omega arith) (omega arith) hi (λ e. omega (arith, lt, e)) (earlier_both log.session a b lt same)
+pub in_time : (earlier : ℕ → ℕ → Bool) (order : List ℕ) → first_before_ended earlier order ≡ None → InTime earlier order
+in_time earlier [] e = tt
+in_time earlier (v ∷ behind) e =
+    let parts = none_parts (list_any (λ u. earlier u v) behind) v (first_before_ended earlier behind) e in
+    (parts.0, in_time earlier behind parts.1)
 
-pub kept_sessions : (log : Log) (order : List ℕ) → KeepsSessions log order → Keeps log.nodes (is_earlier log.session) order
-kept_sessions log order k a b lo hi blo bhi ne t = let both = earlier_parts log.session a b t in k a b lo both.0 bhi both.1
+pub none_before : (earlier : ℕ → ℕ → Bool) (order : List ℕ) → InTime earlier order → first_before_ended earlier order ≡ None
+none_before earlier [] k = refl
+none_before earlier (v ∷ behind) k = cond-false (list_any (λ u. earlier u v) behind) (Some v) (first_before_ended earlier behind) k.0 ∙ none_before earlier behind k.1

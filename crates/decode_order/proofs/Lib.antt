@@ -6,6 +6,5 @@ pub mod Mismatch
 pub mod Whole
 pub mod Marks
 pub mod Turns
-pub mod Timed
 pub mod LeastEnd
 pub mod Keys

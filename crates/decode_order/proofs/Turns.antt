@@ -2,7 +2,8 @@
 use Rattle.decode_order.proofs.Prelude.{◌≡◌, ℕ, zero, suc, ◌+◌, ◌-◌, ◌<◌, ◌≤◌, Bool, true, false, List, [], ◌∷◌, length, get_or, take, drop, Some, sym, ap, ◌∙◌, subst, inl, inr, arith, slice_set, list_any, cond-true, Log, ListsOnce, Has}
 use Rattle.decode_order.proofs.Prelude.{Apart, Has-from_Contains, Has-append_front, Has-append_back, Has-append_cases, Apart-not_both, any_from, node_of, first_early, Has_get, once_apart, front_more, rest_from, around}
 use Rattle.serializability.specs.Reads.{IsNumbered}
-use Rattle.decode_order.proofs.Early.{is_earlier, earlier_both, early_further}
+use Rattle.decode_order.proofs.Early.{early_further}
+use Rattle.serializability.proofs.Timed.{is_early, earlier_both}
 use Rattle.decode_order.proofs.Marks.{Marked, marked_more}
 
 -- with a node of the line, the node before it in its session is there
@@ -82,5 +83,5 @@ early_here log order i v marks t s lo same new =
       | inr k ↦ elim k [ inl e ↦ absurd (omega (arith, e, lo)) | inr b ↦ b ]
     ] in
     s.rest ∙ ap (first_early log.session) (rest_from order i v t.there t.here)
-    ∙ cond-true (list_any (λ u. is_earlier log.session u v) (drop (i + 1) order)) (Some v) (first_early log.session (drop (i + 1) order))
-    (any_from (λ u. is_earlier log.session u v) (drop (i + 1) order) (v - 1) (earlier_both log.session (v - 1) v (omega arith) same) behind)
+    ∙ cond-true (list_any (λ u. is_early log.session u v) (drop (i + 1) order)) (Some v) (first_early log.session (drop (i + 1) order))
+    (any_from (λ u. is_early log.session u v) (drop (i + 1) order) (v - 1) (earlier_both log.session (v - 1) v (omega arith) same) behind)

@@ -4,8 +4,8 @@ use Rattle.decode_order.proofs.Prelude.{lists_once, first_early, first_before_en
 use Rattle.decode_order.specs.declared.fault.ReplayFault.{ReplayFault}
 use Rattle.decode_order.specs.declared.fault.ReplayFault.TheVariants.{NotAPermutation, SessionOrder, MomentOrder}
 use Rattle.decode_order.proofs.Counted.{lists_once_is, lists_once_from}
-use Rattle.decode_order.proofs.Early.{is_earlier, early_is, sessions_kept, kept_sessions}
-use Rattle.decode_order.proofs.Timed.{in_time, none_before, kept, from_kept, moments_kept, kept_moments}
+use Rattle.decode_order.proofs.Early.{early_is, in_time, none_before}
+use Rattle.serializability.proofs.Timed.{kept, from_kept, moments_kept, kept_moments, is_early, sessions_kept, kept_sessions}
 use Rattle.decode_order.proofs.Mismatch.{meets_all, no_mismatch, ops-in_replay}
 
 -- ---- one after the other
@@ -28,7 +28,7 @@ fault_once log order once =
 -- ---- nothing is wrong exactly where the order is serial
 pub fault_serial : (log : Log) (order : List ℕ) → IsSerial log order → replay_fault log order ≡ None
 fault_serial log order s =
-    let early = early_is log.session order ∙ none_before (is_earlier log.session) order (from_kept log.nodes (is_earlier log.session) order s.once (kept_sessions log order s.sessions)) in
+    let early = early_is log.session order ∙ none_before (is_early log.session) order (from_kept log.nodes (is_early log.session) order s.once (kept_sessions log order s.sessions)) in
     let timed = none_before log.earlier order (from_kept log.nodes log.earlier order s.once (kept_moments log order s.moments)) in
     let met = no_mismatch empty (in_replay log.ops order) (subst (Meets empty) (sym (ops-in_replay log.ops order)) s.reads) in
     fault_once log order s.once
@@ -50,10 +50,10 @@ serial_where_no_fault log order e = elim (cases_Bool (lists_once log.nodes order
       let once = lists_once_is log.nodes order t in
       let early = none_cases SessionOrder (first_early log.session order) (in_sessions log order) (sym (fault_once log order once) ∙ e) in
       let timed = none_cases MomentOrder (first_before_ended log.earlier order) (read_fault (first_mismatch empty (in_replay log.ops order))) early.1 in
-      let turns = in_time (is_earlier log.session) order (sym (early_is log.session order) ∙ early.0) in
+      let turns = in_time (is_early log.session) order (sym (early_is log.session order) ∙ early.0) in
       record {
         once = once;
-        sessions = sessions_kept log order (kept log.nodes (is_earlier log.session) order once turns);
+        sessions = sessions_kept log order (kept log.nodes (is_early log.session) order once turns);
         moments = moments_kept log order (kept log.nodes log.earlier order once (in_time log.earlier order timed.0));
         reads = subst (Meets empty) (ops-in_replay log.ops order)
             (meets_all empty (in_replay log.ops order) (read_cases (first_mismatch empty (in_replay log.ops order)) timed.1));

@@ -3,6 +3,7 @@ use Rattle.level_checks.proofs.Prelude.{◌≡◌, ◌⊎◌, ℕ, ◌<◌, true
 use Rattle.level_checks.proofs.Prelude.{append_assoc, append_none, member, behind, Op, Read, Write, last_write, Look, Chains, pushed, IsOwn, FoundIn, IsFound, with_ops, NoneSeen, AreFound}
 use Rattle.log_laws.proofs.Lists.{first_or_behind}
 use Rattle.serializability.specs.Reads.{later}
+use Rattle.serializability.proofs.Replays.{later_none}
 
 -- ---- with operations
 same_key : (key : List ℕ) → bytes_eq key key ≡ true
@@ -48,15 +49,11 @@ some_later : (a b : Option ℕ) (w : ℕ) → later a b ≡ Some w → ((b ≡ N
 some_later a None w e = inl (refl, e)
 some_later a (Some v) w e = inr e
 
-none_later : (a b : Option ℕ) → later a b ≡ None → (a ≡ None) × (b ≡ None)
-none_later a None e = (e, refl)
-none_later a (Some v) e = cc
-
 pub none_written : (p : ℕ) (ops : List Op) (chains : Chains) (key : List ℕ) → last_write key ops ≡ None → with_ops p ops chains key ≡ chains key
 none_written p [] chains key e = refl
 none_written p (Read k w ∷ ops) chains key e = none_written p ops chains key e
 none_written p (Write k w ∷ ops) chains key e =
-    let none = none_later (if bytes_eq k key then Some w else None) (last_write key ops) e in
+    let none = later_none (if bytes_eq k key then Some w else None) (last_write key ops) e in
     none_written p ops (pushed k p w chains) key none.1 ∙ (elim (cases_Bool (bytes_eq k key)) [
       | inl t ↦ absurd (let wrong = rw t at none.0 in cc)
       | inr f ↦ rw f refl

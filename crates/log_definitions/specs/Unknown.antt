@@ -1,7 +1,7 @@
 -- Transactions whose outcome the client never learnt, and which of them must have been committed. A
 -- legal session has one such transaction at most, its last, so that sets of them are sets of
 -- session numbers.
-use Rattle.std.specs.Prelude.{◌≡◌, ℕ, zero, suc, ◌==◌, ◌&&◌, ◌||◌, Bool, true, false, IsTrue, if◌then◌else◌, List, length, map}
+use Rattle.std.specs.Prelude.{◌≡◌, ℕ, zero, suc, ◌==◌, ◌&&◌, ◌||◌, Bool, false, IsTrue, if◌then◌else◌, List, length, map}
 use Rattle.std.specs.List.{filter, flat_map, list_any, Contains}
 use Rattle.std.specs.Str.{bytes_eq}
 use Rattle.session_log.specs.Text.{ClientSession, Transaction, is_commit, is_unknown as is_unknown_outcome}

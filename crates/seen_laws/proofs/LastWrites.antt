@@ -5,13 +5,10 @@ use Rattle.list_lemmas.proofs.Elements.{behind}
 use Rattle.serializability.specs.Reads.{later}
 use Rattle.part_laws.specs.Parts.{done, left, kept}
 use Rattle.part_laws.proofs.Chosen.{same_key}
+use Rattle.serializability.proofs.Replays.{later_none}
 
 pub same_wid : (k key : List ℕ) (w wid : ℕ) → Write k w ≡ Write key wid → w ≡ wid
 same_wid k key w wid e = cc
-
-pub later_none : (a b : Option ℕ) → later a b ≡ None → (a ≡ None) × (b ≡ None)
-later_none a None e = (e, refl)
-later_none a (Some w) e = cc
 
 pub later_some : (a b : Option ℕ) (w : ℕ) → later a b ≡ Some w → ((b ≡ None) × (a ≡ Some w)) ⊎ (b ≡ Some w)
 later_some a None w e = inl (refl, e)

@@ -9,7 +9,8 @@ use Rattle.log_laws.proofs.Replay.{after, after-append, Replays-append}
 use Rattle.level_laws.specs.Snapshot.{ops_at}
 use Rattle.level_laws.proofs.Arith.{point_node, point_of_number}
 use Rattle.level_laws.proofs.Parts.{turned, after_snapshot, after_rest}
-use Rattle.seen_laws.proofs.LastWrites.{later_none, later_some, this_write, none_of_this, none_written}
+use Rattle.serializability.proofs.Replays.{later_none}
+use Rattle.seen_laws.proofs.LastWrites.{later_some, this_write, none_of_this, none_written}
 
 -- ---- what a map has behind operations
 pub after_none : (m : Map) (key : List ℕ) (ops : List Op) → last_write key ops ≡ None → after m ops key ≡ m key

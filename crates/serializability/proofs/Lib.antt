@@ -14,3 +14,4 @@ pub mod Made
 pub mod PlainLaws
 pub mod Listed
 pub mod EachPair
+pub mod Timed

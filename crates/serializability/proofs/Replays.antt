@@ -72,7 +72,7 @@ later_cases : (a b : Option ℕ) (w : ℕ) → later a b ≡ Some w → (b ≡ S
 later_cases a None w e = inr (refl, e)
 later_cases a (Some v) w e = inl e
 
-later_none : (a b : Option ℕ) → later a b ≡ None → (a ≡ None) × (b ≡ None)
+pub later_none : (a b : Option ℕ) → later a b ≡ None → (a ≡ None) × (b ≡ None)
 later_none a None e = (e, refl)
 later_none a (Some v) e = cc
 

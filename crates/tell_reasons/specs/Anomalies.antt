@@ -1,6 +1,6 @@
 -- How an anomaly is told: the reads that show it, who wrote what they name, and what their
 -- transactions did with the key besides. Operations count from 0.
-use Rattle.std.specs.Prelude.{ℕ, ◌+◌, ◌-◌, ◌&&◌, ◌==◌, Bool, false, List, [], ◌++◌, drop, position, codes, decimal, slice_get, Option, None, Some, nat_lt, if◌then◌else◌}
+use Rattle.std.specs.Prelude.{ℕ, ◌+◌, ◌-◌, ◌&&◌, ◌==◌, Bool, List, [], ◌++◌, drop, position, codes, decimal, slice_get, Option, None, Some, nat_lt, if◌then◌else◌}
 use Rattle.std.specs.Option.{option_map, option_map_or}
 use Rattle.std.specs.Str.{bytes_eq}
 use Rattle.session_log.specs.Text.{key_of, is_write}

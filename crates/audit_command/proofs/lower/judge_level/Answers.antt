@@ -1,4 +1,4 @@
-use Rattle.audit_command.proofs.Prelude.{map, Some, refl, sym, subst, IfSome, view, IsVerdict, IsMade, known, at_level, refuted_of, IsRefutedWhere, IsResolved, IsPartOf}
+use Rattle.audit_command.proofs.Prelude.{map, Some, refl, sym, subst, IfSome, view, IsVerdict, IsMade, known, at_level, IsRefutedWhere, IsResolved, IsPartOf}
 use Rattle.audit_command.proofs.Resolved.{verdict_part}
 use Rattle.audit_command.proofs.Lowest.{refuted_where, part_where}
 use Rattle.audit_command.proofs.lower.judge_level.Goals as goal

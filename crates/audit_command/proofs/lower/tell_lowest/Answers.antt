@@ -1,4 +1,4 @@
-use Rattle.audit_command.proofs.Prelude.{ap, ◌∙◌, subst, first_line, IsToldPart, IsPartTold, IsWeakest, asked_at, unless_shown}
+use Rattle.audit_command.proofs.Prelude.{ap, ◌∙◌, subst, first_line, IsToldPart, IsPartTold, IsWeakest, unless_shown}
 use Rattle.audit_command.proofs.Lowest.{lowest_some}
 use Rattle.audit_command.proofs.lower.tell_lowest.Goals as goal
 

@@ -1,4 +1,4 @@
-use Rattle.cube_machine.proofs.Prelude.{◌∙◌, cube_in, flag_at}
+use Rattle.cube_machine.proofs.Prelude.{cube_in, flag_at}
 use Rattle.cube_machine.proofs.Flags.{gone_up}
 use Rattle.cube_machine.proofs.decided.go_up.Goals as goal
 

@@ -1,4 +1,4 @@
-use Rattle.refutation.proofs.Prelude.{◌≡◌, ◌+◌, ◌∷◌, ◌∙◌, sym, ap, get_or, drop, length, add-one, drop-cons, hinted}
+use Rattle.refutation.proofs.Prelude.{◌≡◌, ◌+◌, ◌∷◌, ◌∙◌, sym, ap, get_or, drop, add-one, drop-cons, hinted}
 use Rattle.refutation.proofs.Units.{hinted_nothing}
 use Rattle.refutation.proofs.hints.take_step.Goals as goal
 

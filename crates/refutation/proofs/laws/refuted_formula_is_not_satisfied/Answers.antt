@@ -1,4 +1,3 @@
-use Rattle.refutation.proofs.Prelude.{Bool, List, Some, map, AllByRecursion, clause_true, Literal}
 use Rattle.refutation.proofs.Units.{satisfied_given}
 use Rattle.refutation.proofs.laws.refuted_formula_is_not_satisfied.Goals as goal
 

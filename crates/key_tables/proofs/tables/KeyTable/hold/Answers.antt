@@ -1,4 +1,3 @@
-use Rattle.std.proofs.Common.{◌≡◌, ℕ, List}
 use Rattle.list_lemmas.proofs.Elements.{looked_up}
 use Rattle.key_tables.proofs.Parts.{updated_by}
 use Rattle.key_tables.proofs.tables.KeyTable.hold.Goals as goal
