@@ -1,8 +1,8 @@
 -- The text of an order of a level.
 use Rattle.audit_command.proofs.Prelude.{◌≡◌, ℕ, List, sym, ap, ◌∙◌, subst, true, false, ClientSession, resolved, IsLog, IsSnapshotOrder, locks_of, Level, is_split, IsOrderAt, room_resolved, judged_resolved, IsOrderText}
 use Rattle.log_definitions.specs.Serial.{IsSerialOrder}
-use Rattle.level_laws.specs.Points.{points_along}
-use Rattle.level_laws.proofs.Points.{points_of_writers}
+use Rattle.point_laws.specs.Points.{points_along}
+use Rattle.point_laws.proofs.Points.{points_of_writers}
 use Rattle.splitting.proofs.Fresh.{locks_are_fresh}
 use Rattle.order_text.specs.Text.{order_text}
 use Rattle.point_orders.specs.Text.{points_text}

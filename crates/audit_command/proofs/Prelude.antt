@@ -19,9 +19,9 @@ pub use Rattle.judging.specs.declared.judged.Verdict.{Verdict}
 pub use Rattle.judging.specs.declared.judged.Verdict.TheVariants.{Serializable, NotSerializable, Undecided}
 pub use Rattle.judging.specs.declared.level.Level.{Level}
 pub use Rattle.judging.specs.declared.means.JudgeMeans.{JudgeMeans}
-pub use Rattle.level_laws.proofs.Without.{legal_without, sound_without, log_without, resolved_without}
-pub use Rattle.level_laws.specs.Snapshot.{IsSnapshotOrder, HasSnapshotOrder}
-pub use Rattle.level_laws.specs.Without.{without_moments}
+pub use Rattle.point_laws.proofs.Without.{legal_without, sound_without, log_without, resolved_without}
+pub use Rattle.point_laws.specs.Snapshot.{IsSnapshotOrder, HasSnapshotOrder}
+pub use Rattle.point_laws.specs.Without.{without_moments}
 pub use Rattle.log_definitions.specs.Unknown.{resolved, txns_in, is_committed}
 pub use Rattle.log_laws.proofs.Resolved.{resolved_is_log, nodes_stay}
 pub use Rattle.log_laws.specs.Logs.{IsLog, IsSoundLog, HasOrder}

@@ -2,9 +2,9 @@
 use Rattle.audit_command.proofs.Prelude.{◌≡◌, Bool, true, false, List, Option, None, Some, refl, subst, ◌&&◌, ◌||◌, AllByRecursion, ClientSession, IsLegal, resolved, IsSoundLog, HasOrder, nodes_stay, resolved_is_log, HasSnapshotOrder}
 use Rattle.audit_command.proofs.Prelude.{without_moments, legal_without, sound_without, Level, HasOrderAt, serial_resolved, AuditOptions, Word, Answer, is_serial, asks_levels, asks_strict, asks_plain, at_snapshot, states_moments}
 use Rattle.audit_command.proofs.Prelude.{IsWordWhere}
-use Rattle.level_laws.proofs.Doubled.{snapshot_where_serial}
-use Rattle.level_laws.proofs.Resolved.{of_same_nodes}
-use Rattle.level_laws.proofs.Timeless.{snapshot_without_moments}
+use Rattle.point_laws.proofs.Doubled.{snapshot_where_serial}
+use Rattle.point_laws.proofs.Resolved.{of_same_nodes}
+use Rattle.point_laws.proofs.Timeless.{snapshot_without_moments}
 use Rattle.judging.specs.declared.level.Level.TheVariants as level
 use Rattle.audit_report.specs.declared.told.Word.TheVariants as word
 use Rattle.audit_report.specs.Words.{is_kept}

@@ -19,9 +19,9 @@ use Rattle.call_options.specs.declared.report_form.ReportForm.TheVariants.{Text,
 use Rattle.judging.specs.Levels.{HasOrderAt, HasNoOrderAt}
 use Rattle.judging.specs.Judges.{IsVerdict}
 use Rattle.judging.specs.Made.{IsToldPart}
-use Rattle.level_laws.specs.Snapshot.{Point, IsSnapshotOrder, IsPrefixOrder}
-use Rattle.seen_laws.specs.Seen.{IsLevelOrder}
-use Rattle.level_laws.specs.Without.{without_moments}
+use Rattle.point_laws.specs.Snapshot.{Point, IsSnapshotOrder, IsPrefixOrder}
+use Rattle.level_laws.specs.Seen.{IsLevelOrder}
+use Rattle.point_laws.specs.Without.{without_moments}
 use Rattle.point_orders.specs.Text.{points_text}
 use Rattle.judging.specs.declared.level.Level.{Level}
 use Rattle.judging.specs.declared.level.Level.TheVariants as level

@@ -1,7 +1,7 @@
 -- What the level of isolation that is asked for means for judging.
 use Rattle.std.specs.Prelude.{◌||◌, ℕ, Bool, true, false, not, Option, None, Some, nat_lt}
-use Rattle.seen_laws.specs.declared.level.Level.{Level as BelowLevel}
-use Rattle.seen_laws.specs.declared.level.Level.TheVariants as below
+use Rattle.level_laws.specs.declared.level.Level.{Level as BelowLevel}
+use Rattle.level_laws.specs.declared.level.Level.TheVariants as below
 use Rattle.call_options.specs.declared.format.Format.{Format}
 use Rattle.call_options.specs.declared.format.Format.TheVariants.{Text, Dot}
 use Rattle.isolation.specs.Levels.{is_strict}

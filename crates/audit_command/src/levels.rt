@@ -17,10 +17,10 @@ pub fn judged_of(level: Isolation) -> Level
         Isolation::StrictSerializable | Isolation::Serializable => Level::Serializable,
         Isolation::StrictSnapshot | Isolation::Snapshot => Level::Snapshot,
         Isolation::Prefix => Level::Prefix,
-        Isolation::Causal => Level::Below(seen_laws::Level::Causal),
-        Isolation::ReadAtomic => Level::Below(seen_laws::Level::ReadAtomic),
-        Isolation::MonotonicAtomicView => Level::Below(seen_laws::Level::MonotonicAtomicView),
-        Isolation::ReadCommitted => Level::Below(seen_laws::Level::ReadCommitted),
+        Isolation::Causal => Level::Below(level_laws::Level::Causal),
+        Isolation::ReadAtomic => Level::Below(level_laws::Level::ReadAtomic),
+        Isolation::MonotonicAtomicView => Level::Below(level_laws::Level::MonotonicAtomicView),
+        Isolation::ReadCommitted => Level::Below(level_laws::Level::ReadCommitted),
     }
 }
 
@@ -35,14 +35,14 @@ fn judged_level(asked: Option<Isolation>) -> Level
 }
 
 /// How far down a level below prefix stands.
-fn depth_below(level: seen_laws::Level) -> usize
+fn depth_below(level: level_laws::Level) -> usize
     ensures depth { result ≡ depth_below level }
 {
     match level {
-        seen_laws::Level::Causal => 3,
-        seen_laws::Level::ReadAtomic => 4,
-        seen_laws::Level::MonotonicAtomicView => 5,
-        seen_laws::Level::ReadCommitted => 6,
+        level_laws::Level::Causal => 3,
+        level_laws::Level::ReadAtomic => 4,
+        level_laws::Level::MonotonicAtomicView => 5,
+        level_laws::Level::ReadCommitted => 6,
     }
 }
 

@@ -8,7 +8,7 @@ ghost use Rattle.log_parts.specs.Picked.{flag_of};
 ghost use Rattle.audit_command.specs.Places.{told_txn, told_from, told_by, chosen_by};
 
 use audit_report::ToldTxn;
-use proposals::Flags;
+use order_proposals::Flags;
 use session_log::{Session, Txn, Version};
 use std::alloc::{AllocError, Global};
 

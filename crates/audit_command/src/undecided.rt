@@ -3,7 +3,7 @@
 use crate::places::told_txns;
 use audit_report::ToldTxn;
 use judging::{Tried, Why};
-use proposals::{Flags, MAX_ENTRIES, MAX_LANES, NotTried, Proposal, Stuck};
+use order_proposals::{Flags, MAX_ENTRIES, MAX_LANES, NotTried, Proposal, Stuck};
 use session_log::{Limit, Session, Version};
 use splitting::NoRoom;
 use std::alloc::{AllocError, Global};

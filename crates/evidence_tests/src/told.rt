@@ -1,8 +1,8 @@
 //! What is told of evidence that is right, and its name at the level that it breaks.
 
 use crate::reading::{earlier, op, places_of, reads, sessions_of, txn};
+use level_laws::Level;
 use level_refutations::{Edge, Evidence, Fault, Hop, OpAt, Overlooked, Why, refutes};
-use seen_laws::Level;
 use std::alloc::Global;
 use std::process::Abort;
 use std::test::*;

@@ -5,15 +5,15 @@ use Rattle.judging.proofs.Prelude.{TooManyChoices, NoRoom, NotBegun, NotShown, F
 use Rattle.judging.proofs.Prelude.{IsUndecidedBy, IsFound, of_serial}
 use Rattle.serializability.specs.Anomalies.{anomaly_of}
 use Rattle.serializability.specs.declared.anomaly.Anomaly.{Anomaly as Reported}
-use Rattle.level_laws.specs.Split.{split_writers}
-use Rattle.level_laws.proofs.Resolved.{of_same_nodes}
-use Rattle.level_laws.proofs.Some.{snapshot_of_taken, prefix_of_taken}
-use Rattle.level_laws.proofs.OfPart.{some_snapshot_of_part, some_prefix_of_part}
-use Rattle.level_laws.specs.Prefix.{no_locks}
-use Rattle.seen_laws.specs.declared.level.Level.{Level as BelowLevel}
-use Rattle.seen_laws.specs.Seen.{HasLevelOrder}
-use Rattle.seen_laws.proofs.Same.{same_nodes, same_order, same_level}
-use Rattle.seen_laws.proofs.OfPart.{level_of_taken, some_level_of_part}
+use Rattle.point_laws.specs.Split.{split_writers}
+use Rattle.point_laws.proofs.Resolved.{of_same_nodes}
+use Rattle.point_laws.proofs.Some.{snapshot_of_taken, prefix_of_taken}
+use Rattle.point_laws.proofs.OfPart.{some_snapshot_of_part, some_prefix_of_part}
+use Rattle.point_laws.specs.Prefix.{no_locks}
+use Rattle.level_laws.specs.declared.level.Level.{Level as BelowLevel}
+use Rattle.level_laws.specs.Seen.{HasLevelOrder}
+use Rattle.level_laws.proofs.Same.{same_nodes, same_order, same_level}
+use Rattle.level_laws.proofs.OfPart.{level_of_taken, some_level_of_part}
 use Rattle.level_refutations.specs.declared.evidence.Evidence.{Evidence}
 use Rattle.level_refutations.specs.Refuted.{is_refuted}
 use Rattle.splitting.specs.Locks.{locks_of, no_room}

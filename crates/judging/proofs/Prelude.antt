@@ -15,7 +15,7 @@ pub use Rattle.judging.specs.declared.level.Level.{Level}
 pub use Rattle.judging.specs.declared.level.Level.TheVariants.{Serializable, Snapshot, Prefix, Below}
 pub use Rattle.judging.specs.declared.means.JudgeMeans.{JudgeMeans}
 pub use Rattle.known_outcomes.proofs.Changed.{none_changed, one_changed, all_changed, changed}
-pub use Rattle.level_laws.specs.Without.{without, session_without}
+pub use Rattle.point_laws.specs.Without.{without, session_without}
 pub use Rattle.log_definitions.proofs.OnlyTaken.{some_where_serial, serial_where_distinct, orders_from_serial, serial_from_orders}
 pub use Rattle.log_definitions.proofs.Scanning.{neither, rules_where_no_fault}
 pub use Rattle.log_definitions.proofs.Settled.{ops_resolved, IsLearnt, learnt_resolved, numbers_resolved}

@@ -12,7 +12,7 @@ use Rattle.judging.specs.declared.judged.RefutedPart.{RefutedPart}
 use Rattle.judging.specs.declared.judged.Verdict.{Verdict}
 use Rattle.judging.specs.declared.judged.Verdict.TheVariants as verdict
 use Rattle.judging.proofs.Resolved.{twice, known, serial_resolved, serial_of_resolved, log_resolved}
-use Rattle.seen_laws.specs.declared.level.Level.{Level as BelowLevel}
+use Rattle.level_laws.specs.declared.level.Level.{Level as BelowLevel}
 use Rattle.judging.proofs.Levels.{bare_resolved, judged_resolved, room_resolved, order_of_resolved, none_at_part, not_below}
 use Rattle.judging.proofs.Shorter.{over_resolved}
 use Rattle.judging.proofs.Parts.{part_log, part_itself, chosen_part}

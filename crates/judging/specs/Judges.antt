@@ -16,7 +16,7 @@ use Rattle.splitting.specs.Locks.{no_room}
 use Rattle.deciding.specs.Decides.{IsSearched, IsCycleOf, IsRefutedBy}
 use Rattle.solving.specs.Solved.{IsRefutedFor}
 use Rattle.judging.specs.Limits.{IsOver}
-use Rattle.seen_laws.specs.declared.level.Level.{Level as BelowLevel}
+use Rattle.level_laws.specs.declared.level.Level.{Level as BelowLevel}
 use Rattle.level_refutations.specs.declared.evidence.Evidence.{Evidence}
 use Rattle.level_refutations.specs.Refuted.{is_refuted}
 use Rattle.judging.specs.Levels.{judged_at, HasOrderAt, HasNoOrderAt, HasRoomAt, IsOrderAt}

@@ -7,10 +7,10 @@ use Rattle.log_definitions.specs.Serial.{committed_in, IsSerialOrder}
 use Rattle.log_laws.specs.Logs.{HasOrder, IsLearntLog}
 use Rattle.numbered_log.specs.Numbering.{IsNumbering}
 use Rattle.numbered_log.specs.declared.log.NumberedLog.{NumberedLog}
-use Rattle.level_laws.specs.Snapshot.{HasSnapshotOrder, HasSomeSnapshotOrder, HasPrefixOrder, HasSomePrefixOrder}
-use Rattle.level_laws.specs.Split.{split_writers}
-use Rattle.level_laws.specs.Prefix.{no_locks}
-use Rattle.seen_laws.specs.Seen.{IsLevelOrder, HasLevelOrder, HasSomeLevelOrder}
+use Rattle.point_laws.specs.Snapshot.{HasSnapshotOrder, HasSomeSnapshotOrder, HasPrefixOrder, HasSomePrefixOrder}
+use Rattle.point_laws.specs.Split.{split_writers}
+use Rattle.point_laws.specs.Prefix.{no_locks}
+use Rattle.level_laws.specs.Seen.{IsLevelOrder, HasLevelOrder, HasSomeLevelOrder}
 use Rattle.splitting.specs.Locks.{locks_of, HasRoom, no_room}
 use Rattle.deciding.specs.Decides.{HasNoOrder}
 use Rattle.judging.specs.declared.level.Level.{Level}

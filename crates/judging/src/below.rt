@@ -3,7 +3,7 @@
 ghost use Rattle.std.specs.Prelude.{◌≡◌, map, IfOk, IfSome};
 ghost use Rattle.session_log.specs.Text.{view};
 ghost use Rattle.log_laws.specs.Logs.{IsLog};
-ghost use Rattle.seen_laws.specs.Seen.{IsLevelOrder};
+ghost use Rattle.level_laws.specs.Seen.{IsLevelOrder};
 ghost use Rattle.judging.specs.Finds.{IsFound};
 ghost use Rattle.judging.specs.declared.level.Level.TheVariants as level;
 
@@ -12,11 +12,11 @@ use crate::found::{Found, Seen};
 use crate::judged::{Finding, Why};
 use crate::means::JudgeMeans;
 use level_checks::keeps_level;
+use level_laws::Level;
 use level_proposals::find_break;
 use level_refutations::{named_transactions, refutes};
 use log_parts::part_of;
-use proposals::{NotTried, Proposal};
-use seen_laws::Level;
+use order_proposals::{NotTried, Proposal};
 use session_log::Session;
 use std::alloc::{AllocError, Global};
 use std::time::Clock;

@@ -3,7 +3,7 @@
 ghost use Rattle.std.specs.Prelude.{◌≡◌, IfOk};
 ghost use Rattle.log_parts.specs.Picked.{flags_view};
 
-use proposals::Flags;
+use order_proposals::Flags;
 use session_history::NodeIx;
 use session_log::{Op, Outcome, Session, Txn};
 use std::alloc::{AllocError, Global};

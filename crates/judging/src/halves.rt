@@ -1,7 +1,7 @@
 //! Transactions by the two halves into which a split log has them. No contract speaks of what these
 //! functions choose.
 
-use proposals::{Flags, Proposal, Stuck};
+use order_proposals::{Flags, Proposal, Stuck};
 use session_history::NodeIx;
 use session_log::{Outcome, Session, Txn};
 use splitting::is_writer;

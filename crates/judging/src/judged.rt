@@ -1,6 +1,6 @@
 //! What is said of a log.
 
-use proposals::Flags;
+use order_proposals::Flags;
 use session_history::Anomaly;
 use session_log::{Limit, Session};
 use splitting::NoRoom;

@@ -23,8 +23,8 @@ use crate::shrinking::smaller;
 use crate::trial::{Attempt, Trial, try_part};
 use log_parts::copy_log;
 use numbered_log::NumberedLog;
+use order_proposals::{Flags, Proposal, Stuck};
 use progress::{Progress, Stage};
-use proposals::{Flags, Proposal, Stuck};
 use serial_checks::is_serial;
 use session_history::{NodeIx, NodeLine};
 use session_log::Session;
@@ -251,7 +251,7 @@ fn judge_by_level_order<R: Threads + Wait + Clock + Sync>(
     rt: &R,
     alloc: Global,
     sessions: &[Session],
-    below: seen_laws::Level,
+    below: level_laws::Level,
     order: &[usize],
     proposal: &Proposal,
     means: &JudgeMeans,
@@ -365,7 +365,7 @@ fn judge_proposed<R: Threads + Wait + Clock + Sync>(
 
 /// The transactions that evidence against causal consistency names, where some is found.
 fn causal_flags(alloc: Global, sessions: &[Session]) -> Result<Option<Flags>, AllocError> {
-    match propose_below(alloc, seen_laws::Level::Causal, sessions, &[])? {
+    match propose_below(alloc, level_laws::Level::Causal, sessions, &[])? {
         Proposal::Part(flags) => Ok(Some(flags)),
         Proposal::Order(_) | Proposal::Stuck(_) | Proposal::NotTried(_) => Ok(None),
     }

@@ -9,8 +9,8 @@ use crate::below::propose_below;
 use crate::halves::{joined_proposal, split_flags};
 use crate::means::JudgeMeans;
 use numbered_log::NumberedLog;
+use order_proposals::{Proposal, propose};
 use progress::Progress;
-use proposals::{Proposal, propose};
 use session_log::Session;
 use splitting::{NoRoom, split, split_bare};
 use std::alloc::{AllocError, Global};
@@ -29,7 +29,7 @@ pub enum Level {
     /// Prefix consistency: snapshot isolation where updates may be lost.
     Prefix,
     /// A level below.
-    Below(seen_laws::Level),
+    Below(level_laws::Level),
 }
 
 /// What is judged for a log at some level.

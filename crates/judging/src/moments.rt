@@ -2,7 +2,7 @@
 
 ghost use Rattle.std.specs.Prelude.{◌≡◌, map};
 ghost use Rattle.session_log.specs.Text.{view, view_txn};
-ghost use Rattle.level_laws.specs.Without.{without, without_moments};
+ghost use Rattle.point_laws.specs.Without.{without, without_moments};
 
 use session_log::{Session, Txn};
 

@@ -13,7 +13,7 @@ use crate::flags::{
 use crate::judged::RefutedPart;
 use crate::means::JudgeMeans;
 use crate::trial::{Attempt, Trial, try_part};
-use proposals::Flags;
+use order_proposals::Flags;
 use session_history::NodeIx;
 use session_log::Session;
 use std::alloc::{AllocError, Global};

@@ -11,7 +11,7 @@ use crate::found::{Found, see_log};
 use crate::judged::{RefutedPart, Tried};
 use crate::means::JudgeMeans;
 use log_parts::part_of;
-use proposals::Flags;
+use order_proposals::Flags;
 use session_history::NodeIx;
 use session_log::Session;
 use std::alloc::{AllocError, Global};

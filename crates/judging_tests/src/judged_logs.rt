@@ -13,8 +13,8 @@ use judging::{
 use known_outcomes::resolve;
 use long_reading::read_long_log;
 use numbered_log::NumberedLog;
+use order_proposals::{NotTried, Proposal, Stuck};
 use progress::{Deadline, Progress, Stage};
-use proposals::{NotTried, Proposal, Stuck};
 use session_log::{Limit, Session, Txn};
 use std::alloc::{AllocError, Global};
 use std::fmt::Write;

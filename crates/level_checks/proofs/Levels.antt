@@ -19,7 +19,7 @@ use Rattle.log_laws.specs.Logs.{IsLearntLog, IsSoundLog}
 use Rattle.log_laws.proofs.Txns.{split}
 use Rattle.log_laws.proofs.Sessions.{nodes_of}
 use Rattle.log_laws.proofs.Shifted.{nodes_are}
-use Rattle.seen_laws.specs.Seen.Past.{step, path}
+use Rattle.level_laws.specs.Seen.Past.{step, path}
 use Rattle.level_checks.proofs.Judged.{includes_through}
 use Rattle.level_checks.proofs.Found.{written_with, kept_with, each_with, none_written, last_first, found_member, found_before, found_split, read_source}
 

@@ -13,9 +13,9 @@ pub use Rattle.list_lemmas.proofs.Each.{member, each_member}
 pub use Rattle.list_lemmas.proofs.Elements.{same_item, behind, get_put, looked_up, item, get_map, get_drop}
 pub use Rattle.list_lemmas.proofs.Lists.{append_none, front_more}
 pub use Rattle.log_definitions.proofs.Members.{each_weaker}
-pub use Rattle.seen_laws.specs.Seen.{last_write, ReadsBehind, WritesKey, IsEarlier, ReadsFrom, Direct, Past, Sees, IsLastSeen, FindsLast, IsLevelOrder}
-pub use Rattle.seen_laws.specs.declared.level.Level.{Level}
-pub use Rattle.seen_laws.specs.declared.level.Level.TheVariants.{ReadCommitted, MonotonicAtomicView, ReadAtomic, Causal}
+pub use Rattle.level_laws.specs.Seen.{last_write, ReadsBehind, WritesKey, IsEarlier, ReadsFrom, Direct, Past, Sees, IsLastSeen, FindsLast, IsLevelOrder}
+pub use Rattle.level_laws.specs.declared.level.Level.{Level}
+pub use Rattle.level_laws.specs.declared.level.Level.TheVariants.{ReadCommitted, MonotonicAtomicView, ReadAtomic, Causal}
 pub use Rattle.serializability.proofs.Places.{each_from_append, Has, Apart, Apart-from_IsDistinct, Contains-from_Has, place_of-here, place_of-further, length_mapped}
 pub use Rattle.session_log.specs.Text.{ClientSession, Transaction, view_txn, view}
 pub use Rattle.session_log.specs.declared.session.Op.{Op}

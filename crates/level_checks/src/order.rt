@@ -3,7 +3,7 @@
 ghost use Rattle.std.specs.Prelude.{◌≡◌, ◌+◌, ◌<◌, ℕ, List, map, slice_index, IsTrue, IfOk, IfSome};
 ghost use Rattle.session_log.specs.Text.{view};
 ghost use Rattle.log_laws.specs.Logs.{IsLearntLog, IsSoundLog};
-ghost use Rattle.seen_laws.specs.Seen.{IsLevelOrder};
+ghost use Rattle.level_laws.specs.Seen.{IsLevelOrder};
 ghost use Rattle.level_checks.specs.Chains.{links_of};
 ghost use Rattle.level_checks.specs.Nodes.{brief_of};
 ghost use Rattle.level_checks.specs.Spots.{AreKept};
@@ -15,7 +15,7 @@ use crate::seen::{Row, judge};
 use crate::trace::trace;
 use crate::trail::Passed;
 use key_tables::KeyTable;
-use seen_laws::Level;
+use level_laws::Level;
 use session_log::Session;
 use std::alloc::{AllocError, Global};
 

@@ -3,7 +3,7 @@ use Rattle.level_refutations.proofs.Prelude.{◌≡◌, ℕ, List, ◌∷◌, �
 use Rattle.list_lemmas.proofs.Each.{member}
 use Rattle.log_definitions.specs.WellFormed.{written}
 use Rattle.log_definitions.proofs.Chosen.{Has-written}
-pub use Rattle.seen_laws.proofs.LastWrites.{some_written as last_written}
+pub use Rattle.level_laws.proofs.LastWrites.{some_written as last_written}
 
 -- an identity is written by one node
 pub wrote_once : (ss : List ClientSession) → IsSoundLog ss → (u v : ℕ) (k l : List ℕ) (w : ℕ) → Contains (ops_of ss u) (Write k w) → Contains (ops_of ss v) (Write l w) → u ≡ v

@@ -1,5 +1,5 @@
 -- What the proofs of this crate name of other modules.
-pub use Rattle.level_laws.proofs.Nodes.{op_in_log, one_node, is_node, nodes_are}
+pub use Rattle.point_laws.proofs.Nodes.{op_in_log, one_node, is_node, nodes_are}
 pub use Rattle.level_refutations.specs.Edges.{overlooks, is_initial, is_edge, edge_from, edge_to, is_line, is_circle, op_of, is_step, is_hop, is_path, overlooks_by, is_session_step, is_read_step, may_see, is_read_before, begins_before}
 pub use Rattle.level_refutations.specs.Edges.{is_forced}
 pub use Rattle.level_refutations.specs.Laws.{ForcedIsKept, InitialIsNotOverlooked, Stands, Overlooks, Stood, NoOrderWhereRefuted, EdgesAreKept, HasItsReads, OrderIsOfEdges, IsForced, ShowsForced, EachIsShown, ReadsWhereNoFault, EdgesStand}
@@ -20,9 +20,9 @@ unfoldable pub use Rattle.log_definitions.specs.Serial.{node_of}
 pub use Rattle.log_definitions.specs.Unknown.{ops_in, is_committed, reads_write}
 pub use Rattle.log_laws.specs.Logs.{IsSoundLog, IsLearntLog}
 pub use Rattle.node_names.specs.Names.{node_at}
-pub use Rattle.seen_laws.specs.Seen.{last_write, ReadsBehind, IsLevelOrder, FindsLast, IsEarlier, Direct, Past, step, path, Sees, IsReadBehind, ReadsFrom}
-pub use Rattle.seen_laws.specs.declared.level.Level.{Level}
-pub use Rattle.seen_laws.specs.declared.level.Level.TheVariants.{ReadCommitted, MonotonicAtomicView, ReadAtomic, Causal}
+pub use Rattle.level_laws.specs.Seen.{last_write, ReadsBehind, IsLevelOrder, FindsLast, IsEarlier, Direct, Past, step, path, Sees, IsReadBehind, ReadsFrom}
+pub use Rattle.level_laws.specs.declared.level.Level.{Level}
+pub use Rattle.level_laws.specs.declared.level.Level.TheVariants.{ReadCommitted, MonotonicAtomicView, ReadAtomic, Causal}
 pub use Rattle.serializability.proofs.Places.{Apart-from_IsDistinct, Apart, Has-from_Contains}
 pub use Rattle.serializability.specs.Replay.{Before}
 pub use Rattle.session_log.specs.Text.{ClientSession, Transaction, view, view_txn}

@@ -8,8 +8,8 @@ use Rattle.serializability.specs.Replay.{Before, ListsOnce}
 use Rattle.log_definitions.specs.Serial.{committed_in, node_of, ops_of}
 use Rattle.log_laws.specs.Logs.{IsSoundLog, IsLearntLog}
 use Rattle.node_names.specs.Names.{node_at}
-use Rattle.seen_laws.specs.declared.level.Level.{Level}
-use Rattle.seen_laws.specs.Seen.{last_write, ReadsBehind, WritesKey, ReadsFrom, IsEarlier, Sees, IsLevelOrder, HasLevelOrder}
+use Rattle.level_laws.specs.declared.level.Level.{Level}
+use Rattle.level_laws.specs.Seen.{last_write, ReadsBehind, WritesKey, ReadsFrom, IsEarlier, Sees, IsLevelOrder, HasLevelOrder}
 use Rattle.level_refutations.specs.declared.evidence.{TxnAt.TxnAt, OpAt.OpAt, Hop.Hop, Step.Step, Edge.Edge, Evidence.Evidence}
 use Rattle.level_refutations.specs.Places.{txn_at}
 use Rattle.level_refutations.specs.Edges.{is_edge, is_step, is_forced_by, is_initial_by, edge_from, edge_to}

@@ -3,13 +3,13 @@
 ghost use Rattle.std.specs.Prelude.{◌≡◌, map, IsTrue};
 ghost use Rattle.session_log.specs.Text.{view};
 ghost use Rattle.log_laws.specs.Logs.{IsSoundLog, IsLearntLog};
-ghost use Rattle.seen_laws.specs.Seen.{HasLevelOrder};
+ghost use Rattle.level_laws.specs.Seen.{HasLevelOrder};
 ghost use Rattle.level_refutations.specs.Refuted.{is_refuted};
 
 use crate::edges::{is_circle, is_initial};
 use crate::evidence::Evidence;
 use crate::whys::is_right_fault;
-use seen_laws::Level;
+use level_laws::Level;
 use session_log::Session;
 
 /// Whether the evidence is right.

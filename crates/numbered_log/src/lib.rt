@@ -1,7 +1,7 @@
 //! A log by numbers, made once from the sessions that were read: keys, versions and transactions
 //! are numbers, in flat arrays.
 //!
-//! Called by `judging`, `proposals` and `serial_checks`: a count, a search for an order and a check
+//! Called by `judging`, `order_proposals` and `serial_checks`: a count, a search for an order and a check
 //! of one stand on it. It knows no text, no order and no limit but that a number has 32 bits.
 #![tactic(auto)]
 

@@ -1,7 +1,7 @@
 //! Numbers in place of names, for what proposes: lists of numbers, numbers of keys and of
 //! identities, and which points lie on circles.
 //!
-//! Called by `proposals` and `level_proposals`. Nothing is promised here but that it ends.
+//! Called by `order_proposals` and `level_proposals`. Nothing is promised here but that it ends.
 #![tactic(auto)]
 
 mod components;

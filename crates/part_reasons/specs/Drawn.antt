@@ -5,8 +5,8 @@ use Rattle.session_log.specs.Text.{ClientSession, view}
 use Rattle.log_definitions.specs.WellFormed.{log_lines}
 use Rattle.call_options.specs.declared.format.Format.{Format}
 use Rattle.call_options.specs.declared.format.Format.TheVariants.{Text, Dot}
-use Rattle.seen_laws.specs.declared.level.Level.{Level as BelowLevel}
-use Rattle.seen_laws.specs.declared.level.Level.TheVariants.{Causal}
+use Rattle.level_laws.specs.declared.level.Level.{Level as BelowLevel}
+use Rattle.level_laws.specs.declared.level.Level.TheVariants.{Causal}
 use Rattle.level_refutations.specs.declared.evidence.Evidence.{Evidence}
 use Rattle.level_refutations.specs.Refuted.{is_refuted}
 use Rattle.point_refutations.specs.declared.refutation.Refutation.{Refutation}

@@ -8,7 +8,7 @@ use Rattle.std.specs.declared.alloc.Global.{Global}
 use Rattle.session_log.specs.Lines.{lines}
 use Rattle.session_log.specs.Text.{ClientSession, view}
 use Rattle.serializability.specs.declared.anomaly.Anomaly.{Anomaly}
-use Rattle.seen_laws.specs.declared.level.Level.TheVariants.{Causal}
+use Rattle.level_laws.specs.declared.level.Level.TheVariants.{Causal}
 use Rattle.point_refutations.specs.declared.refutation.Refutation.{Refutation}
 use Rattle.point_refutations.specs.Refuted.{is_refuted}
 use Rattle.tell_points.specs.Told.{name_line, refutation_text}

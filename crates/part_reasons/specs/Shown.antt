@@ -1,7 +1,7 @@
 -- What shows that a part has no order of its snapshots and commits.
 use Rattle.std.specs.Prelude.{◌≡◌, Bool, true, map}
 use Rattle.session_log.specs.Text.{view}
-use Rattle.seen_laws.specs.declared.level.Level.TheVariants.{Causal}
+use Rattle.level_laws.specs.declared.level.Level.TheVariants.{Causal}
 use Rattle.level_refutations.specs.Refuted.{is_refuted}
 use Rattle.point_refutations.specs.Refuted as by_points
 use Rattle.judging.specs.declared.judged.Finding.TheVariants as finding

@@ -28,7 +28,7 @@ use Rattle.tell_decision.specs.Explained.{IsExplained}
 use Rattle.call_options.specs.declared.format.Format.{Format}
 use Rattle.call_options.specs.declared.format.Format.TheVariants.{Text, Dot}
 use Rattle.part_graphs.specs.Graphs.{empty_graph, search_graph}
-use Rattle.seen_laws.specs.declared.level.Level.{Level as BelowLevel}
+use Rattle.level_laws.specs.declared.level.Level.{Level as BelowLevel}
 use Rattle.level_refutations.specs.declared.evidence.Evidence.{Evidence}
 use Rattle.level_refutations.specs.Refuted.{is_refuted}
 use Rattle.tell_evidence.specs.Evidence.{evidence_text}

@@ -13,11 +13,11 @@ ghost use Rattle.part_reasons.specs.Shown.{IsShown};
 
 use crate::own::is_own;
 use judging::{Finding, RefutedPart};
+use level_laws::Level as Weaker;
 use level_proposals::{Proposal, find_break};
 use level_refutations::Evidence;
 use point_proposals::propose;
 use point_refutations::Refutation;
-use seen_laws::Level as Weaker;
 use session_history::Anomaly;
 use std::alloc::{AllocError, Global};
 

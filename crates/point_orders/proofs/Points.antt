@@ -12,9 +12,9 @@ use Rattle.log_definitions.specs.Serial.{Committed, committed_of, committed_in, 
 use Rattle.log_laws.specs.Logs.{IsLearntLog}
 use Rattle.log_laws.proofs.Sessions.{nodes_from, nodes_of}
 use Rattle.session_history.specs.Tables.{name_in}
-use Rattle.level_laws.specs.Snapshot.{Point, snapshot, commit}
-use Rattle.level_laws.specs.Points.{points_from, points_at, points_along}
-use Rattle.level_laws.proofs.Nodes.{nodes_are}
+use Rattle.point_laws.specs.Snapshot.{Point, snapshot, commit}
+use Rattle.point_laws.specs.Points.{points_from, points_at, points_along}
+use Rattle.point_laws.proofs.Nodes.{nodes_are}
 use Rattle.point_orders.specs.Text.{word_line, point_line, points_text}
 use Rattle.point_orders.specs.Halves.{snapshot_of, commit_of, both_of, halves_from, halves_in, half_text, no_half, half_at, halves_text}
 use Rattle.point_orders.specs.declared.halves.Half.{Half}

@@ -11,12 +11,12 @@ use Rattle.log_definitions.proofs.Settled.{learnt_resolved}
 use Rattle.log_laws.specs.Logs.{IsSoundLog}
 use Rattle.log_laws.proofs.Resolved.{nodes_stay, learnt_once_resolved}
 use Rattle.session_history.specs.Tables.{name_in}
-use Rattle.level_laws.specs.Snapshot.{Point, snapshot, commit, IsPointOrder, IsPrefixOrder}
-use Rattle.level_laws.specs.Split.{split_writers}
-use Rattle.level_laws.specs.Points.{points_from, points_at, points_along}
-use Rattle.level_laws.specs.Prefix.{no_locks}
-use Rattle.level_laws.proofs.Prefix.{points_of_prefix}
-use Rattle.level_laws.proofs.Resolved.{Snapshots, to_nodes, from_nodes}
+use Rattle.point_laws.specs.Snapshot.{Point, snapshot, commit, IsPointOrder, IsPrefixOrder}
+use Rattle.point_laws.specs.Split.{split_writers}
+use Rattle.point_laws.specs.Points.{points_from, points_at, points_along}
+use Rattle.point_laws.specs.Prefix.{no_locks}
+use Rattle.point_laws.proofs.Prefix.{points_of_prefix}
+use Rattle.point_laws.proofs.Resolved.{Snapshots, to_nodes, from_nodes}
 use Rattle.point_orders.specs.Text.{word_line, point_line, points_text}
 
 -- ---- texts

@@ -3,7 +3,7 @@ use Rattle.std.specs.Prelude.{ℕ, zero, suc, ◌+◌, true, false, if◌then◌
 use Rattle.std.specs.List.{flat_map}
 use Rattle.session_log.specs.Text.{ClientSession, Transaction}
 use Rattle.log_definitions.specs.Unknown.{is_committed}
-use Rattle.level_laws.specs.Split.{is_writer}
+use Rattle.point_laws.specs.Split.{is_writer}
 use Rattle.point_orders.specs.Text.{word_line}
 use Rattle.point_orders.specs.declared.halves.Half.{Half}
 

@@ -4,7 +4,7 @@ use Rattle.std.specs.List.{flat_map}
 use Rattle.session_log.specs.Text.{ClientSession}
 use Rattle.session_history.specs.Tables.{name_in}
 use Rattle.order_text.specs.Text.{joined_by}
-use Rattle.level_laws.specs.Snapshot.{Point, snapshot, commit}
+use Rattle.point_laws.specs.Snapshot.{Point, snapshot, commit}
 
 -- a session, a place in it, and a word, with a space before each but the first, as a line
 unfoldable pub word_line : ℕ × ℕ → List ℕ → List ℕ

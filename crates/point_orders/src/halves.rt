@@ -3,7 +3,7 @@
 ghost use Rattle.std.specs.Prelude.{◌≡◌, ◌++◌, map, IfOk, OnOk};
 ghost use Rattle.std.specs.List.{list_any};
 ghost use Rattle.session_log.specs.Text.{view, view_txn};
-ghost use Rattle.level_laws.specs.Split.{is_writer};
+ghost use Rattle.point_laws.specs.Split.{is_writer};
 ghost use Rattle.session_log.specs.Text.{is_write};
 ghost use Rattle.point_orders.specs.Halves.{halves_of, halves_from, halves_in};
 

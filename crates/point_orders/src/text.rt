@@ -3,7 +3,7 @@
 ghost use Rattle.std.specs.Prelude.{◌≡◌, ◌++◌, map, IfOk, OnOk};
 ghost use Rattle.session_log.specs.Text.{view};
 ghost use Rattle.log_laws.specs.Logs.{IsLearntLog};
-ghost use Rattle.level_laws.specs.Points.{points_along};
+ghost use Rattle.point_laws.specs.Points.{points_along};
 ghost use Rattle.point_orders.specs.Halves.{half_text, half_at, halves_text};
 ghost use Rattle.point_orders.specs.Text.{word_line, points_text};
 

@@ -8,10 +8,10 @@ use Rattle.serializability.proofs.{Places.Apart-from_IsDistinct, Once.places_apa
 use Rattle.log_definitions.specs.{Unknown.ops_in, WellFormed.written, Serial.committed_in, Serial.ops_of}
 use Rattle.log_definitions.proofs.{Members.member, Chosen.Has-written}
 use Rattle.log_laws.specs.Logs.{IsSoundLog, IsLearntLog}
-use Rattle.level_laws.specs.Snapshot.{Point, snapshot, commit, number, IsPointOrder}
-use Rattle.level_laws.proofs.{Arith.same_commit, Arith.commit_snapshot, Intervals.place, Nodes.is_node, Nodes.op_in_log}
-use Rattle.level_laws.proofs.Orders.{before_place, lo_snapshot, lo_commit}
-use Rattle.seen_laws.{specs.Seen.WritesKey, proofs.Snapshots.met}
+use Rattle.point_laws.specs.Snapshot.{Point, snapshot, commit, number, IsPointOrder}
+use Rattle.point_laws.proofs.{Arith.same_commit, Arith.commit_snapshot, Intervals.place, Nodes.is_node, Nodes.op_in_log}
+use Rattle.point_laws.proofs.Orders.{before_place, lo_snapshot, lo_commit}
+use Rattle.level_laws.{specs.Seen.WritesKey, proofs.Snapshots.met}
 use Rattle.level_refutations.specs.declared.evidence.OpAt.{OpAt}
 use Rattle.level_refutations.specs.{Places.txn_at, Places.op_at, Places.is_named, Places.is_external_in, Places.is_external, Places.is_of_key, Laws.Stands}
 use Rattle.level_refutations.proofs.{Standing.standing, Standing.within, Steps.has_op, Steps.node_of_op, Steps.named}

@@ -7,9 +7,9 @@ use Rattle.session_log.specs.declared.session.{Op.Op, Op.TheVariants.Read, Op.Th
 use Rattle.serializability.proofs.Places.{each_from_append}
 use Rattle.log_definitions.specs.Serial.{ops_of}
 use Rattle.log_laws.specs.Logs.{IsSoundLog, IsLearntLog}
-use Rattle.level_laws.specs.Snapshot.{snapshot, commit, HasPointOrder}
-use Rattle.level_laws.proofs.{Intervals.place, Nodes.is_node, Orders.before_place, Orders.lo_snapshot, Orders.lo_commit}
-use Rattle.seen_laws.specs.Seen.{WritesKey}
+use Rattle.point_laws.specs.Snapshot.{snapshot, commit, HasPointOrder}
+use Rattle.point_laws.proofs.{Intervals.place, Nodes.is_node, Orders.before_place, Orders.lo_snapshot, Orders.lo_commit}
+use Rattle.level_laws.specs.Seen.{WritesKey}
 use Rattle.level_refutations.specs.declared.evidence.TxnAt.{TxnAt}
 use Rattle.level_refutations.specs.{Places.op_at, Places.is_same, Laws.Stands}
 use Rattle.level_refutations.proofs.{Standing.one_node, Standing.within, Steps.same_at, Steps.nodes_apart, Steps.has_op, Steps.node_of_op}

@@ -8,9 +8,9 @@ use Rattle.session_log.specs.{Moments.is_earlier, Text.ClientSession, Text.Trans
 use Rattle.session_log.specs.declared.session.Op.TheVariants.{Write}
 use Rattle.log_definitions.specs.Serial.{Committed, committed_in, ops_of, begun_of, ended_of}
 use Rattle.log_definitions.proofs.Members.{member}
-use Rattle.level_laws.specs.Snapshot.{Point, snapshot, commit, StandsBefore}
-use Rattle.level_laws.proofs.{Intervals.place, Orders.before_place, Orders.lo_snapshot, Orders.lo_commit}
-use Rattle.seen_laws.specs.Seen.{WritesKey}
+use Rattle.point_laws.specs.Snapshot.{Point, snapshot, commit, StandsBefore}
+use Rattle.point_laws.proofs.{Intervals.place, Orders.before_place, Orders.lo_snapshot, Orders.lo_commit}
+use Rattle.level_laws.specs.Seen.{WritesKey}
 use Rattle.level_refutations.specs.declared.evidence.{TxnAt.TxnAt, OpAt.OpAt}
 use Rattle.level_refutations.specs.declared.evidence.Step.TheVariants as hop_step
 use Rattle.level_refutations.specs.Places.{txn_at, is_same, is_of_initial}

@@ -3,7 +3,7 @@
 ghost use Rattle.std.specs.Prelude.{◌≡◌, map, IsTrue, true, []};
 ghost use Rattle.session_log.specs.Text.{view};
 ghost use Rattle.log_laws.specs.Logs.{IsSoundLog, IsLearntLog};
-ghost use Rattle.level_laws.specs.Snapshot.{HasPointOrder};
+ghost use Rattle.point_laws.specs.Snapshot.{HasPointOrder};
 ghost use Rattle.point_refutations.specs.Refuted as spec;
 
 use crate::edges::{edge_from, is_simple_way};

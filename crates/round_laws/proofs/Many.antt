@@ -4,7 +4,7 @@ use Rattle.round_laws.proofs.Prelude.{BothOfRun, RunOfBoth, Round, run_of, IsRou
 use Rattle.log_definitions.proofs.Renumbered.{Orders}
 use Rattle.log_definitions.proofs.OnlyTaken.{orders_from_serial, serial_from_orders}
 use Rattle.log_laws.proofs.Txns.{joined as join_each}
-use Rattle.level_laws.proofs.Resolved.{of_same_nodes}
+use Rattle.point_laws.proofs.Resolved.{of_same_nodes}
 use Rattle.round_laws.proofs.Serial.{pair_of, orders_of_rounds, order_of_run}
 use Rattle.round_laws.proofs.Snapshots.{points_of_rounds, points_of_run}
 use Rattle.round_laws.proofs.Steps.{closed_run, still_left, newly_left, in_time_run}

@@ -4,9 +4,9 @@ use Rattle.round_laws.proofs.Prelude.{flat_map-append, Contains-append_left, Con
 use Rattle.round_laws.proofs.Prelude.{Has-from_Contains, txns_in, ops_in, written, Committed, Map, initial, set, Replays, member, each_member, themselves, Has-written, EachPair, of_mapped, of_flat, in_flat, first_or_behind, after}
 use Rattle.round_laws.proofs.Prelude.{Replays-append, after-append, had_or_written, Alone, snapshot_reads, snapshot_reads_behind, rest, is_in, Locks, HasWritten, AreFresh, locked_writes, take_lock, find_lock, start_ops, end_ops, start_node}
 use Rattle.round_laws.proofs.Prelude.{end_node, both_nodes, Leads, itself, by_session, by_read, IsLeft}
-use Rattle.level_laws.proofs.Parts.{after_rest, written_snapshot, each_snapshot, each_rest, each_locked, locked_once, OtherKey, in_one}
-use Rattle.level_laws.proofs.Fresh.{some_are_fresh}
-use Rattle.level_laws.proofs.Named.{has_key, has_written}
+use Rattle.point_laws.proofs.Parts.{after_rest, written_snapshot, each_snapshot, each_rest, each_locked, locked_once, OtherKey, in_one}
+use Rattle.point_laws.proofs.Fresh.{some_are_fresh}
+use Rattle.point_laws.proofs.Named.{has_key, has_written}
 use Rattle.round_laws.proofs.Comes.{Comes, comes_trans, LeftAs}
 use Rattle.round_laws.proofs.Comes as comes
 use Rattle.round_laws.proofs.Given.{writes_replay}

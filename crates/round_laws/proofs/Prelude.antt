@@ -1,9 +1,9 @@
 -- What the proofs of this crate name of other modules.
-pub use Rattle.level_laws.proofs.Nodes.{start_node, end_node, both_nodes, split_nodes}
-pub use Rattle.level_laws.proofs.Without.{txns_without, committed_ops_stay, stays_sound, resolved_without}
-pub use Rattle.level_laws.specs.Snapshot.{snapshot_reads, snapshot_reads_behind, is_in, HasPointOrder, rest}
-pub use Rattle.level_laws.specs.Split.{Locks, HasWritten, AreFresh, locked_writes, take_lock, find_lock, start_ops, end_ops}
-pub use Rattle.level_laws.specs.Without.{without, session_without, without_moments}
+pub use Rattle.point_laws.proofs.Nodes.{start_node, end_node, both_nodes, split_nodes}
+pub use Rattle.point_laws.proofs.Without.{txns_without, committed_ops_stay, stays_sound, resolved_without}
+pub use Rattle.point_laws.specs.Snapshot.{snapshot_reads, snapshot_reads_behind, is_in, HasPointOrder, rest}
+pub use Rattle.point_laws.specs.Split.{Locks, HasWritten, AreFresh, locked_writes, take_lock, find_lock, start_ops, end_ops}
+pub use Rattle.point_laws.specs.Without.{without, session_without, without_moments}
 pub use Rattle.list_lemmas.proofs.Elements.{contains_at, behind, mapped}
 pub use Rattle.log_definitions.proofs.Chosen.{Has-written}
 pub use Rattle.log_definitions.proofs.Members.{each_member, member, each_weaker, themselves, any_member}

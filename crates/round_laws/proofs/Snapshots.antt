@@ -6,10 +6,10 @@ use Rattle.round_laws.proofs.Prelude.{of_flat, op_of_node, NodeWith, node_with, 
 use Rattle.round_laws.proofs.Prelude.{line_where_order, snapshot_reads, HasPointOrder, Locks, AreFresh, start_ops, end_ops, start_node, end_node, both_nodes, split_nodes, Keeper, Leads, is_fence, is_value, bare_node, run_of_two, values}
 use Rattle.round_laws.proofs.Prelude.{IsInTime, BothOfRun, RunOfBoth}
 use Rattle.log_laws.proofs.Txns.{joined as join_each}
-use Rattle.level_laws.specs.Split.{split}
-use Rattle.level_laws.proofs.Parted.{by_test_learnt}
-use Rattle.level_laws.proofs.Orders.{every, snapshot_by_split, never_later}
-use Rattle.level_laws.proofs.Legal.{split_numbers}
+use Rattle.point_laws.specs.Split.{split}
+use Rattle.point_laws.proofs.Parted.{by_test_learnt}
+use Rattle.point_laws.proofs.Orders.{every, snapshot_by_split, never_later}
+use Rattle.point_laws.proofs.Legal.{split_numbers}
 use Rattle.round_laws.proofs.Comes.{Comes, by_session, itself, Carries, carried, wider, comes_trans, LeftAs}
 use Rattle.round_laws.proofs.Two.{IsAlike, Rounds, rounds_of_whole, whole_of_rounds}
 use Rattle.round_laws.proofs.Joined.{first_early, placed, cut_of, opens_at, not_true}

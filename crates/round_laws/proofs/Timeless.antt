@@ -3,7 +3,7 @@ use Rattle.round_laws.proofs.Prelude.{◌≡◌, ℕ, eqb, ◌||◌, not, List, 
 use Rattle.round_laws.proofs.Prelude.{Read, Write, each_from_map, txns_in, committed_ops, Committed, committed_in, each_member, IsLearnt, IsSoundLog, IsLearntLog, of_mapped, nodes_of, without, session_without, without_moments, txns_without}
 use Rattle.round_laws.proofs.Prelude.{committed_ops_stay, stays_sound, Keeper, Leads, bare_txns, bare, bare_node, txns_at, has_number, joined, run_of_two, IsClosed, IsOpened, IsReadLast, IsLeft, values, IsInTime, Round, run_of, IsRound}
 use Rattle.round_laws.proofs.Prelude.{IsHeld, first_leaves, newest_leaves, others_leave, Fits, AreRounds, AreInTime, RunAsEach, nodes_are}
-use Rattle.level_laws.proofs.Timeless.{node_without, committed_without}
+use Rattle.point_laws.proofs.Timeless.{node_without, committed_without}
 use Rattle.round_laws.proofs.Given.{Leading, leads_carried, learnt_of, bare_set}
 use Rattle.round_laws.proofs.Joined.{bare_learnt}
 use Rattle.round_laws.proofs.Many.{IsKind, each_of_run, run_of_each}

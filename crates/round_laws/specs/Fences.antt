@@ -5,7 +5,7 @@ use Rattle.session_log.specs.Text.{ClientSession, is_write}
 use Rattle.session_log.specs.declared.session.Op.TheVariants.{Read, Write}
 use Rattle.log_definitions.specs.Serial.{Committed, committed_in}
 use Rattle.log_laws.specs.Logs.{IsSoundLog, IsLearntLog}
-use Rattle.level_laws.specs.Snapshot.{snapshot_reads}
+use Rattle.point_laws.specs.Snapshot.{snapshot_reads}
 use Rattle.round_laws.specs.Rounds.{Keeper, IsClosed, IsReadLast}
 use Rattle.round_laws.specs.Runs.{IsRound}
 

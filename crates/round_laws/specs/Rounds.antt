@@ -9,7 +9,7 @@ use Rattle.session_log.specs.declared.session.Op.TheVariants.{Read, Write}
 use Rattle.log_definitions.specs.Unknown.{committed_ops}
 use Rattle.log_definitions.specs.Serial.{Committed, committed_in, Map, initial, set}
 use Rattle.log_laws.specs.Logs.{IsSoundLog, IsLearntLog, HasOrder}
-use Rattle.level_laws.specs.Snapshot.{snapshot_reads, HasSnapshotOrder, HasPrefixOrder}
+use Rattle.point_laws.specs.Snapshot.{snapshot_reads, HasSnapshotOrder, HasPrefixOrder}
 
 -- the number of the keeper's session, and the key of its fence
 pub record Keeper : Type 0 where

@@ -6,8 +6,8 @@ use Rattle.session_log.specs.declared.session.Op.TheVariants.{Read, Write}
 use Rattle.log_definitions.specs.Unknown.{committed_ops}
 use Rattle.log_definitions.specs.Serial.{committed_in}
 use Rattle.log_laws.specs.Logs.{IsSoundLog, IsLearntLog, HasOrder}
-use Rattle.level_laws.specs.Snapshot.{HasSnapshotOrder, HasPrefixOrder}
-use Rattle.level_laws.specs.Without.{without_moments}
+use Rattle.point_laws.specs.Snapshot.{HasSnapshotOrder, HasPrefixOrder}
+use Rattle.point_laws.specs.Without.{without_moments}
 use Rattle.round_laws.specs.Rounds.{Keeper, bare, run_of_two, IsClosed, IsOpened, IsReadLast, IsLeft, values, IsInTime}
 
 -- a log with an opening and a closing

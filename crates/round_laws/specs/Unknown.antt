@@ -5,8 +5,8 @@ use Rattle.session_log.specs.Text.{ClientSession, Transaction, is_write}
 use Rattle.session_log.specs.declared.session.Outcome.TheVariants.{Commit}
 use Rattle.log_definitions.specs.Unknown.{is_unknown, taken, resolved}
 use Rattle.log_laws.specs.Logs.{HasOrder}
-use Rattle.level_laws.specs.Snapshot.{HasSnapshotOrder, HasPrefixOrder}
-use Rattle.level_laws.specs.Without.{without_moments}
+use Rattle.point_laws.specs.Snapshot.{HasSnapshotOrder, HasPrefixOrder}
+use Rattle.point_laws.specs.Without.{without_moments}
 use Rattle.round_laws.specs.Rounds.{Keeper}
 use Rattle.round_laws.specs.Runs.{Round, run_of, AreRounds, AreInTime}
 

@@ -5,7 +5,7 @@ use Rattle.output.specs.Sinks.{one_more}
 use Rattle.session_log.specs.Text.{ClientSession, log_text, least_version}
 use Rattle.log_definitions.specs.Unknown.{resolved}
 use Rattle.long_log_definitions.specs.LongLog.{IsLongLog, IsLongLogFault}
-use Rattle.level_laws.specs.Split.{split_writers}
+use Rattle.point_laws.specs.Split.{split_writers}
 use Rattle.splitting.specs.Locks.{locks_of, no_room, HasRoom}
 use Rattle.splitting.specs.declared.room.NoRoom.{NoRoom}
 use Rattle.split_command.specs.declared.fault.SplitFault.{SplitFault}

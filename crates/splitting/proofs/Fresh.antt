@@ -7,11 +7,11 @@ use Rattle.std.proofs.Math.ListN.{length-replicate}
 use Rattle.log_definitions.proofs.Keys.{Listed, all_listed, number_below, same_number}
 use Rattle.log_definitions.proofs.Settled.{learnt_resolved, ops_resolved}
 use Rattle.log_laws.specs.Logs.{IsLog, HasOrder}
-use Rattle.level_laws.proofs.Legal.{split_is_log, resolved_split_is_log}
-use Rattle.level_laws.proofs.Points.{snapshot_by_writers}
-use Rattle.level_laws.proofs.Fresh.{same_behind}
-use Rattle.level_laws.proofs.Prefix.{prefix_by_split, bare_split_log}
-use Rattle.level_laws.proofs.Doubled.{same_place}
+use Rattle.point_laws.proofs.Legal.{split_is_log, resolved_split_is_log}
+use Rattle.point_laws.proofs.Points.{snapshot_by_writers}
+use Rattle.point_laws.proofs.Fresh.{same_behind}
+use Rattle.point_laws.proofs.Prefix.{prefix_by_split, bare_split_log}
+use Rattle.point_laws.proofs.Doubled.{same_place}
 use Rattle.splitting.specs.Laws.{LocksAreFresh, SnapshotBySplitLog, SnapshotByResolvedSplit, PrefixBySplitLog}
 use Rattle.splitting.specs.declared.room.NoRoom.{NoRoom}
 use Rattle.splitting.proofs.Greatest.{within_greatest}

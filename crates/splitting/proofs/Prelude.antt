@@ -1,7 +1,7 @@
 -- What the proofs of this crate name of other modules.
-pub use Rattle.level_laws.specs.Prefix.{no_locks}
-pub use Rattle.level_laws.specs.Snapshot.{HasSnapshotOrder, HasPrefixOrder, is_in, snapshot_reads_behind, rest_behind}
-pub use Rattle.level_laws.specs.Split.{Locks, HasKey, split_writers, first_writes_behind, take_lock, find_lock}
+pub use Rattle.point_laws.specs.Prefix.{no_locks}
+pub use Rattle.point_laws.specs.Snapshot.{HasSnapshotOrder, HasPrefixOrder, is_in, snapshot_reads_behind, rest_behind}
+pub use Rattle.point_laws.specs.Split.{Locks, HasKey, split_writers, first_writes_behind, take_lock, find_lock}
 pub use Rattle.list_lemmas.proofs.Bools.{and_first, cond_or}
 pub use Rattle.list_lemmas.proofs.Comparisons.{bytes_flip}
 pub use Rattle.list_lemmas.proofs.Lists.{front_more, mapped_left}

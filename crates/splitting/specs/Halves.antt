@@ -6,8 +6,8 @@ use Rattle.std.specs.Cmp.Lexicographic.{slice_cmp}
 use Rattle.std.specs.BTreeSet.{BTreeSet, contains_by}
 use Rattle.session_log.specs.Text.{Transaction}
 use Rattle.session_log.specs.declared.session.Op.{Op}
-use Rattle.level_laws.specs.Snapshot.{is_in, snapshot_reads, snapshot_reads_behind, rest, rest_behind}
-use Rattle.level_laws.specs.Split.{Locks, locked_writes, first_writes_behind, take_lock, find_lock, split_txn, is_writer}
+use Rattle.point_laws.specs.Snapshot.{is_in, snapshot_reads, snapshot_reads_behind, rest, rest_behind}
+use Rattle.point_laws.specs.Split.{Locks, locked_writes, first_writes_behind, take_lock, find_lock, split_txn, is_writer}
 use Rattle.splitting.specs.Room.{AreNamed}
 use Rattle.splitting.specs.declared.halves.Halves.{Halves}
 use Rattle.splitting.specs.declared.names.Names.{Names}

@@ -4,9 +4,9 @@ use Rattle.std.specs.List.{AllByRecursion}
 use Rattle.session_log.specs.Text.{ClientSession, IsLegal}
 use Rattle.log_definitions.specs.Unknown.{resolved}
 use Rattle.log_laws.specs.Logs.{IsSoundLog, IsLog, HasOrder}
-use Rattle.level_laws.specs.Snapshot.{HasSnapshotOrder, HasPrefixOrder}
-use Rattle.level_laws.specs.Split.{AreFresh, AreLegalLocks, split_writers}
-use Rattle.level_laws.specs.Prefix.{no_locks}
+use Rattle.point_laws.specs.Snapshot.{HasSnapshotOrder, HasPrefixOrder}
+use Rattle.point_laws.specs.Split.{AreFresh, AreLegalLocks, split_writers}
+use Rattle.point_laws.specs.Prefix.{no_locks}
 use Rattle.splitting.specs.Locks.{locks_of, HasRoom}
 
 -- Where the names have room, the locks are fresh, and a log can hold them.

@@ -8,7 +8,7 @@ use Rattle.session_log.specs.declared.session.Op.TheVariants.{Read, Write}
 use Rattle.log_definitions.specs.Unknown.{ops_in}
 use Rattle.log_definitions.specs.WellFormed.{written, keys_in}
 use Rattle.log_definitions.specs.Numbers.{number_in}
-use Rattle.level_laws.specs.Split.{Locks}
+use Rattle.point_laws.specs.Split.{Locks}
 use Rattle.splitting.specs.declared.room.NoRoom.{NoRoom}
 use Rattle.splitting.specs.declared.room.NoRoom.TheVariants.{Keys, Identities}
 

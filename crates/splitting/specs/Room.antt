@@ -4,7 +4,7 @@ use Rattle.std.specs.List.{AllByRecursion}
 use Rattle.session_log.specs.declared.session.Op.{Op}
 use Rattle.log_definitions.specs.WellFormed.{written}
 use Rattle.session_log.specs.Text.{key_of}
-use Rattle.level_laws.specs.Split.{Locks}
+use Rattle.point_laws.specs.Split.{Locks}
 use Rattle.splitting.specs.Locks.{most_marks, longest, largest}
 use Rattle.splitting.specs.Names.{name_by, lock_by}
 use Rattle.splitting.specs.declared.names.Names.{Names}

@@ -1,7 +1,7 @@
 -- What a transaction comes to without locks, as its operations are taken one by one.
 use Rattle.std.specs.Prelude.{◌≡◌, ℕ, List, ◌++◌}
 use Rattle.session_log.specs.declared.session.Op.{Op}
-use Rattle.level_laws.specs.Snapshot.{is_in, snapshot_reads, snapshot_reads_behind, rest, rest_behind}
+use Rattle.point_laws.specs.Snapshot.{is_in, snapshot_reads, snapshot_reads_behind, rest, rest_behind}
 use Rattle.splitting.specs.Halves.{has}
 use Rattle.splitting.specs.declared.bare.Sides.{Sides}
 

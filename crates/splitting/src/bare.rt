@@ -4,8 +4,8 @@ ghost use Rattle.std.specs.Prelude.{◌≡◌, ◌∷◌, ◌++◌, [], List, ma
 ghost use Rattle.std.specs.List.{flat_map};
 ghost use Rattle.session_log.specs.Text.{view, view_txn};
 ghost use Rattle.session_log.specs.declared.session.Op.{Op as OpValue};
-ghost use Rattle.level_laws.specs.Split.{split_txn, split_writers};
-ghost use Rattle.level_laws.specs.Prefix.{no_locks};
+ghost use Rattle.point_laws.specs.Split.{split_txn, split_writers};
+ghost use Rattle.point_laws.specs.Prefix.{no_locks};
 ghost use Rattle.splitting.specs.Halves.{parts};
 ghost use Rattle.splitting.specs.Sides.{AreSides};
 

@@ -4,7 +4,7 @@ ghost use Rattle.std.specs.Prelude.{◌≡◌, ◌∷◌, ◌++◌, [], ◌+◌,
 ghost use Rattle.session_log.specs.Text.{view_txn};
 ghost use Rattle.session_log.specs.declared.session.Op.{Op as OpValue};
 ghost use Rattle.session_log.specs.declared.session.Op.TheVariants as op;
-ghost use Rattle.level_laws.specs.Split.{Locks, split_txn};
+ghost use Rattle.point_laws.specs.Split.{Locks, split_txn};
 ghost use Rattle.splitting.specs.Names.{name_by, lock_by};
 ghost use Rattle.splitting.specs.Room.{Fit, AreNamed};
 ghost use Rattle.splitting.specs.Halves.{ComesTo, lists_in};

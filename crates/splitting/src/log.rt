@@ -5,7 +5,7 @@ ghost use Rattle.std.specs.List.{IsDistinct, flat_map, list_any};
 ghost use Rattle.session_log.specs.Text.{view, view_txn};
 ghost use Rattle.log_definitions.specs.Unknown.{ops_in};
 ghost use Rattle.log_definitions.specs.WellFormed.{written};
-ghost use Rattle.level_laws.specs.Split.{Locks, is_writer, split_writers};
+ghost use Rattle.point_laws.specs.Split.{Locks, is_writer, split_writers};
 ghost use Rattle.session_log.specs.Text.{is_write};
 ghost use Rattle.splitting.specs.Locks.{locks_of, refusal, no_room, HasRoom};
 ghost use Rattle.splitting.specs.Room.{Fit, AreNamed};

@@ -1,8 +1,8 @@
 -- What the field calls a fault, at the level that it breaks. The head of the crate has the sources.
 use Rattle.std.specs.Prelude.{ℕ, ◌==◌, ◌&&◌, not, Bool, true, false, if◌then◌else◌, List, [], ◌∷◌, length, codes, Option, None, Some}
 use Rattle.std.specs.List.{list_any}
-use Rattle.seen_laws.specs.declared.level.Level.{Level}
-use Rattle.seen_laws.specs.declared.level.Level.TheVariants.{ReadCommitted, MonotonicAtomicView, ReadAtomic, Causal}
+use Rattle.level_laws.specs.declared.level.Level.{Level}
+use Rattle.level_laws.specs.declared.level.Level.TheVariants.{ReadCommitted, MonotonicAtomicView, ReadAtomic, Causal}
 use Rattle.level_refutations.specs.declared.evidence.{Hop.Hop, Step.Step, Overlooked.Overlooked, Edge.Edge, Why.Why, Evidence.Evidence}
 use Rattle.level_refutations.specs.declared.evidence.Step.TheVariants as step
 use Rattle.level_refutations.specs.declared.evidence.Edge.TheVariants as edge

@@ -6,8 +6,8 @@ ghost use Rattle.std.specs.Option.{option_copied};
 ghost use Rattle.tell_evidence.specs.Names as spec;
 
 use crate::paths::reads_it;
+use level_laws::Level;
 use level_refutations::{Edge, Evidence, Hop, Overlooked, Step, Why};
-use seen_laws::Level;
 
 fn why_name(why: Why) -> Option<&'static str>
     ensures { option_copied result ≡ spec.why_name why }

@@ -1,0 +1,27 @@
+mod Prelude
+pub mod Arith
+pub mod Parts
+pub mod Apart
+pub mod Spread
+pub mod Intervals
+pub mod Nodes
+pub mod Named
+pub mod Parted
+pub mod Orders
+pub mod Doubled
+pub mod Legal
+pub mod Fresh
+pub mod Resolved
+pub mod Chosen
+pub mod Points
+pub mod Examples
+pub mod Left
+pub mod Fewer
+pub mod Kept
+pub mod Known
+pub mod OrderLeft
+pub mod Some
+pub mod OfPart
+pub mod Without
+pub mod Timeless
+pub mod Prefix

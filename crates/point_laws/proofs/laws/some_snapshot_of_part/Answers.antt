@@ -1,0 +1,5 @@
+use Rattle.point_laws.proofs.OfPart.{some_snapshot_of_part}
+use Rattle.point_laws.proofs.laws.some_snapshot_of_part.Goals as goal
+
+pub returns : goal.returns
+returns c = some_snapshot_of_part

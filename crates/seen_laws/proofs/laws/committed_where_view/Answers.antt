@@ -1,5 +1,0 @@
-use Rattle.seen_laws.proofs.Ladder.{committed_where_view}
-use Rattle.seen_laws.proofs.laws.committed_where_view.Goals as goal
-
-pub returns : goal.returns
-returns c = committed_where_view

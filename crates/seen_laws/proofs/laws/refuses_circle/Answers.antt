@@ -1,5 +1,0 @@
-use Rattle.seen_laws.proofs.Circles.{refuses_circle}
-use Rattle.seen_laws.proofs.laws.refuses_circle.Goals as goal
-
-pub returns : goal.returns
-returns c = refuses_circle
