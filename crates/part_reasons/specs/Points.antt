@@ -21,7 +21,7 @@ use Rattle.reason_laws.specs.declared.crossing.Crossing.{Crossing}
 use Rattle.tell_reasons.specs.Crossed.{crossing_text}
 use Rattle.judging.specs.declared.judged.Finding.TheVariants as finding
 use Rattle.judging.specs.declared.judged.RefutedPart.{RefutedPart}
-use Rattle.part_reasons.specs.Why.{table_of, anomaly_name, IsOwn, IsKnownAs, IsReasonTold, IsEvidenceTold}
+use Rattle.part_reasons.specs.Why.{table_of, name_of_anomaly, IsOwn, IsKnownAs, IsReasonTold, IsEvidenceTold}
 
 -- ---- an anomaly
 
@@ -38,8 +38,8 @@ pub record IsAnomalyTold
   pub own : IsOwn p
   pub said : List ℕ
   pub serial : IsReasonTold Text budget n known p said
-  pub text_is : text ≡ said ++ name_line (anomaly_name a)
-  pub name_is : option_map string_bytes name ≡ anomaly_name a
+  pub text_is : text ≡ said ++ name_line (name_of_anomaly (map view p.part.items) a)
+  pub name_is : option_map string_bytes name ≡ name_of_anomaly (map view p.part.items) a
 
 -- ---- a refutation by points
 

@@ -1,7 +1,7 @@
 -- Why a part has no serial order, in the names and the lines of the whole log.
-use Rattle.std.specs.Prelude.{◌≡◌, ◌⊎◌, ◌<◌, ◌==◌, ℕ, Bool, true, false, List, [], ◌++◌, length, map, if◌then◌else◌, codes, Option, None, Some, IfSome, Vec, String}
+use Rattle.std.specs.Prelude.{◌≡◌, ◌⊎◌, ◌<◌, ◌==◌, ◌-◌, ℕ, Bool, true, false, List, [], ◌++◌, length, map, if◌then◌else◌, codes, Option, None, Some, IfSome, Vec, String, slice_get}
 use Rattle.std.specs.List.{Contains}
-use Rattle.std.specs.Option.{option_map}
+use Rattle.std.specs.Option.{option_map, option_map_or}
 use Rattle.std.specs.String.{string_bytes}
 use Rattle.std.specs.declared.alloc.Global.{Global}
 use Rattle.session_log.specs.Text.{ClientSession, view}
@@ -25,6 +25,9 @@ use Rattle.deciding.specs.Decides.{Decides}
 use Rattle.deciding.specs.declared.decision.Decision.{Decision}
 use Rattle.deciding.specs.declared.decision.Decision.TheVariants as decision
 use Rattle.tell_decision.specs.Explained.{IsExplained}
+use Rattle.tell_reasons.specs.Names.{followed, cycle_name}
+use Rattle.tell_reasons.specs.declared.names.{TheConstants.NO_EDGES, TheConstants.MISSED, TheConstants.SESSION}
+use Rattle.node_names.specs.Names.{names_of, nodes_of}
 use Rattle.call_options.specs.declared.format.Format.{Format}
 use Rattle.call_options.specs.declared.format.Format.TheVariants.{Text, Dot}
 use Rattle.part_graphs.specs.Graphs.{empty_graph, search_graph}
@@ -103,9 +106,24 @@ read_name read.OwnWriteMissed = Some (codes "own write missed (internal)")
 read_name read.Future = Some (codes "future read (internal)")
 read_name read.Split = Some (codes "non-repeatable read (internal)")
 
-abbrev pub anomaly_name : Anomaly → Option (List ℕ)
-anomaly_name (anomaly.Read kind v op) = read_name kind
-anomaly_name (anomaly.LostUpdate x u a b) = Some (codes "lost update (G-single)")
+-- the session of a node, by the names of nodes; 0 of none
+abbrev pub session_in : List (ℕ × ℕ) → ℕ → ℕ
+session_in names v = option_map_or (λ name. name.0) (slice_get names (v - 1)) 0
+
+-- of two nodes that read one version and overwrite it: of one session, the later one misses what its
+-- session wrote, which weaker levels forbid too
+abbrev pub update_name : List (ℕ × ℕ) → ℕ → ℕ → List ℕ
+update_name names a b = if session_in names a == session_in names b
+    then cycle_name (followed (followed NO_EDGES SESSION) MISSED)
+    else codes "lost update (G-single)"
+
+abbrev pub anomaly_name : List (ℕ × ℕ) → Anomaly → Option (List ℕ)
+anomaly_name names (anomaly.Read kind v op) = read_name kind
+anomaly_name names (anomaly.LostUpdate x u a b) = Some (update_name names a b)
+
+-- of an anomaly of these sessions
+abbrev pub name_of_anomaly : List ClientSession → Anomaly → Option (List ℕ)
+name_of_anomaly ss a = anomaly_name (names_of (nodes_of ss)) a
 
 -- an anomaly of this number
 abbrev pub has_number : ℕ → Option Anomaly → Bool
@@ -127,13 +145,13 @@ pub record IsKnownAs (name text : List ℕ) : Type 0 where
   pub ended : Bool
   pub line : Contains (lines text) (codes "known as: " ++ name, ended)
 
--- by what was found: an anomaly has its name, the formula none, and the name of any other finding
--- stands in the text that says why
-abbrev pub IsNamedBy : Finding → Option (String Global) → List ℕ → Type 0
-IsNamedBy (finding.Anomaly a) name text = option_map string_bytes name ≡ anomaly_name a
-IsNamedBy finding.Formula name text = name ≡ None
-IsNamedBy finding.Overlooked name text = name ≡ None
-IsNamedBy _ name text = IfSome name (λ called. IsKnownAs (string_bytes called) text)
+-- by what was found in these sessions: an anomaly has its name, the formula none, and the name of any
+-- other finding stands in the text that says why
+abbrev pub IsNamedBy : List ClientSession → Finding → Option (String Global) → List ℕ → Type 0
+IsNamedBy ss (finding.Anomaly a) name text = option_map string_bytes name ≡ name_of_anomaly ss a
+IsNamedBy ss finding.Formula name text = name ≡ None
+IsNamedBy ss finding.Overlooked name text = name ≡ None
+IsNamedBy ss _ name text = IfSome name (λ called. IsKnownAs (string_bytes called) text)
 
 -- ---- what is said: why, and the name
 

@@ -10,7 +10,7 @@ ghost use Rattle.session_log.specs.Text.{IsLegal, view};
 ghost use Rattle.session_log.specs.Version.{first_line};
 ghost use Rattle.judging.specs.Made.{IsMadeOf};
 ghost use Rattle.judging.specs.declared.judged.Finding.TheVariants as finding;
-ghost use Rattle.part_reasons.specs.Why.{anomaly_name, IsOwn};
+ghost use Rattle.part_reasons.specs.Why.{name_of_anomaly, IsOwn};
 ghost use Rattle.point_refutations.specs.Refuted.{is_refuted};
 ghost use Rattle.tell_points.specs.Told.{name_line};
 ghost use Rattle.part_reasons.specs.Points as spec;
@@ -19,7 +19,7 @@ use crate::crossed::{crossing_name, crossing_of_part};
 use crate::explaining::{Explained, MANY_LINES, explain_serial, owned, places_of};
 use crate::overlooked::tell_evidence;
 use crate::shown::{Shown, shown_of};
-use crate::whys::anomaly_name;
+use crate::whys::name_of_anomaly;
 use deciding::Means;
 use judging::RefutedPart;
 use level_laws::Level as Weaker;
@@ -78,7 +78,7 @@ fn tell_anomaly<R: Threads + Wait + Clock + Sync>(
         (map view sessions.now) refuted.now told.known_as told.text.items) }
 {
     let explained = explain_serial(rt, alloc, version, sessions, refuted, means)?;
-    let name = anomaly_name(anomaly);
+    let name = name_of_anomaly(alloc, &refuted.part, anomaly)?;
     let mut text = explained.text;
     put_name(&mut text, name)?;
     Ok(Explained {

@@ -85,10 +85,11 @@ pub struct Graph<'a> {
 }
 
 impl<'a> Graph<'a> {
-    /// What is known of the points of a part. What a node reads from its snapshot was written by a
-    /// commit before it; and it is overwritten by later commits: those of nodes that read it too and
-    /// write the key, and where it is the initial value, of all that write the key.
-    pub fn of(alloc: Global, part: &Part<'a>) -> Result<Graph<'a>, AllocError> {
+    /// What is known of the points of a part, with moments or without. What a node reads from its
+    /// snapshot was written by a commit before it; and it is overwritten by later commits: those of
+    /// nodes that read it too and write the key, and where it is the initial value, of all that write
+    /// the key.
+    pub fn of(alloc: Global, part: &Part<'a>, is_timed: bool) -> Result<Graph<'a>, AllocError> {
         let mut graph = Graph::new(alloc, part.nodes.len().saturating_mul(2))?;
         for read in part.reads.iter().copied() {
             for write in part.writes.iter().copied() {
@@ -107,7 +108,7 @@ impl<'a> Graph<'a> {
                 if first.at.session == second.at.session && first.number < second.number {
                     graph.add(first, second, Why::Session, None);
                 }
-                if is_earlier(first.txn.ended, second.txn.begun) {
+                if is_timed && is_earlier(first.txn.ended, second.txn.begun) {
                     graph.add(first, second, Why::Moments, None);
                 }
             }

@@ -238,7 +238,8 @@ fn tell<'a>(
 
 /// Why the snapshots and commits of these sessions, whose outcomes are known, have no order, where
 /// keys are locked or not; `None` where circles and steps do not show it, as where only a search
-/// does.
+/// does. What shows it without moments comes first: so a fault is told alike at a strict level and
+/// at a weaker one.
 pub fn propose(
     alloc: Global,
     sessions: &[Session],
@@ -249,7 +250,12 @@ pub fn propose(
     if part.nodes.len() > MANY_NODES || ops > MANY_OPS {
         return Ok(None);
     }
-    match refute(alloc, &part, is_locked)? {
+    let is_timed = part.nodes.iter().any(|node| node.txn.begun.is_some());
+    let found = match refute(alloc, &part, is_locked, false)? {
+        None if is_timed => refute(alloc, &part, is_locked, true)?,
+        found => found,
+    };
+    match found {
         Some((steps, ending)) => tell(alloc, &part, is_locked, &steps, &ending),
         None => Ok(None),
     }

@@ -58,11 +58,12 @@ struct Search<'a, 'b> {
 }
 
 impl<'a, 'b> Search<'a, 'b> {
-    /// What a part itself says, with no step.
+    /// What a part itself says, with moments or without, and with no step.
     fn of(
         alloc: Global,
         part: &'b Part<'a>,
         is_locked: bool,
+        is_timed: bool,
     ) -> Result<Search<'a, 'b>, AllocError> {
         let mut open = Vec::new(alloc);
         for first in part.nodes.iter().copied() {
@@ -78,7 +79,7 @@ impl<'a, 'b> Search<'a, 'b> {
             alloc,
             part,
             is_locked,
-            graph: Graph::of(alloc, part)?,
+            graph: Graph::of(alloc, part, is_timed)?,
             steps: Vec::new(alloc),
             open,
         })
@@ -257,16 +258,17 @@ impl<'a, 'b> Search<'a, 'b> {
     }
 }
 
-/// Why the points of a part have no order: the steps that follow from what is known of them, and to
-/// what they lead; `None` where these do not show it. In each round a circle is sought; else, where
-/// keys are locked and there are no steps yet, a lost update; else steps that what is known shows;
-/// else those that are forced.
+/// Why the points of a part have no order, with moments or without: the steps that follow from what
+/// is known of them, and to what they lead; `None` where these do not show it. In each round a circle
+/// is sought; else, where keys are locked and there are no steps yet, a lost update; else steps that
+/// what is known shows; else those that are forced.
 pub fn refute<'a>(
     alloc: Global,
     part: &Part<'a>,
     is_locked: bool,
+    is_timed: bool,
 ) -> Result<Option<(Vec<Step<'a>>, Ending<'a>)>, AllocError> {
-    let mut search = Search::of(alloc, part, is_locked)?;
+    let mut search = Search::of(alloc, part, is_locked, is_timed)?;
     for _ in 0..MANY_ROUNDS {
         search.graph.learn_costs();
         if let Some(circle) = search.graph.circle(alloc)? {

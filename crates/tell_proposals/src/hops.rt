@@ -63,8 +63,8 @@ pub fn node_at(number: usize) -> NodeIx {
 }
 
 impl Hops {
-    /// What the log shows.
-    pub fn of(alloc: Global, chains: &Chains<'_>) -> Result<Hops, AllocError> {
+    /// What the log shows, with moments or without.
+    pub fn of(alloc: Global, chains: &Chains<'_>, is_timed: bool) -> Result<Hops, AllocError> {
         let history = chains.history();
         let nodes = history.committed().saturating_add(1);
         let mut lists = Vec::new(alloc);
@@ -73,7 +73,9 @@ impl Hops {
         }
         let mut hops = Hops { nodes, lists };
         hops.add_sessions(history)?;
-        hops.add_moments(alloc, history)?;
+        if is_timed {
+            hops.add_moments(alloc, history)?;
+        }
         hops.add_reads(history)?;
         for edge in chains.inner_edges() {
             hops.add_shown(edge.source().get(), edge.target().get(), Kind::Missed)?;

@@ -1,10 +1,11 @@
 //! What is proposed.
 
-use crate::hops::Kind;
+use crate::hops::{Kind, node_at};
 use crate::orders::{End, Order};
 use crate::rounds::{Rounds, kind_behind, rounds_of};
 use crate::search::{Search, Walk};
 use serializability::NodeIx;
+use session_history::History;
 use std::alloc::{AllocError, Global};
 use tell_reasons::ChainOrder;
 use write_chains::Chains;
@@ -134,9 +135,18 @@ fn told(alloc: Global, rounds: &Rounds<'_>) -> Result<Proposal, AllocError> {
     Ok(Proposal { steps, cycle })
 }
 
+/// Whether a history states moments.
+fn is_timed(history: &History) -> bool {
+    (1..=history.committed()).any(|number| history.begun_of(node_at(number)).is_some())
+}
+
 /// Proposes how it is told that a history with these chains has no order, where rounds of pruning
-/// end in a cycle before they get long.
+/// end in a cycle before they get long. Those without moments come first: so a fault is told alike
+/// at a strict level and at a weaker one.
 pub fn propose(alloc: Global, chains: &Chains<'_>) -> Result<Option<Proposal>, AllocError> {
-    let rounds = rounds_of(alloc, chains)?;
+    let rounds = match rounds_of(alloc, chains, false)? {
+        None if is_timed(chains.history()) => rounds_of(alloc, chains, true)?,
+        rounds => rounds,
+    };
     rounds.map(|rounds| told(alloc, &rounds)).transpose()
 }

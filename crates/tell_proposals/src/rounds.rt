@@ -75,12 +75,14 @@ impl Hops {
     }
 }
 
-/// The rounds of a history, where they end in an order of which both ways are refuted.
+/// The rounds of a history, with moments or without, where they end in an order of which both ways
+/// are refuted.
 pub fn rounds_of<'a>(
     alloc: Global,
     chains: &'a Chains<'_>,
+    is_timed: bool,
 ) -> Result<Option<Rounds<'a>>, AllocError> {
-    let mut hops = Hops::of(alloc, chains)?;
+    let mut hops = Hops::of(alloc, chains, is_timed)?;
     let mut kept: Vec<Kept<'_>> = Vec::new(alloc);
     let mut before = BTreeMap::new(alloc);
     let mut added = 0;

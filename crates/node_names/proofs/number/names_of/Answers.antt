@@ -1,4 +1,4 @@
-use Rattle.node_names.proofs.Prelude.{◌+◌, ◌++◌, List, map, sym, ap, ◌∙◌, drop, drop_all, map-append, append_assoc, append_none, get_drop, item, view, view_txn, Committed, nodes_from, nodes_of, names_of}
+use Rattle.node_names.proofs.Prelude.{◌≡◌, ◌+◌, ◌++◌, List, map, sym, ap, ◌∙◌, drop, drop_all, map-append, append_assoc, append_none, get_drop, item, view, view_txn, Committed, nodes_from, nodes_of, names_of}
 use Rattle.session_log.specs.declared.session.Session.{Session}
 use Rattle.session_log.specs.declared.session.Txn.{Txn}
 use Rattle.log_definitions.proofs.Settled.{IsLearnt}
@@ -25,12 +25,16 @@ loop-session-preserved c =
     ∙ c.loop-session.invariant
 
 pub returns : goal.returns
-returns c learnt =
+returns c =
     let sessions = c.args.sessions.now in
     let ss = map view sessions in
     let i = c.loop-session.session-index in
     let names = c.loop-session.names.items in
+    let named : names ≡ names_of (nodes_of ss) =
     append_none names
     ∙ ap (λ (l : List Session). names ++ names_of (nodes_of (map view l))) (sym (drop_all i sessions c.loop-session-test.false))
-    ∙ c.loop-session.invariant
-    ∙ ap (λ (l : List Committed). names_of l) (sym (nodes_are ss (split IsLearnt ss learnt)))
+    ∙ c.loop-session.invariant in
+    record {
+      nodes = named;
+      learnt = λ learnt. named ∙ ap (λ (l : List Committed). names_of l) (sym (nodes_are ss (split IsLearnt ss learnt)));
+    }
