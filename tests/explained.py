@@ -719,7 +719,7 @@ def named_of(log, lines):
     """Of each transaction that these lines tell edges of, its name and those of its operations that the reasons name."""
     edges = list(edges_of(log, lines))
     parts = {name for edge in edges for name in edge[:2]}
-    shown = [re.sub(BEHIND, '', said) for _, _, said, _, colour in edges if colour not in ('orange', 'gray')]
+    shown = [re.sub(BEHIND, '', said) for _, _, said, *_ in edges]
     named = {int(line) for said in shown for line in re.findall(r'\(line ([0-9]+)\)', said)}
     return [[it.name] + ['%s %s %d (line %d)' % op for op in it.ops if op.line in named] for it in log.transactions if it.name in parts]
 

@@ -89,7 +89,7 @@ fn faults_of_writers(rt: HostRuntime) {
         alloc,
         level,
         &fault(read, Why::Aborted { write }),
-        "in short: 2.1 reads what a transaction wrote that did not commit\n\
+        "in short: 2.1 reads what 1.1 wrote, which did not commit\n\
         2.1 reads x 1 (line 7), which 1.1 wrote (line 3), and 1.1 was aborted (line 4)\n",
         Some("aborted read (G1a)"),
     );

@@ -20,6 +20,7 @@ use Rattle.judging.specs.declared.level.Level.TheVariants as level
 use Rattle.judging.specs.declared.means.JudgeMeans.{JudgeMeans}
 use Rattle.part_reasons.specs.declared.explaining.TheConstants.{MANY_LINES}
 use Rattle.part_reasons.specs.Why.{table_of, search_line, IsOwn, IsReasonTold}
+use Rattle.part_reasons.specs.Weaker.{IsWeakerDrawn}
 
 -- ---- no serial order
 
@@ -104,8 +105,10 @@ IsDrawnAt level.Snapshot budget n known p graph = IsPointsDrawn true budget n kn
 IsDrawnAt level.Prefix budget n known p graph = IsPointsDrawn false budget n known p graph
 IsDrawnAt (level.Below below) budget n known p graph = IsBelowDrawn below n known p graph
 
+-- by the level that is judged, or why a weaker one is broken too
 abbrev pub IsDrawn : JudgeMeans → ℕ → List ClientSession → RefutedPart → List ℕ → Type 0
 IsDrawn m n known p graph = IsDrawnAt m.level m.deciding.budget n known p graph
+    ⊎ IsWeakerDrawn m.level n known p graph
 
 -- the graph, where one is asked for
 abbrev pub IsDrawnWhere : Format → JudgeMeans → ℕ → List ClientSession → RefutedPart → List ℕ

@@ -4,3 +4,5 @@ pub mod Why
 pub mod Points
 pub mod Said
 pub mod Shown
+pub mod Timed
+pub mod Weaker

@@ -15,6 +15,8 @@ use crate::explaining::{MANY_LINES, SEARCH_SHOWS, places_of};
 use crate::serial::tell_serial;
 use crate::shown::{Shown, evidence_of, shown_of};
 use crate::snapshots::NO_POINTS_LEFT;
+use crate::weaker::{draw_weaker, renamed};
+use crate::whys::explain_at;
 use call_options::Format;
 use deciding::Means;
 use judging::{Finding, JudgeMeans, Level, RefutedPart};
@@ -230,7 +232,31 @@ fn draw_points<R: Threads + Wait + Clock + Sync>(
 }
 
 /// Why a part of these sessions, which are those of a log of this version with their outcomes
-/// known, has no order of the level at which it was judged.
+/// known, has no order of the level at which it was judged, by that level itself.
+fn draw_at<R: Threads + Wait + Clock + Sync>(
+    rt: &R,
+    alloc: Global,
+    version: Version,
+    sessions: &[Session],
+    refuted: &RefutedPart,
+    means: &JudgeMeans,
+) -> Result<Vec<u8>, AllocError>
+    requires legal { AllByRecursion IsLegal (map view refuted.now.part.items) }
+    requires made { IsMadeOf (map view sessions.now) refuted.now }
+    ensures drawn { IfOk result (λ graph. spec.IsDrawnAt means.now.level means.now.deciding.budget
+        (first_line version) (map view sessions.now) refuted.now graph.items) }
+{
+    let deciding = &means.deciding;
+    match means.level {
+        Level::Serializable => draw_order(rt, alloc, version, sessions, refuted, deciding),
+        Level::Snapshot => draw_points(rt, alloc, version, sessions, refuted, true, deciding),
+        Level::Prefix => draw_points(rt, alloc, version, sessions, refuted, false, deciding),
+        Level::Below(below) => draw_below(alloc, version, sessions, refuted, below),
+    }
+}
+
+/// Why it has none; where it breaks a weaker level too, and that has another name for it, why it
+/// breaks that.
 fn draw_part<R: Threads + Wait + Clock + Sync>(
     rt: &R,
     alloc: Global,
@@ -244,13 +270,13 @@ fn draw_part<R: Threads + Wait + Clock + Sync>(
     ensures drawn { IfOk result (λ graph. spec.IsDrawn means.now (first_line version)
         (map view sessions.now) refuted.now graph.items) }
 {
-    let deciding = &means.deciding;
-    match means.level {
-        Level::Serializable => draw_order(rt, alloc, version, sessions, refuted, deciding),
-        Level::Snapshot => draw_points(rt, alloc, version, sessions, refuted, true, deciding),
-        Level::Prefix => draw_points(rt, alloc, version, sessions, refuted, false, deciding),
-        Level::Below(below) => draw_below(alloc, version, sessions, refuted, below),
+    let own = explain_at(rt, alloc, version, sessions, refuted, means)?;
+    if let Some(weaker) = renamed(alloc, refuted, means.level, &own.known_as)?
+        && let Some(graph) = draw_weaker(alloc, version, sessions, refuted, &weaker)?
+    {
+        return Ok(graph);
     }
+    draw_at(rt, alloc, version, sessions, refuted, means)
 }
 
 /// The same, where a graph is asked for.

@@ -5,7 +5,7 @@
 //!
 //! At serializability it says what `explain` says of a decision about the part. At levels of points it
 //! tells a refutation by points, and below prefix evidence; both are checked before they are told.
-//! Else it says that a search shows it.
+//! Else it says that a search shows it. If a weaker level has another name for it, that is told.
 #![tactic(auto)]
 
 mod apart;
@@ -17,6 +17,8 @@ mod own;
 mod serial;
 mod shown;
 mod snapshots;
+mod timed;
+mod weaker;
 mod whys;
 
 pub use apart::is_serial_apart;

@@ -52,7 +52,7 @@ pub fn evidence_of(
 }
 
 /// A refutation by points that is right, where one is found.
-fn refutation_of(
+pub fn refutation_of(
     alloc: Global,
     refuted: &RefutedPart,
     is_locked: bool,

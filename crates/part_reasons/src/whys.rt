@@ -6,13 +6,14 @@ ghost use Rattle.std.specs.List.{AllByRecursion};
 ghost use Rattle.session_log.specs.Text.{IsLegal, view};
 ghost use Rattle.session_log.specs.Version.{first_line};
 ghost use Rattle.judging.specs.Made.{IsMadeOf};
-ghost use Rattle.part_reasons.specs.Said.{IsSaid};
+ghost use Rattle.part_reasons.specs.Said.{IsSaidAt, IsSaid};
 ghost use Rattle.part_reasons.specs.Why.{IsWhyOf, IsNamedBy};
 ghost use Rattle.part_reasons.specs.Why.{read_name, session_in, update_name, anomaly_name, name_of_anomaly};
 
 use crate::explaining::{Explained, explain_serial, owned, searched};
 use crate::overlooked::explain_below;
 use crate::snapshots::explain_snapshot;
+use crate::weaker::{renamed, tell_weaker};
 use deciding::Means;
 use judging::{Finding, JudgeMeans, Level, RefutedPart};
 use node_names::names_of;
@@ -115,7 +116,34 @@ fn explain_order<R: Threads + Wait + Clock + Sync>(
 }
 
 /// Why a part of these sessions, which are those of a log of this version with their outcomes
-/// known, has no order of the level at which it was judged.
+/// known, has no order of the level at which it was judged, by that level itself.
+pub fn explain_at<R: Threads + Wait + Clock + Sync>(
+    rt: &R,
+    alloc: Global,
+    version: Version,
+    sessions: &[Session],
+    refuted: &RefutedPart,
+    means: &JudgeMeans,
+) -> Result<Explained, AllocError>
+    requires legal { AllByRecursion IsLegal (map view refuted.now.part.items) }
+    requires made { IsMadeOf (map view sessions.now) refuted.now }
+    ensures said { IfOk result (λ told. IsSaidAt means.now.level means.now.deciding.budget
+        (first_line version) (map view sessions.now) refuted.now told.known_as told.text.items) }
+{
+    let deciding = &means.deciding;
+    match means.level {
+        Level::Serializable => explain_order(rt, alloc, version, sessions, refuted, deciding),
+        Level::Snapshot => {
+            explain_snapshot(rt, alloc, version, sessions, refuted, true, deciding)
+        }
+        Level::Prefix => explain_snapshot(rt, alloc, version, sessions, refuted, false, deciding),
+        Level::Below(below) => explain_below(alloc, version, sessions, refuted, below),
+    }
+}
+
+/// Why a part of these sessions, which are those of a log of this version with their outcomes
+/// known, has no order of the level at which it was judged. Where it breaks a weaker level too, and
+/// that has another name for it, this says so: a fault has one name at each level that forbids it.
 pub fn explain_part<R: Threads + Wait + Clock + Sync>(
     rt: &R,
     alloc: Global,
@@ -129,13 +157,11 @@ pub fn explain_part<R: Threads + Wait + Clock + Sync>(
     ensures said { IfOk result (λ told. IsSaid means.now (first_line version)
         (map view sessions.now) refuted.now told.known_as told.text.items) }
 {
-    let deciding = &means.deciding;
-    match means.level {
-        Level::Serializable => explain_order(rt, alloc, version, sessions, refuted, deciding),
-        Level::Snapshot => {
-            explain_snapshot(rt, alloc, version, sessions, refuted, true, deciding)
-        }
-        Level::Prefix => explain_snapshot(rt, alloc, version, sessions, refuted, false, deciding),
-        Level::Below(below) => explain_below(alloc, version, sessions, refuted, below),
+    let own = explain_at(rt, alloc, version, sessions, refuted, means)?;
+    if let Some(weaker) = renamed(alloc, refuted, means.level, &own.known_as)?
+        && let Some(told) = tell_weaker(alloc, version, sessions, refuted, &weaker)?
+    {
+        return Ok(told);
     }
+    Ok(own)
 }

@@ -118,14 +118,19 @@ circle_text table ss edges = short_by table ss edges edges ++ edges_text table s
 
 -- ---- faults
 
+-- ` reads what 1.1 wrote, which did not commit`
+unfoldable pub short_aborted : Table → List ClientSession → TxnAt → List ℕ
+short_aborted table ss at = codes " reads what " ++ (name_text table ss at
+    ++ codes " wrote, which did not commit\n")
+
 -- in a sentence
-abbrev pub short_why : Why → List ℕ
-short_why (why.MissesOwn write) = codes " does not read its own last write\n"
-short_why why.Unwritten = codes " reads what nobody wrote\n"
-short_why (why.Aborted write) = codes " reads what a transaction wrote that did not commit\n"
-short_why (why.Overwritten write later) =
+abbrev pub short_why : Table → List ClientSession → Why → List ℕ
+short_why table ss (why.MissesOwn write) = codes " does not read its own last write\n"
+short_why table ss why.Unwritten = codes " reads what nobody wrote\n"
+short_why table ss (why.Aborted write) = short_aborted table ss write.txn
+short_why table ss (why.Overwritten write later) =
     codes " reads a version that its writer overwrote before committing\n"
-short_why (why.OwnLater write) = codes " reads what it writes itself only later\n"
+short_why table ss (why.OwnLater write) = codes " reads what it writes itself only later\n"
 
 -- `, and 2.1 was aborted (line 5)`
 unfoldable pub outcome_text : Table → List ClientSession → TxnAt → Outcome → List ℕ
@@ -159,7 +164,7 @@ short_fault table ss read words = codes "in short: " ++ (name_text table ss read
     ++ does_text table ss (codes " reads ") read))
 
 abbrev pub fault_text : Table → List ClientSession → Fault → List ℕ
-fault_text table ss fault = short_fault table ss fault.read (short_why fault.why)
+fault_text table ss fault = short_fault table ss fault.read (short_why table ss fault.why)
     ++ why_text table ss fault.read fault.why ++ codes "\n"
 
 -- ---- the whole

@@ -13,17 +13,22 @@ use level_refutations::{Fault, OpAt, TxnAt, Why};
 use session_log::Outcome;
 use std::alloc::AllocError;
 
-/// What is wrong with a read, in short.
-fn short_why(why: Why) -> &'static [u8]
-    ensures { result.now ≡ spec.short_why why }
+/// Appends what is wrong with a read, in short.
+#[tactic(auto, unfolding(crate::specs::Evidence::short_aborted))]
+fn put_short_why(out: &mut Vec<u8>, log: &Log<'_>, why: Why) -> Result<(), AllocError>
+    ensures put { OnOk result (out.new.items ≡ out.old.items
+        ++ spec.short_why (rows_of log.now.places.now) (map view log.now.sessions.now) why) }
 {
     match why {
-        Why::MissesOwn { .. } => b" does not read its own last write\n",
-        Why::Unwritten => b" reads what nobody wrote\n",
-        Why::Aborted { .. } => b" reads what a transaction wrote that did not commit\n",
-        Why::Overwritten { .. } =>
+        Why::MissesOwn { .. } => put(out, b" does not read its own last write\n"),
+        Why::Unwritten => put(out, b" reads what nobody wrote\n"),
+        Why::Aborted { write } => tell!(out, log;
+            Text(b" reads what "), Name(write.txn), Text(b" wrote, which did not commit\n")),
+        Why::Overwritten { .. } => put(
+            out,
             b" reads a version that its writer overwrote before committing\n",
-        Why::OwnLater { .. } => b" reads what it writes itself only later\n",
+        ),
+        Why::OwnLater { .. } => put(out, b" reads what it writes itself only later\n"),
     }
 }
 
@@ -88,8 +93,9 @@ pub fn put_fault(out: &mut Vec<u8>, log: &Log<'_>, fault: &Fault) -> Result<(), 
         ++ spec.fault_text (rows_of log.now.places.now) (map view log.now.sessions.now) fault.now) }
 {
     let Fault { read, why } = *fault;
-    tell!(out, log;
-        Text(b"in short: "), Name(read.txn), Text(short_why(why)), Does(b" reads ", read))?;
+    tell!(out, log; Text(b"in short: "), Name(read.txn))?;
+    put_short_why(out, log, why)?;
+    tell!(out, log; Does(b" reads ", read))?;
     put_why(out, log, read, why)?;
     put(out, b"\n")
 }

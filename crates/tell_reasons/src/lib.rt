@@ -19,6 +19,6 @@ mod writes;
 pub use anomalies::put_anomaly;
 pub use crossed::put_crossing;
 pub use edge::put_edge;
-pub use versions::{left_at, put_since, put_versions};
+pub use versions::{left_at, put_since, put_versions, read_at};
 pub use why::{ChainOrder, Why};
 pub use words::{Said, Word, put_words};

@@ -3,13 +3,14 @@
 -- labelled and coloured by its kind.
 use Rattle.std.specs.Prelude.{ℕ, zero, suc, ◌==◌, ◌&&◌, ◌||◌, Bool, false, if◌then◌else◌, List, [], ◌∷◌, ◌++◌, length, codes, decimal, Option, None, Some}
 use Rattle.std.specs.List.{filter, flat_map, list_any}
-use Rattle.std.specs.Option.{option_map_or}
+use Rattle.std.specs.Option.{option_map_or, option_or}
+use Rattle.session_log.specs.Text.{ClientSession}
 use Rattle.log_definitions.specs.Numbers.{log_of}
 use Rattle.log_lines.specs.declared.placed.PlacedHistory.{PlacedHistory}
 use Rattle.reasons.specs.declared.reason.Reason.{Reason}
 use Rattle.reasons.specs.declared.reason.Reason.TheVariants as reason
 use Rattle.tell_reasons.specs.Reasons.{named, listed_text, op_in_line, op_at}
-use Rattle.tell_reasons.specs.Versions.{versions_text}
+use Rattle.tell_reasons.specs.Versions.{versions_text, left_at, read_at}
 use Rattle.tell_reasons.specs.declared.why.Why.{Why}
 use Rattle.tell_reasons.specs.declared.why.Why.TheVariants as why
 use Rattle.tell_steps.specs.declared.item.Item.{Item}
@@ -18,17 +19,32 @@ use Rattle.tell_texts.specs.declared.boxes.Look.{Look}
 use Rattle.tell_texts.specs.declared.boxes.Look.TheVariants as look
 
 -- the operations that a reason names, of the first node and of the second
-abbrev pub reason_ops : Reason → Option (ℕ × ℕ)
-reason_ops (reason.Read written read) = Some (written, read)
-reason_ops (reason.Overwritten read overwrites) = Some (read, overwrites)
-reason_ops (reason.Initial read begins) = Some (read, begins)
-reason_ops _ = None
+abbrev pub reason_ops : Reason → Option ℕ × Option ℕ
+reason_ops (reason.Read written read) = (Some written, Some read)
+reason_ops (reason.Overwritten read overwrites) = (Some read, Some overwrites)
+reason_ops (reason.Initial read begins) = (Some read, Some begins)
+reason_ops _ = (None, None)
+
+-- the operation by which a node has a version of the key: its last write of it, or else its first
+-- read
+abbrev pub held_at : List ClientSession → ℕ → ℕ → Option ℕ
+held_at ss x v = option_or (left_at ss x v) (read_at ss x v)
+
+-- the operations that it names why one node stands before another: where that is by an order of two
+-- versions, what the first one has of the key, and what the second one leaves
+abbrev pub why_ops : List ClientSession → ℕ → ℕ → Why → Option ℕ × Option ℕ
+why_ops ss a b (why.Known r) = reason_ops r
+why_ops ss a b (why.Forced number o) = (held_at ss o.key a, left_at ss o.key b)
+why_ops ss a b (why.Chosen o) = (held_at ss o.key a, left_at ss o.key b)
+
+-- whether these are operation i of node v
+abbrev pub is_op : ℕ → ℕ → ℕ → Option ℕ → Bool
+is_op v i a o = (a == v) && option_map_or (λ k. k == i) o false
 
 -- whether an item names operation i of node v
-abbrev pub names : ℕ → ℕ → Item → Bool
-names v i (Edge a b (why.Known r)) = option_map_or
-    (λ o. ((a == v) && (o.0 == i)) || ((b == v) && (o.1 == i))) (reason_ops r) false
-names v i _ = false
+abbrev pub names : List ClientSession → ℕ → ℕ → Item → Bool
+names ss v i (Edge a b w) = is_op v i a (why_ops ss a b w).0 || is_op v i b (why_ops ss a b w).1
+names ss v i _ = false
 
 -- whether an item is an edge of the node
 abbrev pub is_edge_of : ℕ → Item → Bool
@@ -43,7 +59,7 @@ before_op look.Line = codes "  "
 
 -- an operation and its line, where one of these items names it
 abbrev pub op_label : Look → PlacedHistory → List Item → ℕ → ℕ → List ℕ
-op_label look log items v i = if list_any (names v i) items
+op_label look log items v i = if list_any (names log.history.now v i) items
     then before_op look ++ listed_text (op_at log.history.now v i) ++ op_in_line log v i else []
 
 -- the first so many operations of the node, those that these items name

@@ -10,8 +10,9 @@ use log_lines::PlacedHistory as Log;
 use reasons::Reason;
 use serializability::NodeIx;
 use serializability::numbers::node as node_of;
+use session_history::History;
 use std::alloc::{AllocError, Global};
-use tell_reasons::{Said, Why, say};
+use tell_reasons::{Said, Why, left_at, read_at, say};
 use tell_steps::Item;
 
 /// How a transaction is shown.
@@ -47,41 +48,68 @@ fn edges_of(alloc: Global, items: &[Item], node: NodeIx) -> Result<Vec<Item>, Al
 }
 
 /// The operations that a reason names, of the first node and of the second.
-fn reason_ops(reason: Reason) -> Option<(usize, usize)>
+fn reason_ops(reason: Reason) -> (Option<usize>, Option<usize>)
     ensures { result ≡ spec.reason_ops reason }
 {
     match reason {
-        Reason::Read { written, read } => Some((written, read)),
-        Reason::Overwritten { read, overwrites } => Some((read, overwrites)),
-        Reason::Initial { read, begins } => Some((read, begins)),
-        Reason::Session | Reason::Moments => None,
+        Reason::Read { written, read } => (Some(written), Some(read)),
+        Reason::Overwritten { read, overwrites } => (Some(read), Some(overwrites)),
+        Reason::Initial { read, begins } => (Some(read), Some(begins)),
+        Reason::Session | Reason::Moments => (None, None),
     }
 }
 
+/// The operation by which a node has a version of a key: its last write of it, or else its first
+/// read.
+fn held_at(history: &History, key: usize, node: NodeIx) -> Option<usize>
+    ensures { result ≡ spec.held_at history.now key node }
+{
+    left_at(history, key, node).or(read_at(history, key, node))
+}
+
+/// The operations that it names why one node stands before another, of the first and of the second.
+fn why_ops(
+    history: &History,
+    first: NodeIx,
+    second: NodeIx,
+    why: Why,
+) -> (Option<usize>, Option<usize>)
+    ensures { result ≡ spec.why_ops history.now first second why }
+{
+    match why {
+        Why::Known(reason) => reason_ops(reason),
+        Why::Forced { order, .. } | Why::Chosen(order) => (
+            held_at(history, order.key, first),
+            left_at(history, order.key, second),
+        ),
+    }
+}
+
+/// Whether this operation of this node is an operation of a node.
+fn is_op(node: NodeIx, op: usize, of: NodeIx, named: Option<usize>) -> bool
+    ensures { result ≡ spec.is_op node op of named }
+{
+    of.get() == node.get() && named.is_some_and(|it| it == op)
+}
+
 /// Whether an item names an operation of a node.
-fn names(item: Item, node: NodeIx, op: usize) -> bool
-    ensures { result ≡ spec.names node op item }
+fn names(history: &History, item: Item, node: NodeIx, op: usize) -> bool
+    ensures { result ≡ spec.names history.now node op item }
 {
     match item {
-        Item::Edge { first, second, why } => match why {
-            Why::Known(reason) => match reason_ops(reason) {
-                Some((one, other)) => {
-                    (first.get() == node.get() && one == op)
-                        || (second.get() == node.get() && other == op)
-                }
-                None => false,
-            },
-            _ => false,
-        },
+        Item::Edge { first, second, why } => {
+            let (one, other) = why_ops(history, first, second, why);
+            is_op(node, op, first, one) || is_op(node, op, second, other)
+        }
         _ => false,
     }
 }
 
 /// Whether one of these items names an operation of a node.
-fn one_names(items: &[Item], node: NodeIx, op: usize) -> bool
-    ensures { result ≡ list_any (spec.names node op) items.now }
+fn one_names(history: &History, items: &[Item], node: NodeIx, op: usize) -> bool
+    ensures { result ≡ list_any (spec.names history.now node op) items.now }
 {
-    items.iter().any(|item| names(*item, node, op))
+    items.iter().any(|item| names(history, *item, node, op))
 }
 
 /// What stands before an operation.
@@ -106,7 +134,7 @@ fn put_op_label(
     ensures text { OnOk result (out.new.items
         ≡ out.old.items ++ spec.op_label look log.now items.now node op) }
 {
-    if one_names(items, node, op) {
+    if one_names(log.history, items, node, op) {
         say!(out, log; Text(before_op(look)), Listed(node, op), AtLine(node, op))
     } else {
         Ok(())
