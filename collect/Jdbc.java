@@ -65,8 +65,8 @@ public final class Jdbc implements AutoCloseable {
     private final Connecting connecting;
     private Connection connection, watched;
     private boolean failed, gone;
-    /** What a driver threw last that is no SQLException. */
-    private Throwable strange;
+    /** What a driver threw last, and by what the last transaction did not commit. */
+    private Throwable strange, ending;
 
     public Jdbc(Recorder run, Connecting connecting) {
         session = run.session();
@@ -90,6 +90,11 @@ public final class Jdbc implements AutoCloseable {
                 || fault instanceof SQLTransientException || fault instanceof SQLRecoverableException;
     }
 
+    /** The exception by which the last transaction of this client did not commit, also where it did not go on; null where there was none. */
+    public Throwable fault() {
+        return ending;
+    }
+
     /** Makes a transaction and gives its outcome. An exception that is not to be expected goes on; the log has the transaction then too. */
     public String transaction(Body body) throws SQLException {
         return transaction(null, body);
@@ -98,16 +103,19 @@ public final class Jdbc implements AutoCloseable {
     /** The same; the label says on a line what it is for, beside the log in a file of its own. */
     public String transaction(String label, Body body) throws SQLException {
         failed = false;
+        ending = null;
         Recorder.Transaction txn = session.begin(label);
         try {
             if (connection == null)
                 connect();
             body.run(watched, txn);
+            ending = failed ? strange : null;
             // a driver may say nothing of a commit on a connection that is gone
             if (txn.outcome() == null && (failed || connection.isClosed()))
                 txn.abort();
         } catch (Throwable fault) {
             // no commit was sent
+            ending = fault;
             boolean isToBeExpected = isToBeExpected(fault);
             if (connection != null)
                 rollBack();
@@ -142,6 +150,7 @@ public final class Jdbc implements AutoCloseable {
         try {
             connection.commit();
         } catch (Throwable fault) {
+            ending = fault;
             if (fault instanceof SQLException && isRolledBack((SQLException) fault)) {
                 txn.abort();
                 gone |= saysGone(fault);

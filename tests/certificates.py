@@ -21,6 +21,9 @@ WEAKER = {'strict snapshot isolation': 'strict_snapshot', 'snapshot isolation': 
           'causal consistency': 'causal', 'read atomic': 'read_atomic', 'monotonic atomic view': 'monotonic_atomic_view',
           'read committed': 'read_committed'}
 SNAPSHOT, LADDER = 'snapshot isolation', list(WEAKER)[2:]
+# The words of `--level`.
+WORDS = {'snapshot isolation': 'snapshot', 'prefix consistency': 'prefix', 'causal consistency': 'causal', 'read atomic': 'read-atomic',
+         'monotonic atomic view': 'monotonic-atomic-view', 'read committed': 'read-committed'}
 STATUS = {'serializable': 0, 'not serializable': 1, 'unknown': 3, 'refused': 2}
 HEADING = re.compile(r'shown by (\d+) transactions?: (.+)')
 TRANSACTION = re.compile(r'(\d+)\.(\d+) \(lines (\d+) to (\d+)\)')
@@ -109,6 +112,9 @@ OPEN_BLAME = 'a store that promises less may have done nothing wrong: name its l
 WITHOUT, WHY_NOT = 'without real time: ', 'why %s was not kept:'
 # What stands above what is told of a part: what its level asks for.
 RULE = re.compile('([a-z ]+) asks (?:for|that) .+')
+# What stands above what a weaker level tells, which has another name for it; and the other name of an A7.
+TOO = re.compile('they break (%s) too:' % '|'.join(WORDS))
+OWN_WRITE = 'a session misses its own write (G-single-process)'
 
 
 class Part:
@@ -137,7 +143,9 @@ class Part:
         self.why = self.why[1:] if self.is_serial_apart else self.why
         told = [line[len('known as: '):] for line in why if line.startswith('known as: ')]
         must(not told or self.known_as in told, 'known as %r, and told as %r' % (self.known_as, told))
-        must(self.code not in NAMES or self.known_as in (None, NAMES[self.code]), 'A %s known as %r' % (self.code, self.known_as))
+        self.is_renamed = bool(self.why and TOO.fullmatch(self.why[0]))
+        right = {None, NAMES.get(self.code), OWN_WRITE if self.code == 'A7' else None}
+        must(self.is_renamed or self.code not in NAMES or self.known_as in right, 'A %s known as %r' % (self.code, self.known_as))
 
 
 def rule_above(lines, level):
@@ -357,9 +365,21 @@ def check_code(program, said, part):
     return checked[1]
 
 
+def check_too(law, why):
+    """That a part which is told by a weaker level breaks that level too, by brute force where it is small, and that something is told."""
+    import level_model
+    level, plain = TOO.fullmatch(why[0])[1], [(number, [it for _, it in its]) for number, its in law]
+    must(why[1:], 'nothing is told behind %r' % why)
+    small = sum(len(its) for _, its in plain) <= TRIED // 2
+    must(not small or not level_model.kept(plain, WORDS[level]), 'they keep %s' % level)
+    return {'told by a weaker level': 1}
+
+
 def check_explained(said, numbers, law, checked, why):
     """That the lines behind a part explain it, in the names and lines of the whole log; gives what is met there."""
     log, names = explained.Log(said), whole_names(law)
+    if TOO.fullmatch(why[0]):
+        return check_too(law, why)
     for it in log.transactions:
         it.name = names[it.name]
         it.place, it.begin, it.end = int(it.name.split('.')[1]), numbers[it.begin - 1], numbers[it.end - 1]

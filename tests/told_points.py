@@ -12,7 +12,7 @@ import argparse, collections, concurrent.futures, itertools, json, os, random, r
 HERE = os.path.dirname(os.path.abspath(__file__))
 sys.path.insert(0, HERE)
 import generate, level_model, reference
-from certificates import RULE, Part, call, must
+from certificates import RULE, TOO, WORDS, Part, call, must
 
 CASES, SEED, SHOWN = 600, 1, 20
 LANES = min(4, os.cpu_count())
@@ -325,6 +325,10 @@ def told(program, text, level):
     again = call(program, 'explain', '--level', level, text=text)[1]
     must('\n'.join(['', *lines[1:3 + len(why)], '']) in again or not log.nodes, '`explain --level` says something else: %r' % again)
     try:
+        if found := TOO.fullmatch(why[0]):
+            if WORDS[found[1]] != 'prefix':
+                return {'a weaker level'}
+            why, level = why[1:], 'prefix'
         if why[0] == BY_SEARCH:
             must(why[1:2] == ['why they have no serial order either:'] and not any('(G2-' in line for line in why), 'told: %r' % why)
             return {'by a search'}

@@ -34,6 +34,11 @@ public final class Answers {
         try (Jdbc client = new Jdbc(run, connecting)) {
             try {
                 outcome = client.transaction(body);
+                Throwable its = client.fault();
+                if (its != fault && (its == null || its.getCause() != fault) && !outcome.equals("commit") && !name.equals("closed") && !name.equals("rollback"))
+                    outcome += " by " + its;
+                if (outcome.equals("commit") && its != null)
+                    outcome += " though " + its;
             } catch (SQLException | RuntimeException | Error thrown) {
                 outcome = "thrown " + (thrown == fault ? "as it was" : thrown.getClass().getSimpleName());
             }
