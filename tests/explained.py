@@ -515,11 +515,12 @@ class Telling:
         return 'missed write' if self.log.named[name].reads(key) else 'order of writes'
 
     def no_way_around(self, where, edges):
-        """Of what these edges lead over, only neighbours are an edge that the log shows."""
-        names = [edges[0][0]] + [b for _, b, _ in edges]
+        """Of what these edges lead over, only neighbours are an edge that the log shows, but for edges of moments where none is told."""
+        names, passed = [edges[0][0]] + [b for _, b, _ in edges], {None}
+        passed |= {'moments'} - {self.log.reason(a, b)[0] for a, b in zip(names, names[1:])}
         for place, a in enumerate(names):
             for b in names[place + 2:]:
-                told(not self.log.reason(a, b)[0], '%s: a way around %s before %s' % (where, a, b))
+                told(self.log.reason(a, b)[0] in passed, '%s: a way around %s before %s' % (where, a, b))
 
     def two_chains(self, where, key, *both):
         told(both[0] != both[1], '%s has one chain' % where)

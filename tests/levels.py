@@ -6,8 +6,8 @@ Each log of examples/ and some hundred made ones are asked for each level: first
 not kept, the file of `--order`, which must be an order of that level, and that of `--part`, which must be of the log and have none, as the
 part must below `why LEVEL was not kept:`. With --cases N so many more made logs are asked once, without a level: what is told of the levels
 must be so. Larger logs, which brute force does not take, must keep each level that is implied by one that they keep. The table of
-examples/README.md must have what is so. A fault of an example, or of a small log that is written out here, has one name at all levels; of
-the same transactions of a made log two levels tell two names only if these are two faults. Last line: 'levels: N passed, M failed'."""
+examples/README.md must have what is so. A fault of an example, or of a small log that is written out here, has one name at all levels; so
+have the same transactions of a made log. Last line: 'levels: N passed, M failed'."""
 import argparse, collections, concurrent.futures, json, os, re, sys, tempfile
 
 HERE = os.path.dirname(os.path.abspath(__file__))
@@ -31,7 +31,8 @@ TABLE = os.path.join(generate.EXAMPLES, 'README.md')
 # Small logs of which each level that is not kept has one fault: a read skew of which the two versions stand in the order of a session; an
 # update, and a write of another transaction that it missed, of which a third one sees too little; two versions of which neither can be the
 # first; a step by a read or by a session; circles of reads within a session; a long fork over an update; updates that miss a write of their
-# session, of one transaction that they see, and of one that ended before.
+# session, of one transaction that they see, and of one that ended before; lost updates within a session, beside a read skew, and beside one
+# of a session; a write skew of two that write one key too, and a circle that takes an order of two writers or two missed writes.
 ONE_FAULT = [
     'session 1,begin,w k 1,commit,begin,w k 2,w j 3,commit,session 2,begin,r j 3,r k 1,commit',
     'session 1,begin,w x 1,commit,begin,r x 2,w x 3,commit,session 2,begin,r x 0,w x 2,commit',
@@ -44,10 +45,15 @@ ONE_FAULT = [
     'session 1,begin,w k 1,commit,session 2,begin,w j 7,commit,begin,r j 7,r k 1,commit,session 4,begin,r j 0,w j 5,commit,begin,r j 5,r k 8,commit,session 5,begin,r k 1,w k 8,commit',
     'session 1,begin,w x 1,commit,begin,w x 2,commit,begin,r x 1,w x 3,commit',
     'session 1,begin,w x 1,commit,begin,w x 2,w y 4,commit,session 2,begin,r x 1,w x 3,r y 4,commit',
-    'log 3,session 1,begin 1,w x 1,commit 2,session 2,begin 3,w x 2,commit 4,session 3,begin 5,r x 1,w x 3,commit 6']
-# What a stronger level may find in transactions of which a weaker one tells something else: what weaker levels allow; a read or writes that
-# break each level by themselves; and of moments, or of a session, what one of the levels does not have.
-OTHER_FAULTS = re.compile(r'lost update|.*\(G2-|.*\(internal|.*\(G1|.*\(G0|.*real ?time')
+    'log 3,session 1,begin 1,w x 1,commit 2,session 2,begin 3,w x 2,commit 4,session 3,begin 5,r x 1,w x 3,commit 6',
+    'session 1,begin,r x 0,w x 1,commit,begin,r x 0,w x 2,commit',
+    'session 1,begin,r k 0,w k 6,w j 5,commit,session 2,begin,r k 0,w k 8,r j 5,w j 12,commit',
+    'session 3,begin,r k 0,w k 12,w j 20,commit,begin,r j 20,w j 26,r k 0,w k 27,commit',
+    'session 1,begin,r x 0,r y 0,w x 1,commit,session 2,begin,r x 0,w y 2,w x 3,commit',
+    'session 1,begin,r x 0,w y 1,w z 2,commit,session 2,begin,r y 0,w x 3,w z 4,commit',
+    'session 1,begin,w k 7,commit,begin,r j 5,commit,session 2,begin,r k 0,w k 3,commit,begin,w j 5,commit,begin,r j 5,w j 6,r k 3,w k 8,commit']
+# Moments alone may show it at one level, where another one needs none.
+REAL_TIME = re.compile('real ?time')
 SHOWN_BY = re.compile(r'^shown by \d+ transactions?: (?!(?:{0})\n)(.+?)(?:, (?:A\d|{0}))?\n(transactions .+)$'.format('|'.join(map(re.escape, certificates.SHORT.values()))), re.M)
 ROW = re.compile(r'\| `(\w+\.log)` \| [^|]+ \|((?: (?:yes|no|-) \|){%d})\n' % len(LEVELS))
 
@@ -78,13 +84,6 @@ def is_order(sessions, level, said):
     return holds and snapshots.is_order(nodes, [(kind, number[name]) for name, kind in points], locked=level != 'prefix')
 
 
-def may_differ(name, weaker):
-    """Whether these may be names of two faults of the same transactions, of which a stronger level tells the first. Of a session's order one
-    level may take a step that another one does not need."""
-    words = [re.sub(' by way of sessions| and sessions|-process', '', it) for it in (name, weaker)]
-    return words[0] == words[1] or any(OTHER_FAULTS.match(it) for it in (name, weaker))
-
-
 class Log:
     """A log, and what is said of it at each level."""
 
@@ -102,8 +101,8 @@ class Log:
             self.judged_at(level)
         self.judged_below()
         for names in self.names.values():
-            wrong = [name for name in names if name != names[0] and not may_differ(names[0], name)]
-            must(not wrong, 'of the same transactions levels tell %r' % names)
+            timeless = {name for name in names if not REAL_TIME.search(name)}
+            must(len(timeless) <= 1, 'of the same transactions levels tell %r' % names)
 
     def asked(self, level):
         """The weaker levels of which something is said behind one that is not kept."""
