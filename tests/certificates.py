@@ -369,7 +369,7 @@ def check_too(law, why):
     """That a part which is told by a weaker level breaks that level too, by brute force where it is small, and that something is told."""
     import level_model
     level, plain = TOO.fullmatch(why[0])[1], [(number, [it for _, it in its]) for number, its in law]
-    must(why[1:], 'nothing is told behind %r' % why)
+    must(RULE.fullmatch(why[1])[1] == level and why[2:], 'nothing is told behind %r' % why)
     small = sum(len(its) for _, its in plain) <= TRIED // 2
     must(not small or not level_model.kept(plain, WORDS[level]), 'they keep %s' % level)
     return {'told by a weaker level': 1}

@@ -328,7 +328,7 @@ def told(program, text, level):
         if found := TOO.fullmatch(why[0]):
             if WORDS[found[1]] != 'prefix':
                 return {'a weaker level'}
-            why, level = why[1:], 'prefix'
+            why, level = why[2:], 'prefix'
         if why[0] == BY_SEARCH:
             must(why[1:2] == ['why they have no serial order either:'] and not any('(G2-' in line for line in why), 'told: %r' % why)
             return {'by a search'}

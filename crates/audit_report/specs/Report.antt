@@ -3,12 +3,12 @@ use Rattle.std.specs.Prelude.{ℕ, ◌==◌, nat_lt, Bool, true, false, ◌&&◌
 use Rattle.std.specs.List.{flat_map, list_any}
 use Rattle.std.specs.String.{string_bytes}
 use Rattle.std.specs.declared.alloc.Global.{Global}
-use Rattle.isolation.specs.Levels.{level_title}
+use Rattle.isolation.specs.Levels.{level_title, level_asks}
 use Rattle.audit_report.specs.Words.{code_number, finding_title, hint_text, word_text, word_of, verdict_text, kept_text, is_kept}
 use Rattle.judging.specs.declared.judged.Finding.{Finding}
 use Rattle.judging.specs.declared.judged.Finding.TheVariants as finding
 use Rattle.isolation.specs.declared.level.Isolation.{Isolation}
-use Rattle.isolation.specs.declared.level.Isolation.TheVariants.{StrictSnapshot, Snapshot, Prefix, StrictSerializable, Serializable, Causal, ReadAtomic, MonotonicAtomicView, ReadCommitted}
+use Rattle.isolation.specs.declared.level.Isolation.TheVariants.{StrictSnapshot, Snapshot, Prefix, Serializable, Causal, ReadAtomic, MonotonicAtomicView, ReadCommitted}
 use Rattle.audit_report.specs.Lower.{weakest_of}
 use Rattle.audit_report.specs.declared.told.Lower.{Lower}
 use Rattle.audit_report.specs.declared.told.ToldTxn.{ToldTxn}
@@ -115,18 +115,7 @@ why_text p = sessions_line p.is_serial_apart ++ p.why.items ++ hint_text p.refut
 unfoldable pub part_text : ToldPart → List ℕ
 part_text p = heading_of p ++ listed p.txns.items ++ why_text p
 
--- what a level asks for, in a sentence; where none is named, that is serializability in the order of stated moments
-abbrev pub level_asks : Isolation → List ℕ
-level_asks StrictSerializable = codes "strict serializability asks for an order in which each transaction reads what was written last before it; sessions and stated moments keep their order\n"
-level_asks Serializable = codes "serializability asks for an order in which each transaction reads what was written last before it; each session keeps its order\n"
-level_asks StrictSnapshot = codes "strict snapshot isolation asks that each transaction reads one state between commits, and that of two writers of a key one commits before the other's snapshot; sessions and stated moments keep their order\n"
-level_asks Snapshot = codes "snapshot isolation asks that each transaction reads one state between commits, and that of two writers of a key one commits before the other's snapshot; each session keeps its order\n"
-level_asks Prefix = codes "prefix consistency asks that each transaction reads one state between commits; each session keeps its order\n"
-level_asks Causal = codes "causal consistency asks that reads are of committed transactions, and that who sees one sees all that came before it by sessions and reads, or later versions; the order of reads in a transaction does not count\n"
-level_asks ReadAtomic = codes "read atomic asks that reads are of committed transactions, and that who sees one, or follows it in a session, sees all that it wrote or later versions; the order of reads in a transaction does not count\n"
-level_asks MonotonicAtomicView = codes "monotonic atomic view asks that reads are of committed transactions, and that from the read on by which a transaction sees one it sees all that this one wrote or later versions\n"
-level_asks ReadCommitted = codes "read committed asks that each read sees its own transaction's last write, or the last one of a committed transaction; none comes before itself by sessions and reads\n"
-
+-- what a level asks for; where none is named, that is serializability in the order of stated moments
 unfoldable pub rule_text : Option Isolation → List ℕ
 rule_text None = codes "serializability asks for an order in which each transaction reads what was written last before it; sessions and stated moments keep their order\n"
 rule_text (Some level) = level_asks level

@@ -9,7 +9,7 @@ ghost use Rattle.audit_report.specs.Report.{without_line, time_text, sessions_li
 ghost use Rattle.audit_report.specs.Report.{parts_text, first_size, report_text, too_few, heading_of};
 ghost use Rattle.audit_report.specs.Report.{listed, codes_where, behind_first, level_text, reason_line};
 ghost use Rattle.audit_report.specs.Report.{level_row, weaker_text, short_title, behind_name};
-ghost use Rattle.audit_report.specs.Report.{found_text, level_asks, rule_text, rule_above, first_rule};
+ghost use Rattle.audit_report.specs.Report.{found_text, rule_text, rule_above, first_rule};
 ghost use Rattle.audit_report.specs.Report.{kept_line, shown_by, snapshot_row, broken_text, last_part};
 ghost use Rattle.audit_report.specs.Report.{lower_text, title_of, why_lowest, lowest_part};
 ghost use Rattle.audit_report.specs.Report.{weaker_words, is_some_kept, is_open, is_order_refuted, is_some_open};
@@ -223,32 +223,6 @@ fn put_part(out: &mut Vec<u8>, part: &ToldPart) -> Result<(), AllocError>
     put_why(out, part)
 }
 
-/// What a level asks for, in a sentence.
-fn level_asks(level: Isolation) -> &'static str
-    ensures asks { result.now ≡ level_asks level }
-{
-    match level {
-        Isolation::StrictSerializable =>
-            "strict serializability asks for an order in which each transaction reads what was written last before it; sessions and stated moments keep their order\n",
-        Isolation::Serializable =>
-            "serializability asks for an order in which each transaction reads what was written last before it; each session keeps its order\n",
-        Isolation::StrictSnapshot =>
-            "strict snapshot isolation asks that each transaction reads one state between commits, and that of two writers of a key one commits before the other's snapshot; sessions and stated moments keep their order\n",
-        Isolation::Snapshot =>
-            "snapshot isolation asks that each transaction reads one state between commits, and that of two writers of a key one commits before the other's snapshot; each session keeps its order\n",
-        Isolation::Prefix =>
-            "prefix consistency asks that each transaction reads one state between commits; each session keeps its order\n",
-        Isolation::Causal =>
-            "causal consistency asks that reads are of committed transactions, and that who sees one sees all that came before it by sessions and reads, or later versions; the order of reads in a transaction does not count\n",
-        Isolation::ReadAtomic =>
-            "read atomic asks that reads are of committed transactions, and that who sees one, or follows it in a session, sees all that it wrote or later versions; the order of reads in a transaction does not count\n",
-        Isolation::MonotonicAtomicView =>
-            "monotonic atomic view asks that reads are of committed transactions, and that from the read on by which a transaction sees one it sees all that this one wrote or later versions\n",
-        Isolation::ReadCommitted =>
-            "read committed asks that each read sees its own transaction's last write, or the last one of a committed transaction; none comes before itself by sessions and reads\n",
-    }
-}
-
 /// The same of the level that is asked for by name; where none is, that is serializability in the
 /// order of stated moments.
 #[tactic(auto, unfolding(crate::specs::Report::rule_text))]
@@ -258,7 +232,7 @@ fn rule_text(level: Option<Isolation>) -> &'static str
     match level {
         None =>
             "serializability asks for an order in which each transaction reads what was written last before it; sessions and stated moments keep their order\n",
-        Some(level) => level_asks(level),
+        Some(level) => level.asks(),
     }
 }
 

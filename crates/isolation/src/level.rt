@@ -1,7 +1,7 @@
 //! The levels, and what their names mean.
 
 ghost use Rattle.std.specs.Prelude.{◌≡◌};
-ghost use Rattle.isolation.specs.Levels.{is_strict, level_title};
+ghost use Rattle.isolation.specs.Levels.{is_strict, level_title, level_asks};
 
 /// A level of isolation that a store may promise. Each keeps the order of sessions.
 #[derive(Clone, Copy, Debug, PartialEq, Eq)]
@@ -51,6 +51,32 @@ impl Isolation {
             Isolation::ReadAtomic => "read atomic",
             Isolation::MonotonicAtomicView => "monotonic atomic view",
             Isolation::ReadCommitted => "read committed",
+        }
+    }
+
+    /// What it asks for, in a sentence.
+    pub fn asks(self) -> &'static str
+        ensures asks { result.now ≡ level_asks self }
+    {
+        match self {
+            Isolation::StrictSerializable =>
+                "strict serializability asks for an order in which each transaction reads what was written last before it; sessions and stated moments keep their order\n",
+            Isolation::Serializable =>
+                "serializability asks for an order in which each transaction reads what was written last before it; each session keeps its order\n",
+            Isolation::StrictSnapshot =>
+                "strict snapshot isolation asks that each transaction reads one state between commits, and that of two writers of a key one commits before the other's snapshot; sessions and stated moments keep their order\n",
+            Isolation::Snapshot =>
+                "snapshot isolation asks that each transaction reads one state between commits, and that of two writers of a key one commits before the other's snapshot; each session keeps its order\n",
+            Isolation::Prefix =>
+                "prefix consistency asks that each transaction reads one state between commits; each session keeps its order\n",
+            Isolation::Causal =>
+                "causal consistency asks that reads are of committed transactions, and that who sees one sees all that came before it by sessions and reads, or later versions; the order of reads in a transaction does not count\n",
+            Isolation::ReadAtomic =>
+                "read atomic asks that reads are of committed transactions, and that who sees one, or follows it in a session, sees all that it wrote or later versions; the order of reads in a transaction does not count\n",
+            Isolation::MonotonicAtomicView =>
+                "monotonic atomic view asks that reads are of committed transactions, and that from the read on by which a transaction sees one it sees all that this one wrote or later versions\n",
+            Isolation::ReadCommitted =>
+                "read committed asks that each read sees its own transaction's last write, or the last one of a committed transaction; none comes before itself by sessions and reads\n",
         }
     }
 }

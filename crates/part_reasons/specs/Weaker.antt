@@ -5,7 +5,7 @@ use Rattle.std.specs.String.{string_bytes}
 use Rattle.std.specs.declared.alloc.Global.{Global}
 use Rattle.session_log.specs.Text.{ClientSession, view}
 use Rattle.log_lines.specs.Rows.{Table}
-use Rattle.isolation.specs.Levels.{level_title}
+use Rattle.isolation.specs.Levels.{level_title, level_asks}
 use Rattle.isolation.specs.declared.level.Isolation.{Isolation}
 use Rattle.isolation.specs.declared.level.Isolation.TheVariants as isolation
 use Rattle.level_laws.specs.declared.level.Level.{Level as BelowLevel}
@@ -85,9 +85,10 @@ abbrev pub graph_against : Table → List ClientSession → Against → List ℕ
 graph_against table ss (Points l r) = refutation_graph table ss r
 graph_against table ss (Evidence below e) = evidence_graph table ss e
 
--- `they break read atomic too:`
+-- `they break read atomic too:`, and what that level asks for
 abbrev pub too_line : Level → List ℕ
 too_line l = codes "they break " ++ level_title (isolation_of l) ++ codes " too:\n"
+    ++ level_asks (isolation_of l)
 
 abbrev pub text_of_weaker : ℕ → List ClientSession → RefutedPart → Weaker → List ℕ
 text_of_weaker n known p it = too_line it.level

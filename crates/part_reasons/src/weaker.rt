@@ -186,13 +186,14 @@ pub fn renamed(
     }
 }
 
-/// The line that says that a part breaks a level too.
+/// That a part breaks a level too, and what that asks for.
 fn too_line(alloc: Global, level: Level) -> Result<Vec<u8>, AllocError>
     ensures text { IfOk result (λ text. text.items ≡ spec.too_line level) }
 {
     let mut text = Vec::from_slice(alloc, b"they break ")?;
     text.extend_from_slice(isolation_of(level).title().as_bytes())?;
     text.extend_from_slice(b" too:\n")?;
+    text.extend_from_slice(isolation_of(level).asks().as_bytes())?;
     Ok(text)
 }
 
