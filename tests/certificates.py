@@ -145,7 +145,8 @@ class Part:
         must(not told or self.known_as in told, 'known as %r, and told as %r' % (self.known_as, told))
         self.is_renamed = bool(self.why and TOO.fullmatch(self.why[0]))
         right = {None, NAMES.get(self.code), OWN_WRITE if self.code == 'A7' else None}
-        must(self.is_renamed or self.code not in NAMES or self.known_as in right, 'A %s known as %r' % (self.code, self.known_as))
+        # only an explanation says that a weaker level names it
+        must(self.is_renamed or not why or self.code not in NAMES or self.known_as in right, 'A %s known as %r' % (self.code, self.known_as))
 
 
 def rule_above(lines, level):
