@@ -1,5 +1,5 @@
 -- Orders in which no node stands before an earlier one of its session.
-use Rattle.decode_order.proofs.Prelude.{◌≡◌, ℕ, ◌<◌, Bool, true, false, cond, List, [], ◌∷◌, Option, Some, None, refl, ap, inl, inr, list_any, cases_Bool, cond-false}
+use Rattle.decode_order.proofs.Prelude.{◌≡◌, ℕ, ◌<◌, ◌∙◌, Bool, true, false, cond, List, [], ◌∷◌, Option, Some, None, refl, ap, inl, inr, list_any, cases_Bool, cond-false}
 use Rattle.decode_order.proofs.Prelude.{Has, any_found, first_early, first_before_ended}
 use Rattle.serializability.proofs.Timed.{InTime, is_early, earlier_parts}
 
