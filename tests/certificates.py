@@ -22,7 +22,7 @@ WEAKER = {'strict snapshot isolation': 'strict_snapshot', 'snapshot isolation': 
           'read committed': 'read_committed'}
 SNAPSHOT, LADDER = 'snapshot isolation', list(WEAKER)[2:]
 # The words of `--level`.
-WORDS = {'snapshot isolation': 'snapshot', 'prefix consistency': 'prefix', 'causal consistency': 'causal', 'read atomic': 'read-atomic',
+WORDS = {'strict snapshot isolation': 'strict-snapshot', 'snapshot isolation': 'snapshot', 'prefix consistency': 'prefix', 'causal consistency': 'causal', 'read atomic': 'read-atomic',
          'monotonic atomic view': 'monotonic-atomic-view', 'read committed': 'read-committed'}
 STATUS = {'serializable': 0, 'not serializable': 1, 'unknown': 3, 'refused': 2}
 HEADING = re.compile(r'shown by (\d+) transactions?: (.+)')

@@ -37,18 +37,27 @@ fn none_noted(
     }
 }
 
-/// Whether no session wrote the key at a position behind this one, up to which it is seen.
+/// How far a session is seen, but no further than this position.
+fn up_to(reach: usize, top: usize) -> usize
+    ensures { (q : ℕ) → q ≤ reach → q ≤ top → q ≤ result }
+{
+    if reach < top { reach } else { top }
+}
+
+/// Whether no session wrote the key at a position behind this one, up to which it is seen, and up to
+/// `top`: the transaction that looks back may write the key itself, behind that.
 fn are_rows_clear(
     spots: &BTreeSet<(usize, usize, usize)>,
     root: usize,
     source: usize,
+    top: usize,
     row: &[usize],
 ) -> bool
-    ensures { IsTrue result → (s q : ℕ) → source < q → q ≤ slice_index row.now s
+    ensures { IsTrue result → (s q : ℕ) → source < q → q ≤ slice_index row.now s → q ≤ top
         → contains spot_cmp spots.now (root, s, q) ≡ false }
 {
     for (s, reach) in row.iter().enumerate() {
-        if !none_noted(spots, root, s, source, *reach) {
+        if !none_noted(spots, root, s, source, up_to(*reach, top)) {
             return false;
         }
     }
@@ -95,7 +104,7 @@ fn is_clear_far(
     let Some(passed) = entries.get(look.link - 1) else {
         return false;
     };
-    are_rows_clear(spots, passed.root, look.source, row)
+    are_rows_clear(spots, passed.root, look.source, passed.position, row)
         && are_sources_clear(entries, look.link, look.source, front)
 }
 

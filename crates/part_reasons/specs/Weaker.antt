@@ -28,14 +28,16 @@ use Rattle.part_reasons.specs.declared.weaker.Weaker.{Weaker}
 
 -- ---- levels
 
-abbrev pub isolation_of : Level → Isolation
-isolation_of level.Serializable = isolation.Serializable
-isolation_of level.Snapshot = isolation.Snapshot
-isolation_of level.Prefix = isolation.Prefix
-isolation_of (level.Below below.Causal) = isolation.Causal
-isolation_of (level.Below below.ReadAtomic) = isolation.ReadAtomic
-isolation_of (level.Below below.MonotonicAtomicView) = isolation.MonotonicAtomicView
-isolation_of (level.Below below.ReadCommitted) = isolation.ReadCommitted
+-- with moments or without
+abbrev pub isolation_of : Level → Bool → Isolation
+isolation_of level.Serializable strict = isolation.Serializable
+isolation_of level.Snapshot true = isolation.StrictSnapshot
+isolation_of level.Snapshot false = isolation.Snapshot
+isolation_of level.Prefix strict = isolation.Prefix
+isolation_of (level.Below below.Causal) strict = isolation.Causal
+isolation_of (level.Below below.ReadAtomic) strict = isolation.ReadAtomic
+isolation_of (level.Below below.MonotonicAtomicView) strict = isolation.MonotonicAtomicView
+isolation_of (level.Below below.ReadCommitted) strict = isolation.ReadCommitted
 
 -- how many levels are weaker
 abbrev pub rank_of : Level → ℕ
@@ -49,27 +51,28 @@ rank_of level.Serializable = 6
 
 -- ---- what is right against one
 
--- a refutation by points that is right of the part, and rests on no moments
-abbrev pub IsRightOfPoints : Bool → RefutedPart → Against → Type 0
-IsRightOfPoints locked p (Points l r) = (l ≡ locked) × (is_timed r ≡ false)
+-- a refutation by points that is right of the part, and rests on moments or on none
+abbrev pub IsRightOfPoints : Bool → Bool → RefutedPart → Against → Type 0
+IsRightOfPoints locked strict p (Points l r) = (l ≡ locked) × (is_timed r ≡ strict)
     × (by_points.is_refuted locked (map view p.part.items) r ≡ true)
-IsRightOfPoints locked p (Evidence below e) = ⊥
+IsRightOfPoints locked strict p (Evidence below e) = ⊥
 
 -- evidence that is right of the part
 abbrev pub IsRightBelow : BelowLevel → RefutedPart → Against → Type 0
 IsRightBelow below p (Points l r) = ⊥
 IsRightBelow below p (Evidence b e) = (b ≡ below) × (is_refuted below (map view p.part.items) e ≡ true)
 
-abbrev pub IsRight : Level → RefutedPart → Against → Type 0
-IsRight level.Serializable p it = ⊥
-IsRight level.Snapshot p it = IsRightOfPoints true p it
-IsRight level.Prefix p it = IsRightOfPoints false p it
-IsRight (level.Below below) p it = IsRightBelow below p it
+-- against a level with moments, which is snapshot isolation alone, or without
+abbrev pub IsRight : Level → Bool → RefutedPart → Against → Type 0
+IsRight level.Snapshot strict p it = IsRightOfPoints true strict p it
+IsRight level.Prefix false p it = IsRightOfPoints false false p it
+IsRight (level.Below below) false p it = IsRightBelow below p it
+IsRight _ _ p it = ⊥
 
 -- the part breaks a level that is weaker than this one
 pub record IsWeaker (l : Level) (p : RefutedPart) (it : Weaker) : Type 0 where
   pub weaker : rank_of it.level < rank_of l
-  pub right : IsRight it.level p it.against
+  pub right : IsRight it.level it.is_strict p it.against
 
 -- ---- how it is told
 
@@ -86,12 +89,11 @@ graph_against table ss (Points l r) = refutation_graph table ss r
 graph_against table ss (Evidence below e) = evidence_graph table ss e
 
 -- `they break read atomic too:`, and what that level asks for
-abbrev pub too_line : Level → List ℕ
-too_line l = codes "they break " ++ level_title (isolation_of l) ++ codes " too:\n"
-    ++ level_asks (isolation_of l)
+abbrev pub too_line : Isolation → List ℕ
+too_line i = codes "they break " ++ level_title i ++ codes " too:\n" ++ level_asks i
 
 abbrev pub text_of_weaker : ℕ → List ClientSession → RefutedPart → Weaker → List ℕ
-text_of_weaker n known p it = too_line it.level
+text_of_weaker n known p it = too_line (isolation_of it.level it.is_strict)
     ++ text_against (table_of n known p.flags) (map view p.part.items) it.against
 
 abbrev pub graph_of_weaker : ℕ → List ClientSession → RefutedPart → Weaker → List ℕ

@@ -39,19 +39,21 @@ pub enum Against {
     },
 }
 
-/// A level, and what is right against it.
+/// A level, with moments or without, and what is right against it.
 #[derive(Drop)]
 pub struct Weaker {
     pub level: Level,
+    pub is_strict: bool,
     pub against: Against,
 }
 
-/// A level by its name in the field.
-fn isolation_of(level: Level) -> Isolation
-    ensures { result ≡ spec.isolation_of level }
+/// A level by its name in the field, with moments or without.
+fn isolation_of(level: Level, is_strict: bool) -> Isolation
+    ensures { result ≡ spec.isolation_of level is_strict }
 {
     match level {
         Level::Serializable => Isolation::Serializable,
+        Level::Snapshot if is_strict => Isolation::StrictSnapshot,
         Level::Snapshot => Isolation::Snapshot,
         Level::Prefix => Isolation::Prefix,
         Level::Below(Below::Causal) => Isolation::Causal,
@@ -89,17 +91,18 @@ fn level_at(rank: usize) -> Level {
     }
 }
 
-/// A refutation by points that is right and rests on no moments, where one is found.
+/// A refutation by points that is right and rests on moments or on none, where such a one is found.
 fn against_points(
     alloc: Global,
     refuted: &RefutedPart,
     is_locked: bool,
+    is_strict: bool,
 ) -> Result<Option<Against>, AllocError>
     ensures right { IfOk result (λ some. IfSome some (λ it.
-        spec.IsRightOfPoints is_locked refuted.now it)) }
+        spec.IsRightOfPoints is_locked is_strict refuted.now it)) }
 {
     match refutation_of(alloc, refuted, is_locked)? {
-        Some(refutation) if !is_timed(&refutation) => Ok(Some(Against::Points {
+        Some(refutation) if is_timed(&refutation) == is_strict => Ok(Some(Against::Points {
             is_locked,
             refutation,
         })),
@@ -107,18 +110,19 @@ fn against_points(
     }
 }
 
-/// What is right against a level, where something is found.
+/// What is right against a level without moments, where something is found.
 fn against(
     alloc: Global,
     refuted: &RefutedPart,
     level: Level,
 ) -> Result<Option<Against>, AllocError>
-    ensures right { IfOk result (λ some. IfSome some (λ it. spec.IsRight level refuted.now it)) }
+    ensures right { IfOk result (λ some. IfSome some (λ it.
+        spec.IsRight level false refuted.now it)) }
 {
     match level {
         Level::Serializable => Ok(None),
-        Level::Snapshot => against_points(alloc, refuted, true),
-        Level::Prefix => against_points(alloc, refuted, false),
+        Level::Snapshot => against_points(alloc, refuted, true, false),
+        Level::Prefix => against_points(alloc, refuted, false, false),
         Level::Below(below) => match evidence_of(alloc, refuted, below)? {
             Some(evidence) => Ok(Some(Against::Evidence { below, evidence })),
             None => Ok(None),
@@ -138,11 +142,59 @@ fn weakest(alloc: Global, refuted: &RefutedPart, level: Level) -> Result<Option<
         {
             return Ok(Some(Weaker {
                 level: weaker,
+                is_strict: false,
                 against,
             }));
         }
     }
     Ok(None)
+}
+
+/// Strict snapshot isolation, if it is weaker than this level, and moments are what shows that a part
+/// breaks it.
+fn strict_snapshot(
+    alloc: Global,
+    refuted: &RefutedPart,
+    level: Level,
+) -> Result<Option<Weaker>, AllocError>
+    ensures weaker { IfOk result (λ some. IfSome some (λ weaker.
+        spec.IsWeaker level refuted.now weaker)) }
+{
+    if rank_of(Level::Snapshot) < rank_of(level)
+        && let Some(against) = against_points(alloc, refuted, true, true)?
+    {
+        return Ok(Some(Weaker {
+            level: Level::Snapshot,
+            is_strict: true,
+            against,
+        }));
+    }
+    Ok(None)
+}
+
+/// Whether a name is one of moments.
+fn is_of_moments(name: &Option<String>) -> bool {
+    match name {
+        None => false,
+        Some(name) => name.as_bytes().ends_with(b"-realtime)"),
+    }
+}
+
+/// The weakest level below this one against which something is found. What rests on moments counts
+/// only where the level's own name for it does.
+fn weakest_named(
+    alloc: Global,
+    refuted: &RefutedPart,
+    level: Level,
+    name: &Option<String>,
+) -> Result<Option<Weaker>, AllocError>
+    ensures weaker { IfOk result (λ some. IfSome some (λ weaker.
+        spec.IsWeaker level refuted.now weaker)) }
+{
+    match weakest(alloc, refuted, level)? {
+        None if is_of_moments(name) => strict_snapshot(alloc, refuted, level),
+        found => Ok(found),
+    }
 }
 
 /// What the field calls it.
@@ -178,7 +230,7 @@ pub fn renamed(
     if line_count(&refuted.part) > FEW_LINES {
         return Ok(None);
     }
-    match weakest(alloc, refuted, level)? {
+    match weakest_named(alloc, refuted, level, name)? {
         Some(weaker) if is_other(name_against(&refuted.part, &weaker.against), name) => {
             Ok(Some(weaker))
         }
@@ -187,13 +239,13 @@ pub fn renamed(
 }
 
 /// That a part breaks a level too, and what that asks for.
-fn too_line(alloc: Global, level: Level) -> Result<Vec<u8>, AllocError>
+fn too_line(alloc: Global, level: Isolation) -> Result<Vec<u8>, AllocError>
     ensures text { IfOk result (λ text. text.items ≡ spec.too_line level) }
 {
     let mut text = Vec::from_slice(alloc, b"they break ")?;
-    text.extend_from_slice(isolation_of(level).title().as_bytes())?;
+    text.extend_from_slice(level.title().as_bytes())?;
     text.extend_from_slice(b" too:\n")?;
-    text.extend_from_slice(isolation_of(level).asks().as_bytes())?;
+    text.extend_from_slice(level.asks().as_bytes())?;
     Ok(text)
 }
 
@@ -249,7 +301,7 @@ pub fn tell_weaker(
         return Ok(None);
     }
     let places = places_of(alloc, version, sessions, refuted)?;
-    let mut text = too_line(alloc, weaker.level)?;
+    let mut text = too_line(alloc, isolation_of(weaker.level, weaker.is_strict))?;
     text.extend_from_slice(&text_against(alloc, &refuted.part, &places, &weaker.against)?)?;
     let known_as = owned(alloc, name_against(&refuted.part, &weaker.against))?;
     Ok(Some(Explained { text, known_as }))
