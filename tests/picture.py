@@ -16,7 +16,7 @@ HERE = os.path.dirname(os.path.abspath(__file__))
 TOP = os.path.dirname(HERE)
 sys.path.insert(0, HERE)
 import explained, generate, level_model, levels, told_points
-from certificates import HEADING, WHY_NOT, Part
+from certificates import HEADING, TOO, WHY_NOT, Part
 
 sys.path.insert(0, os.path.join(TOP, 'tools'))
 import picture
@@ -213,7 +213,7 @@ def fault_of_picture(boxes, arrows, text):
     for name, box in boxes.items():
         if not box['name']:
             return '%s has no name' % name
-        if any(not re.match('[rw] |begin |commit |abort|unknown', lines[line - 1]) for line in box['all']):
+        if any(not re.match('[rw] |begin|commit|abort|unknown', lines[line - 1]) for line in box['all']):
             return '%s has a line that is no operation' % name
     return None
 
@@ -335,7 +335,10 @@ class Checks:
                 report = picture.scripts.audited(self.program, path)
                 page = picture.page_of_part(lines, report, name, unit).html()
                 self.expect(('Without the order of sessions' in page) == (report['without_sessions'] is not None), '%s: the order of sessions' % name)
-                yield name, text.decode(), said, page
+                if TOO.fullmatch(report['explanation'][0]):
+                    self.expect('; they break' in page, '%s: told by a weaker level, and the page does not say so' % name)
+                else:
+                    yield name, text.decode(), said, page
             ran = subprocess.run([self.program, 'explain', '--workers', '1', path], stdout=subprocess.PIPE, stderr=subprocess.PIPE, timeout=120)
             self.expect((ran.returncode == 1) == bool(said) or len(lines) > LONG, '%s: explain ends with %d, and audit says %r' % (name, ran.returncode, said))
             if ran.returncode == 1:
@@ -351,7 +354,7 @@ class Checks:
                 except picture.scripts.Stop:
                     continue
                 about, told = '%s at %s' % (name, level), picture.told.of_part(report)
-                self.expect(told.code != picture.told.PART or level not in STRONG or report['explanation'] == [picture.told.BY_SEARCH], '%s: %r' % (about, report['explanation']))
+                self.expect(told.code != picture.told.PART or level not in STRONG or report['explanation'] == [picture.told.BY_SEARCH] or TOO.fullmatch(report['explanation'][0]), '%s: %r' % (about, report['explanation']))
                 page = picture.page_of_part(text.decode().splitlines(), report, about).html()
                 self.expect('<h1>%s: not kept' % levels.LEVELS[level] in page, '%s: no heading' % about)
                 self.met[told.code] += 1

@@ -30,6 +30,8 @@ ROW = re.compile(r'    %s(?:  [rw] [A-Za-z0-9_.:/-]+ [0-9]+ \(line [1-9][0-9]*\)
 FORCED = re.compile('these orders of versions are forced:')
 ORDER = re.compile('suppose %s:' % VERSIONS)
 KNOWN = re.compile('known as: (.+)')
+# What stands above what a weaker level tells: that, and what the level asks for.
+TOO, OF_TOO = re.compile('they break .+ too'), 2
 SHORT = re.compile('in short: (.+)')
 LEAVES = re.compile('proof: whichever of these versions came first, a cycle closes(?:, %s in all; the first 1000 of them)?:' % NUMBER)
 CROSSED = re.compile('four transactions read these pairs of versions; in a serial order each key changes once from one version to the other, so it has at most three of them:')
@@ -347,6 +349,8 @@ def read(text):
     it.code = code_of(it.verdict)
     if it.code is None:
         return it
+    if it.lines[1:] and TOO.fullmatch(it.lines[1].rstrip(':')):
+        return of_weaker(it.verdict, it.lines[1:])
     reader.at = it.behind - 1
     if it.code == 'A8':
         cycle, it.short = reader.next(ROUND), reader.short()  # audit leaves the first out
@@ -398,6 +402,14 @@ def read_points(lines):
     return it if told and reader.at == len(reader.lines) else None
 
 
+def of_weaker(verdict, lines):
+    """What a weaker level tells, behind the lines that say so."""
+    told = [verdict, *lines[OF_TOO:]]
+    it = read_points(told) or of_lines(verdict, told[1:])
+    it.lines[0] += '; ' + lines[0].rstrip(':')
+    return it
+
+
 def of_part(report):
     """What the JSON of `audit --explain` tells of the part that it tells first. With a level, the verdict is that of the level, and lines
     that have no form are told as they are: the code is PART then."""
@@ -405,6 +417,7 @@ def of_part(report):
     verdict = 'not serializable: ' + FAULTS[report['code']]
     if level is None:
         it = read('\n'.join([verdict, *lines]))
+        it.known_as = it.known_as or (report['known_as'] if lines and TOO.fullmatch(lines[0].rstrip(':')) else None)
     else:
         found = read_level(verdict, lines)
         it = found or of_lines(verdict, lines)
