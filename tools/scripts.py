@@ -124,5 +124,7 @@ def audited(program, path, level=None):
         what = '%s is kept' % report['level'] if level else 'this log is serializable'
         raise Stop('%s: it has an order, which audit --order writes, and so there is no fault to tell' % what, SERIALIZABLE)
     said = report.get('reason') or ran.stderr.decode(errors='replace').strip()
+    if ran.returncode == REFUSED and said:
+        raise Stop('audit refuses it: ' + said, REFUSED)
     raise Stop("audit does not say '%s', but ends with %d: %s" % (refuted, ran.returncode, said),
                ran.returncode if ran.returncode in (REFUSED, UNKNOWN, OUT_OF_MEMORY, DEVICE_FAILED) else AROUND)
