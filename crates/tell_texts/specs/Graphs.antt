@@ -30,12 +30,15 @@ reason_ops _ = (None, None)
 abbrev pub held_at : List ClientSession → ℕ → ℕ → Option ℕ
 held_at ss x v = option_or (left_at ss x v) (read_at ss x v)
 
--- the operations that it names why one node stands before another: where that is by an order of two
--- versions, what the first one has of the key, and what the second one leaves
+-- by an order of two versions: what the first node has of the key, and what the second one leaves
+abbrev pub version_ops : List ClientSession → ℕ → ℕ → ℕ → Option ℕ × Option ℕ
+version_ops ss a b x = (held_at ss x a, left_at ss x b)
+
+-- the operations that it names why one node stands before another
 abbrev pub why_ops : List ClientSession → ℕ → ℕ → Why → Option ℕ × Option ℕ
 why_ops ss a b (why.Known r) = reason_ops r
-why_ops ss a b (why.Forced number o) = (held_at ss o.key a, left_at ss o.key b)
-why_ops ss a b (why.Chosen o) = (held_at ss o.key a, left_at ss o.key b)
+why_ops ss a b (why.Forced number o) = version_ops ss a b o.key
+why_ops ss a b (why.Chosen o) = version_ops ss a b o.key
 
 -- whether these are operation i of node v
 abbrev pub is_op : ℕ → ℕ → ℕ → Option ℕ → Bool

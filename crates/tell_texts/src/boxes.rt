@@ -67,6 +67,19 @@ fn held_at(history: &History, key: usize, node: NodeIx) -> Option<usize>
     left_at(history, key, node).or(read_at(history, key, node))
 }
 
+/// The operations that an order of two versions names: what the first node has of the key, and what
+/// the second one leaves.
+fn version_ops(
+    history: &History,
+    first: NodeIx,
+    second: NodeIx,
+    key: usize,
+) -> (Option<usize>, Option<usize>)
+    ensures { result ≡ spec.version_ops history.now first second key }
+{
+    (held_at(history, key, first), left_at(history, key, second))
+}
+
 /// The operations that it names why one node stands before another, of the first and of the second.
 fn why_ops(
     history: &History,
@@ -78,10 +91,8 @@ fn why_ops(
 {
     match why {
         Why::Known(reason) => reason_ops(reason),
-        Why::Forced { order, .. } | Why::Chosen(order) => (
-            held_at(history, order.key, first),
-            left_at(history, order.key, second),
-        ),
+        Why::Forced { order, number: _ } => version_ops(history, first, second, order.key),
+        Why::Chosen(order) => version_ops(history, first, second, order.key),
     }
 }
 
