@@ -111,7 +111,7 @@ fn against_points(
 }
 
 /// What is right against a level without moments, where something is found.
-fn against(
+fn found_against(
     alloc: Global,
     refuted: &RefutedPart,
     level: Level,
@@ -138,7 +138,7 @@ fn weakest(alloc: Global, refuted: &RefutedPart, level: Level) -> Result<Option<
     for rank in 0..rank_of(level) {
         let weaker = level_at(rank);
         if rank_of(weaker) < rank_of(level)
-            && let Some(against) = against(alloc, refuted, weaker)?
+            && let Some(against) = found_against(alloc, refuted, weaker)?
         {
             return Ok(Some(Weaker {
                 level: weaker,
