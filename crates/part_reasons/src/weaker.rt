@@ -1,6 +1,6 @@
 //! A weaker level that a part breaks too: what shows that, and what the weaker level calls it.
 
-ghost use Rattle.std.specs.Prelude.{◌≡◌, ◌++◌, ◌<◌, map, IfOk, IfSome, OnOk};
+ghost use Rattle.std.specs.Prelude.{◌≡◌, false, map, IfOk, IfSome};
 ghost use Rattle.std.specs.Option.{option_copied};
 ghost use Rattle.session_log.specs.Text.{view};
 ghost use Rattle.session_log.specs.Version.{first_line};
