@@ -23,5 +23,8 @@ is_ending_timed (Circle edges) = is_way_timed edges.items
 is_ending_timed (Neither both not_one not_other) =
     is_way_timed not_one.edges.items || is_way_timed not_other.edges.items
 
+abbrev pub are_steps_timed : List Step → Bool
+are_steps_timed steps = list_any is_step_timed steps
+
 abbrev pub is_timed : Refutation → Bool
-is_timed r = list_any is_step_timed r.steps.items || is_ending_timed r.ending
+is_timed r = are_steps_timed r.steps.items || is_ending_timed r.ending

@@ -39,9 +39,15 @@ fn is_ending_timed(ending: &Ending) -> bool
     }
 }
 
+fn are_steps_timed(steps: &[Step]) -> bool
+    ensures { result ≡ spec.are_steps_timed steps.now }
+{
+    steps.iter().any(|step| is_step_timed(step))
+}
+
 /// Whether a refutation by points rests on moments.
 pub fn is_timed(refutation: &Refutation) -> bool
     ensures { result ≡ spec.is_timed refutation.now }
 {
-    refutation.steps.iter().any(is_step_timed) || is_ending_timed(&refutation.ending)
+    are_steps_timed(&refutation.steps) || is_ending_timed(&refutation.ending)
 }
