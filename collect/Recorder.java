@@ -372,7 +372,7 @@ public final class Recorder implements AutoCloseable {
         else if (count("sessions") < 2)
             found.add("there is one session alone: a fault shows where clients meet");
         else if (count("reads") == 0)
-            found.add("no read names a write, so any order will do: read keys that others write");
+            found.add("no read names a write, so few faults can be seen: read keys that others write");
         else if (count("reads of others") == 0)
             found.add("no client read what another one wrote: let them use the same keys, fewer of them");
         else if (count("overlaps") == 0)

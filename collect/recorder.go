@@ -373,7 +373,7 @@ func (run *Recorder) worthLittle() []string {
 	case counts["sessions"] < 2:
 		warn("there is one session alone: a fault shows where clients meet")
 	case counts["reads"] == 0:
-		warn("no read names a write, so any order will do: read keys that others write")
+		warn("no read names a write, so few faults can be seen: read keys that others write")
 	case counts["reads of others"] == 0:
 		warn("no client read what another one wrote: let them use the same keys, fewer of them")
 	case counts["overlaps"] == 0:

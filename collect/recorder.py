@@ -424,7 +424,7 @@ class Recorder:
         elif counts['sessions'] < 2:
             yield 'there is one session alone: a fault shows where clients meet'
         elif not counts['reads']:
-            yield 'no read names a write, so any order will do: read keys that others write'
+            yield 'no read names a write, so few faults can be seen: read keys that others write'
         elif not counts['reads of others']:
             yield 'no client read what another one wrote: let them use the same keys, fewer of them'
         elif not counts['overlaps']:
