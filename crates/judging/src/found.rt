@@ -240,6 +240,9 @@ fn see_points<R: Threads + Wait + Clock + Sync>(
     requires level { is_split means.now.level ≡ true }
     ensures { IfOk result (λ seen. IsFound means.now (map view log.now) seen.found) }
 {
+    if means.is_over(rt) {
+        return Ok(undecided(alloc, Why::NotBegun));
+    }
     match log_at(alloc, means.level, log)? {
         LevelLog::Itself => unreachable!(),
         LevelLog::Split(split) => see_split(rt, alloc, log, &split, means),

@@ -11,7 +11,7 @@ use crate::means::JudgeMeans;
 use numbered_log::NumberedLog;
 use order_proposals::{Proposal, propose};
 use progress::Progress;
-use session_log::Session;
+use session_log::{Op, Session};
 use splitting::{NoRoom, split, split_bare};
 use std::alloc::{AllocError, Global};
 use std::io::Eprint;
@@ -83,6 +83,21 @@ pub fn number_judged<'a>(
     }
 }
 
+/// The greatest identity that is written in these sessions.
+fn greatest_identity(sessions: &[Session]) -> u64 {
+    let mut greatest = 0;
+    for session in sessions {
+        for txn in &session.txns {
+            for op in &txn.ops {
+                if let Op::Write { wid, .. } = op {
+                    greatest = greatest.max(*wid);
+                }
+            }
+        }
+    }
+    greatest
+}
+
 /// What is proposed of these sessions, whose outcomes are known, by what is judged for them, and by
 /// that in numbers. A part is one of these sessions; an order is one of what is judged. Where that
 /// is nothing, a part is looked for that has no serial order.
@@ -107,7 +122,7 @@ pub fn propose_at<R: Threads + Clock + Eprint + Sync, P: Progress>(
                 sessions,
                 log,
                 left_out,
-                &means.proposing(),
+                &means.proposing(u64::MAX),
                 progress,
             )
         }
@@ -119,7 +134,7 @@ pub fn propose_at<R: Threads + Clock + Eprint + Sync, P: Progress>(
                 split,
                 log,
                 &left_out,
-                &means.proposing(),
+                &means.proposing(greatest_identity(sessions)),
                 progress,
             )?;
             joined_proposal(alloc, sessions, proposal)

@@ -124,6 +124,15 @@ impl ByLane {
         self.groups.close()
     }
 
+    /// The versions of a key that a lane wrote, where it wrote some.
+    pub fn group(&self, key: u32, lane: u32) -> Option<Group> {
+        let groups = self.groups.list(key);
+        match groups.binary_search_by_key(&lane, |group| group.lane) {
+            Ok(place) => groups.get(place).copied(),
+            Err(_) => None,
+        }
+    }
+
     /// The node of a reader.
     pub fn node(&self, reader: Reader) -> u32 {
         at(&self.starts, reader.lane)

@@ -1,10 +1,12 @@
 //! Lanes: which sessions follow each other, by what is known, and share one.
 
-use crate::clocks::{Swept, grow, start_of, waits_of};
+use crate::clocks::{Swept, grow, ranks_of, sweep_edges};
 use crate::known::{Graph, NOWHERE, Point};
 use crate::versions::Versions;
+use crate::watch::Alarm;
 use numbers::{Entry, Lists, NONE, add, at, lists_of, number, put};
 use std::alloc::{AllocError, Global};
+use std::time::Clock;
 
 /// The most lanes.
 pub const MAX_LANES: usize = 1024;
@@ -12,6 +14,8 @@ pub const MAX_LANES: usize = 1024;
 pub const MAX_ENTRIES: usize = 1 << 28;
 /// Up to so many sessions have a lane each.
 const FEW: usize = 32;
+/// Those of more sessions too, where fewer than one in so many could share one.
+const FEW_SHARE: usize = 8;
 
 /// What comes of giving lanes to sessions.
 #[derive(Drop)]
@@ -24,6 +28,7 @@ pub enum Given {
     TooWide { lanes: usize },
     /// So many nodes with so many lanes need too many numbers.
     TooLarge { nodes: usize, lanes: usize },
+    TimeIsUp,
 }
 
 /// The nodes of a session, and its lane and how many nodes of others stand before it there.
@@ -187,15 +192,50 @@ enum Shared {
     Spans(Vec<Span>),
     /// Not all points have a place in topological order.
     Circle(Vec<u32>),
-    /// There are too many lanes or numbers.
+    /// There are too many lanes or numbers, or the time is up.
     Fault(Given),
 }
 
-/// Gives lanes to sessions: one that begins behind the end of another takes over its lane.
-fn share(alloc: Global, graph: &Graph, spans: Vec<Span>) -> Result<Shared, AllocError> {
+/// So many sessions at most stand at once in this topological order of points, from the first node of
+/// each to its last one: each of these needs a lane.
+fn most_at_once(alloc: Global, order: &[u32], spans: &[Span]) -> Result<usize, AllocError> {
+    let ranks = ranks_of(alloc, order)?;
+    let mut begins = Vec::with_capacity(alloc, spans.len())?;
+    let mut ends = Vec::with_capacity(alloc, spans.len())?;
+    for span in spans {
+        begins.push(at(&ranks, span.start))?;
+        ends.push(at(&ranks, span.end.saturating_sub(1)))?;
+    }
+    begins.sort_unstable();
+    ends.sort_unstable();
+    let mut most: usize = 0;
+    for (begun, begin) in begins.iter().enumerate() {
+        let ended = match ends.binary_search(begin) {
+            Ok(place) => place,
+            Err(place) => place,
+        };
+        most = most.max(begun.saturating_add(1).saturating_sub(ended));
+    }
+    Ok(most)
+}
+
+/// Gives lanes to sessions: one that begins behind the end of another takes over its lane. Where few
+/// could, each has its own.
+fn share<R: Clock>(
+    alarm: &mut Alarm<'_, R>,
+    alloc: Global,
+    graph: &Graph,
+    spans: Vec<Span>,
+) -> Result<Shared, AllocError> {
+    let Swept { order, waits } = sweep_edges(alloc, graph.count(), &graph.known)?;
+    if order.len() < graph.points.len() {
+        return Ok(Shared::Circle(waits));
+    }
+    let most = most_at_once(alloc, &order, &spans)?;
+    if spans.len() <= MAX_LANES && most >= spans.len().saturating_sub(spans.len() / FEW_SHARE) {
+        return Ok(Shared::Spans(spans));
+    }
     let before = points_before(alloc, graph)?;
-    let targets = lists_of(alloc, graph.count(), &graph.known)?;
-    let mut swept = start_of(alloc, waits_of(alloc, graph)?)?;
     let mut sharing = Sharing {
         of_nodes: spans_of_nodes(alloc, graph.nodes, &spans)?,
         spans,
@@ -204,16 +244,15 @@ fn share(alloc: Global, graph: &Graph, spans: Vec<Span>) -> Result<Shared, Alloc
         entries: Vec::new(alloc),
         row: Vec::new(alloc),
     };
-    for place in 0..graph.count() {
-        let Some(point) = swept.order.get(place as usize).copied() else {
-            let Swept { waits, .. } = swept;
-            return Ok(Shared::Circle(waits));
-        };
-        sharing.make_row(point, before.list(point))?;
+    for point in &order {
+        let before = before.list(*point);
+        sharing.make_row(*point, before)?;
         if let Some(fault) = sharing.fault() {
             return Ok(Shared::Fault(fault));
         }
-        swept.release(targets.list(point))?;
+        if alarm.rings(before.len().saturating_mul(sharing.row.len())) {
+            return Ok(Shared::Fault(Given::TimeIsUp));
+        }
     }
     let Sharing { spans, .. } = sharing;
     Ok(Shared::Spans(spans))
@@ -295,7 +334,8 @@ fn fitting(versions: Versions, graph: Graph) -> Given {
 }
 
 /// Gives lanes to sessions.
-pub fn give_lanes(
+pub fn give_lanes<R: Clock>(
+    alarm: &mut Alarm<'_, R>,
     alloc: Global,
     versions: Versions,
     mut graph: Graph,
@@ -305,7 +345,7 @@ pub fn give_lanes(
         graph.place_points(alloc, &spans)?;
         return Ok(fitting(versions, graph));
     }
-    match share(alloc, &graph, spans)? {
+    match share(alarm, alloc, &graph, spans)? {
         Shared::Spans(spans) => put_by_lane(alloc, versions, graph, spans),
         Shared::Circle(waits) => Ok(Given::Circle(versions, graph, waits)),
         Shared::Fault(fault) => Ok(fault),

@@ -2,8 +2,13 @@
 
 use crate::behind::Pair;
 use crate::merging::Merging;
+use crate::watch::Alarm;
 use numbers::{NONE, at, number};
 use std::alloc::{AllocError, Global};
+use std::time::Clock;
+
+/// To look at a point that was placed takes about as long as so many numbers of a clock.
+const STEPS_PER_POINT: usize = 16;
 
 /// A pair to be turned round, and where its second node was placed.
 #[derive(Clone, Copy)]
@@ -75,8 +80,16 @@ impl Merging<'_> {
     }
 
     /// The pair to be turned round: of those that can be that whose second was placed last.
-    fn pick(&mut self, obstacles: &[Obstacle]) -> Result<Option<Pair>, AllocError> {
+    fn pick<R: Clock>(
+        &mut self,
+        alarm: &mut Alarm<'_, R>,
+        obstacles: &[Obstacle],
+    ) -> Result<Option<Pair>, AllocError> {
         for obstacle in obstacles.iter().rev() {
+            let behind = number(self.placed.points.len()).saturating_sub(obstacle.place);
+            if alarm.rings((behind as usize).saturating_mul(STEPS_PER_POINT)) {
+                break;
+            }
             if !self.behind.is_held(obstacle.pair) && !self.is_forced(*obstacle)? {
                 return Ok(Some(obstacle.pair));
             }
@@ -91,17 +104,21 @@ impl Merging<'_> {
     }
 
     /// Goes back where nothing can come next; answers whether that helps.
-    pub fn unblock(&mut self, alloc: Global) -> Result<bool, AllocError> {
+    pub fn unblock<R: Clock>(
+        &mut self,
+        alarm: &mut Alarm<'_, R>,
+        alloc: Global,
+    ) -> Result<bool, AllocError> {
         if self.is_spent() {
             return Ok(false);
         }
         let obstacles = self.obstacles(alloc)?;
-        match self.pick(&obstacles)? {
+        match self.pick(alarm, &obstacles)? {
             Some(pair) => {
                 self.turn_round(pair)?;
                 Ok(true)
             }
-            None => self.suppose_one(alloc, &obstacles),
+            None => self.suppose_one(alarm, alloc, &obstacles),
         }
     }
 }

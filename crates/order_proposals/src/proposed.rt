@@ -54,4 +54,7 @@ pub struct ProposeMeans {
     pub workers: Workers,
     /// Until when a round of rules or a supposition is begun.
     pub deadline: Option<Deadline>,
+    /// The greatest identity that a client gave; those of locks are greater, and say nothing of when
+    /// they were given.
+    pub greatest: u64,
 }

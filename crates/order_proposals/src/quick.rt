@@ -9,16 +9,21 @@
 use crate::heaps::Heaps;
 use crate::holdings::{Going, Holdings, Way};
 use crate::marks::Marks;
+use crate::ranks::ranks_of;
 use crate::rivals::Rivals;
 use crate::times::Times;
+use crate::watch::Alarm;
 use numbered_log::{NumberedLog, NumberedOp, PackedOp};
 use numbers::{NONE, at, number, put};
 use std::alloc::{AllocError, Global};
+use std::time::Clock;
 
 /// So many looks for each node and operation, and so many more, are made at most.
 const LOOKS: usize = 8;
 
 const MORE_LOOKS: usize = 1000;
+/// A look takes about as long as so many numbers of a clock.
+const STEPS_PER_LOOK: usize = 1 << 8;
 
 /// The state of the try.
 #[derive(Drop)]
@@ -49,42 +54,16 @@ fn ops_of<'a>(log: &'a NumberedLog<'_>, node: u32) -> &'a [PackedOp] {
     }
 }
 
-/// The greatest identity that a node with these operations writes.
-fn greatest_identity(log: &NumberedLog<'_>, ops: &[PackedOp]) -> u64 {
-    let mut greatest = 0;
-    for op in ops {
-        if let NumberedOp::Write { version, .. } = op.get() {
-            let identity = log.identities.get(version as usize).copied();
-            greatest = identity.unwrap_or(0).max(greatest);
-        }
-    }
-    greatest
-}
-
-/// Of each node when it ended, where all state that, else the greatest identity that it writes.
-fn ranks_of(alloc: Global, log: &NumberedLog<'_>) -> Result<Vec<u64>, AllocError> {
-    let count = log.nodes.len();
-    let mut ranks = Vec::with_capacity(alloc, count)?;
-    for place in 0..count {
-        let Some(ended) = log.moments_of(place).ended else {
-            break;
-        };
-        ranks.push(ended)?;
-    }
-    if ranks.len() < count {
-        ranks.clear();
-        for node in &log.nodes {
-            ranks.push(greatest_identity(log, log.ops_of(*node)))?;
-        }
-    }
-    Ok(ranks)
-}
-
 impl Quick {
     /// Before the first node is placed.
-    fn new(alloc: Global, log: &NumberedLog<'_>, holdings: Holdings) -> Result<Quick, AllocError> {
+    fn new(
+        alloc: Global,
+        log: &NumberedLog<'_>,
+        holdings: Holdings,
+        most: u64,
+    ) -> Result<Quick, AllocError> {
         let (nodes, keys) = (log.nodes.len(), log.keys.len());
-        let ranks = ranks_of(alloc, log)?;
+        let ranks = ranks_of(alloc, log, most)?;
         let most = nodes.saturating_add(log.ops.len()).saturating_mul(LOOKS);
         let mut quick = Quick {
             holdings,
@@ -278,7 +257,7 @@ impl Quick {
 }
 
 /// Whether another node of its session comes behind a node.
-fn is_followed(log: &NumberedLog<'_>, node: u32) -> bool {
+pub fn is_followed(log: &NumberedLog<'_>, node: u32) -> bool {
     let place = node as usize;
     match (log.nodes.get(place), log.nodes.get(place.saturating_add(1))) {
         (Some(node), Some(next)) => node.session == next.session,
@@ -286,14 +265,20 @@ fn is_followed(log: &NumberedLog<'_>, node: u32) -> bool {
     }
 }
 
-/// An order of all nodes of a log, by their numbers from 1, where one is found in one go.
-pub fn quick_order(alloc: Global, log: &NumberedLog<'_>) -> Result<Option<Vec<usize>>, AllocError> {
+/// An order of all nodes of a log, by their numbers from 1, where one is found in one go before the
+/// time is up. Greater identities than this one are those of locks.
+pub fn quick_order<R: Clock>(
+    alarm: &mut Alarm<'_, R>,
+    alloc: Global,
+    log: &NumberedLog<'_>,
+    most: u64,
+) -> Result<Option<Vec<usize>>, AllocError> {
     let Some(holdings) = Holdings::of(alloc, log)? else {
         return Ok(None);
     };
-    let mut quick = Quick::new(alloc, log, holdings)?;
+    let mut quick = Quick::new(alloc, log, holdings, most)?;
     for _ in 0..u64::MAX {
-        if !quick.step(log)? {
+        if alarm.rings(STEPS_PER_LOOK) || !quick.step(log)? {
             break;
         }
     }

@@ -1,15 +1,15 @@
 //! Rules are applied until nothing comes of them.
 
 use crate::by_lane::ByLane;
-use crate::clocks::{Clocks, copy_row, sweep, waits_of};
+use crate::clocks::{Clocks, Swept, copy_row, ranks_of, sweep, waits_of};
 use crate::hops::Hops;
 use crate::known::{Edge, Graph};
 use crate::rules::Facts;
 use crate::scanning::{Share, found_in, shares};
 use crate::versions::Versions;
-use crate::watch::Watch;
-use numbers::{Entry, add, at, lists_of, number, put};
-use progress::{Progress, Stage};
+use crate::watch::{Alarm, Watch};
+use numbers::{Entry, add, at, lists_of, number};
+use progress::{Deadline, Progress, Stage};
 use std::alloc::{AllocError, Global};
 use std::io::Eprint;
 use std::thread;
@@ -47,7 +47,7 @@ const PASSES: usize = 8;
 impl Known {
     /// What a graph shows. Its edges by number go: there are many, and `hops` has them by source.
     pub fn new(alloc: Global, mut graph: Graph, hops: Hops) -> Result<Known, AllocError> {
-        let degrees = waits_of(alloc, &graph)?;
+        let degrees = waits_of(alloc, graph.count(), &graph.known)?;
         graph.known = Vec::new(alloc);
         Ok(Known {
             hops,
@@ -57,6 +57,19 @@ impl Known {
             swept: 0,
             graph,
         })
+    }
+
+    /// Clocks that say what edges show, and nothing that was supposed; answers whether the time is not
+    /// up.
+    pub fn begin_anew<R: Clock>(
+        &mut self,
+        alarm: &mut Alarm<'_, R>,
+        alloc: Global,
+    ) -> Result<bool, AllocError> {
+        self.clocks = Clocks::none(alloc)?;
+        self.clocks = Clocks::new(alloc, &self.graph)?;
+        let swept = self.sweep_all(alarm, alloc)?;
+        Ok(matches!(swept, Saturated::Whole))
     }
 
     /// Adds an edge, where it says something new.
@@ -73,21 +86,32 @@ impl Known {
     }
 
     /// Tells those behind points of their rows, where these grew, in the order of the last sweep.
-    fn pass(&mut self, row: &mut [u32]) {
+    fn pass<R: Clock>(&mut self, alarm: &mut Alarm<'_, R>, row: &mut [u32]) {
         for point in &self.order {
             if self.clocks.take_fresh(*point) {
                 copy_row(row, self.clocks.row(*point));
-                self.clocks.tell(self.hops.known(*point), row);
-                self.clocks.tell(self.hops.found(*point), row);
+                for targets in [self.hops.known(*point), self.hops.found(*point)] {
+                    self.clocks.tell(targets, row);
+                    if alarm.rings(targets.len().saturating_mul(row.len())) {
+                        return;
+                    }
+                }
             }
         }
     }
 
-    /// Brings clocks up to date in few passes, where that can be.
-    fn spread(&mut self, alloc: Global) -> Result<bool, AllocError> {
+    /// Brings clocks up to date in few passes, where that can be and the time is not up.
+    fn spread<R: Clock>(
+        &mut self,
+        alarm: &mut Alarm<'_, R>,
+        alloc: Global,
+    ) -> Result<bool, AllocError> {
         let mut row = vec![in alloc; 0; self.clocks.lanes()]?;
         for _ in 0..PASSES {
-            self.pass(row.as_mut_slice());
+            self.pass(alarm, row.as_mut_slice());
+            if alarm.rings(0) {
+                break;
+            }
             if !self.clocks.is_one_fresh() {
                 return Ok(true);
             }
@@ -106,39 +130,61 @@ impl Known {
         false
     }
 
-    /// Brings clocks up to date by all points. Gives the waits of points where there is a circle.
-    fn sweep_all(&mut self, alloc: Global) -> Result<Option<Vec<u32>>, AllocError> {
-        let swept = sweep(alloc, &self.hops, &self.degrees, &mut self.clocks)?;
-        if swept.order.len() < self.graph.points.len() {
-            return Ok(Some(swept.waits));
+    /// Brings clocks up to date by all points.
+    fn sweep_all<R: Clock>(
+        &mut self,
+        alarm: &mut Alarm<'_, R>,
+        alloc: Global,
+    ) -> Result<Saturated, AllocError> {
+        match sweep(alarm, alloc, &self.hops, &self.degrees, &mut self.clocks)? {
+            Some(Swept { order, waits }) => {
+                if order.len() < self.graph.points.len() {
+                    return Ok(Saturated::Circle(waits));
+                }
+                self.order = order;
+                self.swept = self.graph.found.len();
+                Ok(Saturated::Whole)
+            }
+            None => Ok(Saturated::TimeIsUp),
         }
-        self.order = swept.order;
-        self.swept = self.graph.found.len();
-        Ok(None)
     }
 
-    /// Puts points in topological order once more, where edges were found since the last sweep. There
-    /// is no circle.
-    fn renew_order(&mut self, alloc: Global) -> Result<(), AllocError> {
+    /// Puts points in topological order once more, where edges were found since the last sweep.
+    fn renew_order<R: Clock>(
+        &mut self,
+        alarm: &mut Alarm<'_, R>,
+        alloc: Global,
+    ) -> Result<Saturated, AllocError> {
         if self.swept < self.graph.found.len() {
-            self.sweep_all(alloc)?;
+            return self.sweep_all(alarm, alloc);
         }
-        Ok(())
+        Ok(Saturated::Whole)
     }
 
     /// Brings clocks up to date, where the edges from one on are new: in the order of the last sweep
-    /// where they are few, else by another one. Gives the waits of points where there is a circle.
-    fn update(&mut self, alloc: Global, first: usize) -> Result<Option<Vec<u32>>, AllocError> {
+    /// where they are few, else by another one.
+    fn update<R: Clock>(
+        &mut self,
+        alarm: &mut Alarm<'_, R>,
+        alloc: Global,
+        first: usize,
+    ) -> Result<Saturated, AllocError> {
         let added = self.graph.found.len().saturating_sub(first);
         let is_few = added > 0 && added <= self.graph.points.len() / NODES_TO_ONE;
-        if is_few && self.spread(alloc)? && !self.is_circular(first) {
-            return Ok(None);
+        if is_few && self.spread(alarm, alloc)? && !self.is_circular(first) {
+            return Ok(Saturated::Whole);
         }
-        self.sweep_all(alloc)
+        self.sweep_all(alarm, alloc)
     }
 
-    /// Adds what was found: edges from points that come late first, since others often follow.
-    fn add_found(&mut self, alloc: Global, found: &[Edge]) -> Result<(), AllocError> {
+    /// Adds what was found, until the time is up: edges from points that come late first, since others
+    /// often follow.
+    fn add_found<R: Clock>(
+        &mut self,
+        alarm: &mut Alarm<'_, R>,
+        alloc: Global,
+        found: &[Edge],
+    ) -> Result<(), AllocError> {
         let ranks = ranks_of(alloc, &self.order)?;
         let mut entries = Vec::with_capacity(alloc, found.len())?;
         for (i, edge) in found.iter().enumerate() {
@@ -148,6 +194,9 @@ impl Known {
         let by_rank = lists_of(alloc, number(ranks.len()), &entries)?;
         let mut row = vec![in alloc; 0; self.clocks.lanes()]?;
         for i in by_rank.items().iter().rev() {
+            if alarm.rings(row.len()) {
+                break;
+            }
             if let Some(edge) = found.get(*i as usize) {
                 self.add(*edge, row.as_mut_slice())?;
             }
@@ -156,7 +205,7 @@ impl Known {
     }
 
     /// A round: what the rules say of each node whose row grew, each share of the keys in a thread of
-    /// its own.
+    /// its own; less of it where the time is up.
     fn apply_rules<R: Threads + Clock + Eprint + Sync, P: Progress>(
         &mut self,
         watch: &Watch<'_, R, P>,
@@ -171,9 +220,9 @@ impl Known {
             clocks: &self.clocks,
         };
         let shares = shares(alloc, facts, watch.workers.get())?;
-        let found = found_by_all(watch.rt, alloc, facts, &shares)?;
+        let found = found_by_all(watch.rt, alloc, facts, &shares, watch.deadline)?;
         self.clocks.clear_grown();
-        self.add_found(alloc, &joined(alloc, found)?)
+        self.add_found(&mut watch.alarm(), alloc, &joined(alloc, found)?)
     }
 
     /// Adds what comes of the rules, until nothing does.
@@ -184,36 +233,28 @@ impl Known {
         versions: &Versions,
         by_lane: &ByLane,
     ) -> Result<Saturated, AllocError> {
+        let mut alarm = watch.alarm();
         let mut first = 0;
         for round in 1..usize::MAX {
-            if watch.is_over() {
-                return Ok(Saturated::TimeIsUp);
-            }
             watch.tell(Stage::Round(round));
-            if let Some(waits) = self.update(alloc, first)? {
-                return Ok(Saturated::Circle(waits));
+            match self.update(&mut alarm, alloc, first)? {
+                Saturated::Whole => {}
+                ended => return Ok(ended),
             }
             let found = self.graph.found.len();
             self.graph.rounds.push(number(found))?;
             self.apply_rules(watch, alloc, versions, by_lane)?;
+            if watch.is_over() {
+                return Ok(Saturated::TimeIsUp);
+            }
             if self.graph.found.len() == found {
                 break;
             }
             self.hops.renew(alloc, &self.graph)?;
             first = found;
         }
-        self.renew_order(alloc)?;
-        Ok(Saturated::Whole)
+        self.renew_order(&mut alarm, alloc)
     }
-}
-
-/// Of each point where it stands in this order.
-fn ranks_of(alloc: Global, order: &[u32]) -> Result<Vec<u32>, AllocError> {
-    let mut ranks = vec![in alloc; 0; order.len()]?;
-    for (i, point) in order.iter().enumerate() {
-        put(ranks.as_mut_slice(), *point, number(i));
-    }
-    Ok(ranks)
 }
 
 /// What was found in all shares.
@@ -234,15 +275,16 @@ fn joined(
 }
 
 /// What the rules say of the keys of each share.
-fn found_by_all<R: Threads + Sync>(
+fn found_by_all<R: Threads + Clock + Sync>(
     rt: &R,
     alloc: Global,
     facts: Facts<'_>,
     shares: &[Share],
+    deadline: Option<Deadline>,
 ) -> Result<Vec<Result<Vec<Edge>, AllocError>>, AllocError> {
     let found = |place: usize| -> Result<Vec<Edge>, AllocError> {
         match shares.get(place) {
-            Some(share) => found_in(alloc, facts, *share),
+            Some(share) => found_in(Alarm::new(rt, deadline), alloc, facts, *share),
             None => Ok(Vec::new(alloc)),
         }
     };

@@ -4,9 +4,11 @@
 use crate::by_lane::{ByLane, Group};
 use crate::known::{Edge, Why};
 use crate::rules::{Facts, Finds, Looked, entry_of};
+use crate::watch::Alarm;
 use numbers::{NONE, at, number};
 use std::alloc::{AllocError, Global};
 use std::ops::Range;
+use std::time::Clock;
 
 /// Keys from one to before another.
 #[derive(Clone, Copy)]
@@ -184,21 +186,22 @@ fn row_at(rows: &[u32], place: usize, lanes: usize) -> &[u32] {
     }
 }
 
-/// A scan of keys, with a finger for each lane that writes the one that is looked at, and what is
-/// found.
+/// A scan of keys, with a finger for each lane that writes the one that is looked at, where there is
+/// something to be looked at, and what is found.
 #[derive(Drop)]
-struct Scan<'a> {
+struct Scan<'a, R> {
+    alarm: Alarm<'a, R>,
     facts: Facts<'a>,
+    key: u32,
     fingers: Vec<Finger>,
     block: Block,
     finds: Finds,
 }
 
-impl Scan<'_> {
-    /// Puts the fingers of a key before the first writer of a lane.
-    fn begin_lane(&mut self, key: u32) -> Result<(), AllocError> {
-        self.fingers.clear();
-        for group in self.facts.by_lane.groups.list(key) {
+impl<R: Clock> Scan<'_, R> {
+    /// Puts the fingers of the key before the first writer of a lane.
+    fn begin_lane(&mut self) -> Result<(), AllocError> {
+        for group in self.facts.by_lane.groups.list(self.key) {
             self.fingers.push(Finger::of(self.facts.by_lane, *group))?;
         }
         Ok(())
@@ -269,8 +272,26 @@ impl Scan<'_> {
         Ok(())
     }
 
-    /// Looks at the versions of a block, and empties it.
+    /// Whether the time is up before another block is looked at.
+    fn is_over(&mut self) -> bool {
+        let lanes = self.facts.clocks.lanes();
+        let rows = self
+            .block
+            .items
+            .len()
+            .saturating_add(self.block.readers.len());
+        self.alarm.rings(rows.saturating_mul(lanes.saturating_add(self.fingers.len())))
+    }
+
+    /// Looks at the versions of a block where the time is not up, and empties it.
     fn look_at_block(&mut self, alloc: Global, group: Group) -> Result<(), AllocError> {
+        if self.block.items.is_empty() || self.is_over() {
+            self.block.clear();
+            return Ok(());
+        }
+        if self.fingers.is_empty() {
+            self.begin_lane()?;
+        }
         let mut block = std::mem::replace(&mut self.block, Block::new(alloc));
         block.copy_rows(self.facts)?;
         for place in 0..block.items.len() {
@@ -326,8 +347,9 @@ impl Scan<'_> {
     /// Looks at a key.
     fn look_at_key(&mut self, alloc: Global, key: u32) -> Result<(), AllocError> {
         let by_lane = self.facts.by_lane;
+        self.key = key;
         for group in by_lane.groups.list(key) {
-            self.begin_lane(key)?;
+            self.fingers.clear();
             for version in group.start..group.end {
                 self.add_version(alloc, *group, version)?;
             }
@@ -337,15 +359,26 @@ impl Scan<'_> {
     }
 }
 
-/// What the rules say of those nodes whose rows grew, by the keys of a share.
-pub fn found_in(alloc: Global, facts: Facts<'_>, share: Share) -> Result<Vec<Edge>, AllocError> {
+/// What the rules say of those nodes whose rows grew, by the keys of a share; less of it where the
+/// time is up.
+pub fn found_in<R: Clock>(
+    alarm: Alarm<'_, R>,
+    alloc: Global,
+    facts: Facts<'_>,
+    share: Share,
+) -> Result<Vec<Edge>, AllocError> {
     let mut scan = Scan {
+        alarm,
         facts,
+        key: NONE,
         fingers: Vec::new(alloc),
         block: Block::new(alloc),
         finds: Finds::new(alloc),
     };
     for key in share.start..share.end {
+        if scan.alarm.rings(0) {
+            break;
+        }
         scan.look_at_key(alloc, key)?;
     }
     let Scan { finds, .. } = scan;

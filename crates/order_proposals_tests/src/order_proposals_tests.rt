@@ -73,6 +73,7 @@ fn proposed<R: Abort + Threads + Clock + Eprint + Sync>(
     let means = ProposeMeans {
         workers: Workers::new(2).expect(rt, "a number of workers"),
         deadline: None,
+        greatest: u64::MAX,
     };
     let log = NumberedLog::of(alloc, sessions).expect(rt, "a small log");
     propose(rt, alloc, sessions, &log, left_out, &means, &mut Silence).expect(rt, "memory")
