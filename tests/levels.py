@@ -33,7 +33,9 @@ TABLE = os.path.join(generate.EXAMPLES, 'README.md')
 # first; a step by a read or by a session; circles of reads within a session; a long fork over an update; updates that miss a write of their
 # session, of one transaction that they see, and of one that ended before; lost updates within a session, beside a read skew, and beside one
 # of a session; a write skew of two that write one key too, and a circle that takes an order of two writers or two missed writes.
+# Reads that see each of two writers before they read from the other one.
 ONE_FAULT = [
+    'session 2,begin,w k 1,w j 2,commit,session 1,begin,w k 3,commit,begin,r j 2,r k 3,r k 1,commit',
     'session 1,begin,w k 1,commit,begin,w k 2,w j 3,commit,session 2,begin,r j 3,r k 1,commit',
     'session 1,begin,w x 1,commit,begin,r x 2,w x 3,commit,session 2,begin,r x 0,w x 2,commit',
     'session 3,begin,r x 0,w x 3,commit,begin,r x 3,r y 1,commit,session 6,begin,w y 1,w x 2,commit',
@@ -278,6 +280,7 @@ def wrong_names(program):
 def logs(cases, seed, once):
     if cases:
         yield from generate.examples((1, 2, 3))
+        yield from (('log of one fault: ' + it, (it + ',').replace(',', '\n').encode()) for it in ONE_FAULT)
         yield from (('larger log %d' % number, larger(number)) for number in range(LARGER))
     yield from (('made log %d' % number, level_model.made_text(number)) for number in range(seed, seed + cases))
     for number in range(seed, seed + once):

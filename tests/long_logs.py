@@ -7,7 +7,10 @@ order that replays. Then each kind of fault is put into places from the first tr
 an aborted write, of an intermediate one, of another than its own write, of a later own write, two reads that differ, a lost update, a stale
 read by moments and by sessions, write skew and a long fork. It must be `not serializable`, by a part of a few transactions, one of which
 reads what was planted, that is one of the whole log and has no order; what `--explain` says of it must be so in the whole log. With several
-faults and `--faults` each must be told. Last line: 'long_logs: N passed, M failed'."""
+faults and `--faults` each must be told.
+
+Another store keeps snapshots, and serves many clients at once; identities rise as they are given, or have no order. What they saw must be
+`kept` at that level. Last line: 'long_logs: N passed, M failed'."""
 import argparse, collections, concurrent.futures, os, random, sys, tempfile
 
 HERE = os.path.dirname(os.path.abspath(__file__))
@@ -77,6 +80,32 @@ def sessions_of(ran, rnd, stated):
         its.append(Transaction(it.ops, it.outcome, said(it.begun), said(it.ended)))
         names.append((it.session, len(its)))
     return list(sessions.items()), names
+
+
+def snapshots_served(rnd, count, clients, keys, rising):
+    """The sessions of so many transactions that a store that keeps snapshot isolation committed: of two that write a key while both run the
+    second one is aborted, and not in the log. Identities rise, or have no order."""
+    committed, versions, running = [[] for _ in range(clients)], {}, {}
+    fresh = iter(range(1, 10 ** 9) if rising else rnd.sample(range(1, 10 ** 9), 100 * count))
+    for now in range(10 ** 9):
+        client = rnd.randrange(clients)
+        begun, ops, view = running.setdefault(client, (now, [], {}))
+        if len(ops) < 4:
+            key = 'k%d' % rnd.randrange(keys)
+            kind, wid = rnd.choice((('w', next(fresh)), ('r', view.get(key))))
+            if kind == 'w':
+                view[key] = wid
+            elif wid is None:
+                wid = next((wid for since, wid in reversed(versions.get(key, [])) if since < begun), 0)
+            ops.append((kind, key, wid))
+            continue
+        del running[client]
+        if all(versions[key][-1][0] < begun for key in view if key in versions):
+            for key, wid in view.items():
+                versions.setdefault(key, []).append((now, wid))
+            committed[client].append(Transaction(ops, 'commit', None, None))
+            if sum(map(len, committed)) == count:
+                return [(number, txns) for number, txns in enumerate(committed, 1)]
 
 
 # ---- faults
@@ -290,6 +319,16 @@ class Long:
         must(not left, 'planted and not told: %r' % left)
 
 
+def many_clients(job):
+    """What is said of such clients, where that is not right."""
+    program, folder, clients, keys, seed, count, rising = job
+    path = os.path.join(folder, '%d %d %d %s.log' % (clients, keys, seed, rising))
+    with open(path, 'wb') as log:
+        log.write(generate.text_of(snapshots_served(random.Random(path[len(folder):]), count, clients, keys, rising), 1))
+    said = call(program, 'audit', '--quiet', '--level', 'snapshot', path)
+    return [] if said[:2] == (0, 'snapshot isolation: kept\n') else ['%d clients, %d keys: %r' % (clients, keys, said)]
+
+
 def judged(job):
     program, folder, seed, stated, places = job
     long, faults, passed = Long(program, folder, seed, stated), [], 0
@@ -318,6 +357,10 @@ def main():
         for found, count, here in pool.map(judged, jobs):
             faults, passed = faults + found, passed + count
             met.update(here)
+        jobs = [(program, folder, clients, keys, words.seed, 6000, True) for clients in (20, 60, 200, 1000) for keys in (100, 2000)]
+        jobs += [(program, folder, clients, keys, words.seed, 2000, False) for clients in (20, 100) for keys in (100, 1000)]
+        for found in pool.map(many_clients, jobs):
+            faults, passed = faults + found, passed + (not found)
     for fault in faults[:SHOWN]:
         print('FAILED', fault)
     print('long_logs: met: %s' % ', '.join('%s %d' % (what, met[what]) for what in sorted(met)))
